@@ -1,0 +1,223 @@
+-- Laws of values: what equal values say of the days, and that a check against the book of the sealed days finds the
+-- changed days' table. Nothing is assumed of the hash but its length; that two inputs do not collide is a premise, and only
+-- of the inputs hashed.
+use mathlib.Core.Path.{_≡_, refl, sym, ap, _∙_}
+use mathlib.Core.Logic.{_↔_, _⊎_, inl, inr}
+use mathlib.Core.Bool.{Bool, true, false, not, cond}
+use mathlib.Core.List.{List, [], _∷_, _++_, map, append-assoc, List·Memᴰ, List·Memᴰ·head, List·Memᴰ·tail, List·Memᴰ·cases-cons, Memᴰ·append-left, Memᴰ·append-right, Memᴰ·map}
+use Prim.Native.Nat.{ℕ, zero, suc, pred, _+_, _*_, _≤_, _<_}
+use native.Mathlib.Omega.{arith}
+use lib.ListN.{length, getD, take, drop, length-append}
+use lib.Seq.{take-at, drop-at}
+use borrow.Author.Tests.{not-true}
+use Rattle.evidence.specs.Lists.{_among_, same, upFrom, keep}
+use Rattle.evidence.specs.Tables.{days, Within, meets, outcome, tableOf, listing, accepted, Gives}
+use Rattle.evidence.specs.Values.{dayOf, changed, digest, linkInput, value, values, outcomes, linkInputs, chainInputs, inputs, NoCollision}
+use Rattle.evidence.proofs.ListLaws.{split, true-or-false, same-eq, eq-same, no-mem, upFrom-mem, upFrom-bounds, keep-mem, mem-keep, map-same}
+use Rattle.evidence.proofs.TableLaws.{meets-of, meets-day, lists-all, lists-exactly, lists-none}
+
+-- the inputs of the days' digests
+abbrev dayParts : ℕ → List (List ℕ) → List (List ℕ)
+dayParts d ledger = map (λ g. 0 ∷ dayOf ledger g) (days d)
+
+-- 1 for each chain that has the same value over both, else 0
+sameValue : (List ℕ → List ℕ) → List ℕ → List (List ℕ) → List (List ℕ) → List ℕ → ℕ
+sameValue H start A B c = cond (same (value H start A c) (value H start B c)) 1 0
+
+-- the changed days lie within 1 to d
+pub changed-within : (d : ℕ) (A B : List (List ℕ)) → Within d (changed d A B)
+unfolding changed
+changed-within d A B g m =
+    let b = upFrom-bounds 1 d g (keep-mem (λ x. not (same (dayOf A x) (dayOf B x))) (days d) g m .0) in
+    omega arith
+
+-- every changed day is listed
+pub changed-listed : (chains : List (List ℕ)) (d : ℕ) (A B : List (List ℕ)) (g : ℕ) → g among changed d A B →
+    g among listing chains d (tableOf chains (changed d A B))
+changed-listed chains d A B g m = lists-all chains d (changed d A B) (changed-within d A B) g m
+
+-- where each day has a chain of its own, no other day is
+pub listed-changed : (chains : List (List ℕ)) (d : ℕ) (A B : List (List ℕ)) → ((g : ℕ) → g among days d → (g ∷ []) among chains) →
+    listing chains d (tableOf chains (changed d A B)) ≡ changed d A B
+unfolding changed
+listed-changed chains d A B single = lists-exactly chains d single (λ g. not (same (dayOf A g) (dayOf B g)))
+
+-- where each day is covered, none is listed exactly if none is changed
+pub none-listed : (chains : List (List ℕ)) (d : ℕ) (A B : List (List ℕ)) →
+    ((g : ℕ) → g among days d → (c : List ℕ) × (c among chains) × (g among c)) →
+    (listing chains d (tableOf chains (changed d A B)) ≡ []) ↔ (changed d A B ≡ [])
+none-listed chains d A B covered = lists-none chains d covered (changed d A B) (changed-within d A B)
+
+-- of days that agree none is changed
+pub none-changed : (d : ℕ) (A B : List (List ℕ)) → ((g : ℕ) → g among days d → dayOf A g ≡ dayOf B g) → changed d A B ≡ []
+unfolding changed
+none-changed d A B f = no-mem (keep (λ g. not (same (dayOf A g) (dayOf B g))) (days d)) none
+  where
+    none : (g : ℕ) → g among keep (λ x. not (same (dayOf A x) (dayOf B x))) (days d) → ⊥
+    none g m =
+        let k = keep-mem (λ x. not (same (dayOf A x) (dayOf B x))) (days d) g m in
+        true-or-false (eq-same (dayOf A g) (dayOf B g) (f g (k .0))) (not-true (same (dayOf A g) (dayOf B g)) (k .1))
+
+halves : (n : ℕ) (v w d e : List ℕ) → length v ≡ n → length w ≡ n → v ++ d ≡ w ++ e → (v ≡ w) × (d ≡ e)
+halves n v w d e hv hw q = (cc (take-at v d n hv, take-at w e n hw), cc (drop-at v d n hv, drop-at w e n hw))
+
+chain-inputs-mem : (H : List ℕ → List ℕ) (start : List ℕ) (ledger : List (List ℕ)) {c : List ℕ} {chains : List (List ℕ)} → c among chains →
+    (x : List ℕ) → x among linkInputs H start ledger c → x among chainInputs H start ledger chains
+chain-inputs-mem H start ledger (List·Memᴰ·head {x = d} {xs = ds} e) x m =
+    Memᴰ·append-left (chainInputs H start ledger ds) (rw e at m)
+chain-inputs-mem H start ledger (List·Memᴰ·tail {x = d} {xs = ds} h) x m =
+    Memᴰ·append-right (linkInputs H start ledger d) (chain-inputs-mem H start ledger h x m)
+
+-- days that agree give values that agree
+pub value-same : (H : List ℕ → List ℕ) (A B : List (List ℕ)) (c : List ℕ) (v : List ℕ) → ((g : ℕ) → g among c → dayOf A g ≡ dayOf B g) → value H v A c ≡ value H v B c
+value-same H A B [] v f = refl
+value-same H A B (g ∷ c) v f = rw (f g (List·Memᴰ·head refl)) (value-same H A B c (H (linkInput H B v g)) (λ x m. f x (List·Memᴰ·tail m)))
+
+-- a chain goes on from the value that it has
+pub value-append : (H : List ℕ → List ℕ) (ledger : List (List ℕ)) (c e : List ℕ) (v : List ℕ) → value H v ledger (c ++ e) ≡ value H (value H v ledger c) ledger e
+value-append H ledger [] e v = refl
+value-append H ledger (g ∷ c) e v = value-append H ledger c e (H (linkInput H ledger v g))
+
+pub values-append : (H : List ℕ → List ℕ) (start : List ℕ) (ledger cs ds : List (List ℕ)) → values H start ledger (cs ++ ds) ≡ values H start ledger cs ++ values H start ledger ds
+values-append H start ledger [] ds = refl
+values-append H start ledger (c ∷ cs) ds = rw (values-append H start ledger cs ds, append-assoc)
+
+pub values-same : (H : List ℕ → List ℕ) (start : List ℕ) (A B cs : List (List ℕ)) → ((c : List ℕ) → c among cs → value H start A c ≡ value H start B c) →
+    values H start A cs ≡ values H start B cs
+values-same H start A B [] f = refl
+values-same H start A B (c ∷ cs) f = rw (f c (List·Memᴰ·head refl), values-same H start A B cs (λ d m. f d (List·Memᴰ·tail m)))
+
+module _ (H : List ℕ → List ℕ) (sized : (x : List ℕ) → length (H x) ≡ 32) where
+  pub length-value : (ledger : List (List ℕ)) (c v : List ℕ) → length v ≡ 32 → length (value H v ledger c) ≡ 32
+  length-value ledger [] v h = h
+  length-value ledger (g ∷ c) v h = length-value ledger c (H (linkInput H ledger v g)) (sized (linkInput H ledger v g))
+
+  pub length-values : (start : List ℕ) → length start ≡ 32 → (ledger cs : List (List ℕ)) → length (values H start ledger cs) ≡ 32 * length cs
+  length-values start started ledger [] = refl
+  length-values start started ledger (c ∷ cs) =
+      omega (arith, length-append (value H start ledger c) (values H start ledger cs), length-value ledger c start started, length-values start started ledger cs)
+
+  -- a check against the values over A compares chain by chain; what stands behind them is not read
+  outcomes-same : (start : List ℕ) → length start ≡ 32 → (A B cs : List (List ℕ)) (rest : List ℕ) →
+      outcomes H start B cs (values H start A cs ++ rest) ≡ map (sameValue H start A B) cs
+  unfolding sameValue
+  outcomes-same start started A B [] rest = refl
+  outcomes-same start started A B (c ∷ cs) rest =
+      let l = length-value A c start started in
+      rw (append-assoc, take-at (value H start A c) (values H start A cs ++ rest) 32 l, drop-at (value H start A c) (values H start A cs ++ rest) 32 l, outcomes-same start started A B cs rest)
+
+  -- equal digests of the days of c come from equal days
+  abbrev DaysTold : List (List ℕ) → List (List ℕ) → List ℕ → Type 0
+  DaysTold A B c = (g : ℕ) → g among c → digest H (dayOf A g) ≡ digest H (dayOf B g) → dayOf A g ≡ dayOf B g
+
+  -- values that agree come from values and days that agree
+  back : (A B : List (List ℕ)) (c : List ℕ) (v w : List ℕ) → length v ≡ 32 → length w ≡ 32 → DaysTold A B c →
+      NoCollision H (linkInputs H v A c) (linkInputs H w B c) →
+      value H v A c ≡ value H w B c → (v ≡ w) × ((g : ℕ) → g among c → dayOf A g ≡ dayOf B g)
+  back A B [] v w hv hw day nc e = (e, λ g m. elim m [ ])
+  back A B (g ∷ c) v w hv hw day nc e =
+      step
+      (back A B c (H (linkInput H A v g)) (H (linkInput H B w g)) (sized (linkInput H A v g)) (sized (linkInput H B w g)) (λ x m. day x (List·Memᴰ·tail m))
+      (λ x y mx my. nc x y (List·Memᴰ·tail mx) (List·Memᴰ·tail my)) e)
+    where
+      a : List ℕ
+      a = linkInput H A v g
+
+      b : List ℕ
+      b = linkInput H B w g
+
+      joined : H a ≡ H b → v ++ digest H (dayOf A g) ≡ w ++ digest H (dayOf B g)
+      joined r = let q : a ≡ b = nc a b (List·Memᴰ·head refl) (List·Memᴰ·head refl) r in cc
+
+      each : dayOf A g ≡ dayOf B g → ((x : ℕ) → x among c → dayOf A x ≡ dayOf B x) → (x : ℕ) → (x ≡ g) ⊎ (x among c) → dayOf A x ≡ dayOf B x
+      each f later x (inl q) = rw q f
+      each f later x (inr m) = later x m
+
+      step : (H a ≡ H b) × ((x : ℕ) → x among c → dayOf A x ≡ dayOf B x) → (v ≡ w) × ((x : ℕ) → x among (g ∷ c) → dayOf A x ≡ dayOf B x)
+      step rest =
+          let h = halves 32 v w (digest H (dayOf A g)) (digest H (dayOf B g)) hv hw (joined (rest .0)) in
+          (h .0, λ x m. each (day g (List·Memᴰ·head refl) (h .1)) (rest .1) x (List·Memᴰ·cases-cons m))
+
+  module _ (start : List ℕ) (started : length start ≡ 32) (chains : List (List ℕ)) (d : ℕ) (inside : (c : List ℕ) → c among chains → Within d c)
+      (A B : List (List ℕ)) (nc : NoCollision H (inputs H start chains d A) (inputs H start chains d B)) where
+    day-input : (L : List (List ℕ)) (c : List ℕ) → c among chains → (g : ℕ) → g among c → (0 ∷ dayOf L g) among inputs H start chains d L
+    unfolding inputs
+    day-input L c m g k =
+        let b = inside c m g k in
+        Memᴰ·append-left (chainInputs H start L chains) (Memᴰ·map (λ (x : ℕ). 0 ∷ dayOf L x) (upFrom-mem 1 d g (omega arith) (omega arith)))
+
+    told : (c : List ℕ) → c among chains → DaysTold A B c
+    told c m g k e =
+        let q : _≡_ {A = List ℕ} (0 ∷ dayOf A g) (0 ∷ dayOf B g) = nc (0 ∷ dayOf A g) (0 ∷ dayOf B g) (day-input A c m g k) (day-input B c m g k) e in
+        cc
+
+    -- under the premise, values are equal exactly if the covered days are
+    pub value-iff : (c : List ℕ) → c among chains → (value H start A c ≡ value H start B c) ↔ ((g : ℕ) → g among c → dayOf A g ≡ dayOf B g)
+    unfolding inputs
+    value-iff c m = (
+      λ e. back A B c start start started started (told c m)
+          (λ x y mx my.
+          nc x y (Memᴰ·append-right (dayParts d A) (chain-inputs-mem H start A m x mx)) (Memᴰ·append-right (dayParts d B) (chain-inputs-mem H start B m y my))) e .1,
+      λ f. value-same H A B c start f,
+    )
+
+    changed-day : (g : ℕ) → g among changed d A B → dayOf A g ≡ dayOf B g → ⊥
+    unfolding changed
+    changed-day g m e =
+        true-or-false (eq-same (dayOf A g) (dayOf B g) e)
+        (not-true (same (dayOf A g) (dayOf B g)) (keep-mem (λ x. not (same (dayOf A x) (dayOf B x))) (days d) g m .1))
+
+    day-changed : (g : ℕ) → (1 ≤ g) × (g ≤ d) → (g among changed d A B → ⊥) → dayOf A g ≡ dayOf B g
+    unfolding changed
+    day-changed g b n = go (split (same (dayOf A g) (dayOf B g)))
+      where
+        go : (same (dayOf A g) (dayOf B g) ≡ true) ⊎ (same (dayOf A g) (dayOf B g) ≡ false) → dayOf A g ≡ dayOf B g
+        go (inl e) = same-eq (dayOf A g) (dayOf B g) e
+        go (inr e) = absurd (n (mem-keep (λ x. not (same (dayOf A x) (dayOf B x))) (days d) g (upFrom-mem 1 d g (omega arith) (omega arith)) (rw e)))
+
+    same-value : (c : List ℕ) → c among chains → same (value H start A c) (value H start B c) ≡ not (meets (changed d A B) c)
+    same-value c m = go (split (meets (changed d A B) c))
+      where
+        differs : meets (changed d A B) c ≡ true → same (value H start A c) (value H start B c) ≡ true → ⊥
+        differs e s =
+            let r = meets-day (changed d A B) c e in
+            changed-day (r .0) (r .2) (value-iff c m .0 (same-eq (value H start A c) (value H start B c) s) (r .0) (r .1))
+
+        not-same : meets (changed d A B) c ≡ true → (same (value H start A c) (value H start B c) ≡ true) ⊎ (same (value H start A c) (value H start B c) ≡ false) →
+            same (value H start A c) (value H start B c) ≡ false
+        not-same e (inl s) = absurd (differs e s)
+        not-same e (inr s) = s
+
+        alike : meets (changed d A B) c ≡ false → (g : ℕ) → g among c → dayOf A g ≡ dayOf B g
+        alike e g k = day-changed g (inside c m g k) (λ x. true-or-false (meets-of (changed d A B) c g k x) e)
+
+        go : (meets (changed d A B) c ≡ true) ⊎ (meets (changed d A B) c ≡ false) → same (value H start A c) (value H start B c) ≡ not (meets (changed d A B) c)
+        go (inl e) = rw e (not-same e (split (same (value H start A c) (value H start B c))))
+        go (inr e) = rw e (eq-same (value H start A c) (value H start B c) (value-iff c m .1 (alike e)))
+
+    -- under the premise, a check against the book of the days A writes the table that the changed days give
+    pub check-table : (rest : List ℕ) → outcomes H start B chains (values H start A chains ++ rest) ≡ tableOf chains (changed d A B)
+    unfolding tableOf sameValue
+    check-table rest =
+        outcomes-same start started A B chains rest ∙
+        map-same (sameValue H start A B) (outcome (changed d A B)) chains (λ c m. rw (same-value c m) (flip (meets (changed d A B) c)))
+      where
+        flip : (b : Bool) → _≡_ {A = ℕ} (cond (not b) 1 0) (cond b 0 1)
+        flip true = refl
+        flip false = refl
+
+  -- with no premise: where the days agree, each value passes
+  pub check-unaltered : (start : List ℕ) → length start ≡ 32 → (chains : List (List ℕ)) (d : ℕ) → ((c : List ℕ) → c among chains → Within d c) →
+      (A B : List (List ℕ)) → ((g : ℕ) → g among days d → dayOf A g ≡ dayOf B g) → (rest : List ℕ) →
+      outcomes H start B chains (values H start A chains ++ rest) ≡ tableOf chains []
+  unfolding tableOf sameValue
+  check-unaltered start started chains d inside A B agree rest =
+      outcomes-same start started A B chains rest ∙ map-same (sameValue H start A B) (outcome []) chains each
+    where
+      none : (c : List ℕ) → meets [] c ≡ false
+      none [] = refl
+      none (x ∷ c) = none c
+
+      each : (c : List ℕ) → c among chains → sameValue H start A B c ≡ outcome [] c
+      each c m =
+          rw (none c, eq-same (value H start A c) (value H start B c) (value-same H A B c start (λ g k. let b = inside c m g k in agree g (upFrom-mem 1 d g (omega arith) (omega arith)))))

@@ -1,0 +1,38 @@
+-- The numbers that reading gives beside the listed days. Definitions only.
+use mathlib.Core.Bool.{Bool, true, false, _&&_, _||_}
+use mathlib.Core.List.{List, [], _∷_}
+use Prim.Native.Nat.{ℕ, zero, suc, pred, _-_, _*_, _^_, max}
+use lib.Dec.{eqb}
+use Rattle.evidence.specs.Lists.{keep}
+use Rattle.evidence.specs.Tables.{days}
+use Rattle.layouts.specs.Allowed.{divides}
+use Rattle.layouts.specs.Layouts.{Name, black, tile, tree, named}
+
+-- the first of the listed days, 0 if there is none
+abbrev pub firstOf : List ℕ → ℕ
+firstOf [] = 0
+firstOf (g ∷ gs) = g
+
+-- 01's low, for the first listed day
+abbrev pub lowOf : ℕ → ℕ → ℕ → ℕ → ℕ
+lowOf n f d first = max (d - f * n) (pred first)
+
+-- this value is black at day g, or the tree's chain over the same days, stored once
+abbrev pub blackAt : ℕ → Name → Bool
+blackAt g (black h) = eqb h g
+blackAt g (tile i h) = false
+blackAt g (tree l h) = eqb h g && eqb (2 ^ l) g
+
+-- the black value of day g passes
+abbrev pub blackPasses : ℕ → List Name → List ℕ → Bool
+blackPasses g [] table = false
+blackPasses g (x ∷ xs) [] = false
+blackPasses g (x ∷ xs) (o ∷ table) = (blackAt g x && eqb o 1) || blackPasses g xs table
+
+abbrev pub lastOf : ℕ → List ℕ → ℕ
+lastOf none [] = none
+lastOf none (g ∷ gs) = lastOf g gs
+
+-- 01's last good: the last day whose black value passes, else 0
+unfoldable pub lastGood : ℕ → ℕ → ℕ → List ℕ → ℕ
+lastGood scheme n d table = lastOf 0 (keep (λ g. divides n g && blackPasses g (named scheme n d) table) (days d))
