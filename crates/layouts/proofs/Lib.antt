@@ -1,1 +1,3 @@
 pub mod Covers
+pub mod Counts
+pub mod Marked

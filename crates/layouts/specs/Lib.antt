@@ -1,3 +1,4 @@
 pub mod Allowed
 pub mod Layouts
 pub mod Reading
+pub mod Examples

@@ -1,0 +1,337 @@
+-- How many values a layout has: 01's formulas are the number of chains; and the count through any day.
+use mathlib.Core.Path.{_≡_, refl, sym, ap, _∙_}
+use mathlib.Core.Logic.{_⊎_, inl, inr}
+use mathlib.Core.Bool.{Bool, true, false, not, _&&_, cond}
+use mathlib.Core.List.{List, [], _∷_, _++_, map, append-assoc, append-nil, List·Memᴰ, List·Memᴰ·head, List·Memᴰ·tail, Memᴰ·map, Memᴰ·of-map, Memᴰ·cast}
+use Prim.Native.Nat.{ℕ, zero, suc, pred, _+_, _-_, _*_, _/_, _%_, _^_, _≤_, _<_}
+use native.Mathlib.Nat.{mod-one, mod-lt, div-eq-of-lt, mod-self, div-add-mod', suc-mul, add-zero, add-suc, pow-succ', eq-of-mul-eq-mul-left, mul-le-mul-left, mul-comm, lt-of-not-le, le-antisymm}
+use native.Mathlib.Decide.{decLt, decLe, ℕ-discrete}
+use native.Mathlib.Omega.{arith}
+use lib.Dec.{eqb, lit<, lit≤}
+use lib.Arith.{digits-div, digits-mod, half-le}
+use lib.Pow.{pow-pos, pow-mono, pow-add}
+use lib.Count.{ones, ones-step, ones-le}
+use lib.ListN.{length, length-append, length-map}
+use borrow.Author.Tests.{eqb-true, eq-eqb, ne-eqb}
+use Rattle.evidence.specs.Lists.{_among_, has, upFrom, push, keep}
+use Rattle.evidence.specs.Tables.{days}
+use Rattle.evidence.proofs.ListLaws.{split, true-or-false, bool-ext, has-mem, mem-has, upFrom-mem, keep-mem, mem-keep}
+use Rattle.layouts.specs.Allowed.{divides}
+use Rattle.layouts.specs.Layouts.{lgIn, lg, Name, black, tile, tree, levels, storedOnce, only, names, named, cover, closing, chains, valueCount}
+use Rattle.layouts.proofs.Covers.{named-suc}
+
+abbrev bit : Bool → ℕ
+bit b = cond b 1 0
+
+length-upFrom : (i n : ℕ) → length (upFrom i n) ≡ n
+length-upFrom i zero = refl
+length-upFrom i (suc n) = ap suc (length-upFrom (suc i) n)
+
+count-suc : (s n d : ℕ) → length (named s n (suc d)) ≡ length (named s n d) + length (names s n (suc d))
+count-suc s n d = rw (named-suc, length-append)
+
+-- n divides the next number exactly if the quotient grows
+div-step : (n d : ℕ) → 0 < n → suc d / n ≡ d / n + bit (divides n (suc d))
+div-step n d p = go (decLt (suc (d % n)) n)
+  where
+    whole : d / n * n + d % n ≡ d
+    whole = div-add-mod' d n
+
+    go : Dec (suc (d % n) < n) → suc d / n ≡ d / n + bit (divides n (suc d))
+    go (yes h) =
+        let e : suc d ≡ d / n * n + suc (d % n) = omega (arith, whole) in
+        let m : suc d % n ≡ suc (d % n) = ap (λ (x : ℕ). x % n) e ∙ digits-mod (d / n) h in
+        let f : divides n (suc d) ≡ false = ne-eqb (suc d % n) 0 (λ z. omega arith) in
+        rw (f, add-zero) (ap (λ (x : ℕ). x / n) e ∙ digits-div (d / n) h)
+    go (no h) =
+        let l : d % n < n = mod-lt d p in
+        let e : suc d ≡ suc (d / n) * n + 0 = omega (arith, whole, suc-mul (d / n) n) in
+        let m : suc d % n ≡ 0 = ap (λ (x : ℕ). x % n) e ∙ digits-mod (suc (d / n)) p in
+        let f : divides n (suc d) ≡ true = eq-eqb (suc d % n) 0 m in
+        let d : suc d / n ≡ suc (d / n) = ap (λ (x : ℕ). x / n) e ∙ digits-div (suc (d / n)) p in
+        rw f (omega arith)
+
+length-only : (b : Bool) (x : Name) → length (only b (x ∷ [])) ≡ bit b
+length-only true x = refl
+length-only false x = refl
+
+count-black : (n d : ℕ) → 0 < n → length (named 1 n d) ≡ d / n
+unfolding named
+count-black n zero p = sym (div-eq-of-lt p)
+count-black n (suc d) p = count-suc 1 n d ∙ (let r = count-black n d p in omega (arith, div-step n d p, length-only (divides n (suc d)) (black (suc d))))
+
+length-tiles : (b : Bool) (n g : ℕ) → length (only b (map (λ i. tile i g) (upFrom 0 (suc (lg n))) ++ (black g ∷ []))) ≡ bit b * (2 + lg n)
+length-tiles true n g =
+    let e : length (map (λ (i : ℕ). tile i g) (upFrom 0 (suc (lg n))) ++ (black g ∷ [])) ≡ suc (lg n) + 1 = simp (length-append, length-map, length-upFrom) in
+    omega arith
+length-tiles false n g = omega arith
+
+count-tile : (n d : ℕ) → 0 < n → length (named 2 n d) ≡ d / n * (2 + lg n)
+unfolding named
+count-tile n zero p = rw (div-eq-of-lt p) (omega arith)
+count-tile n (suc d) p =
+    count-suc 2 n d ∙ (let r = count-tile n d p in rw (r, length-tiles (divides n (suc d)) n (suc d), div-step n d p) (omega arith))
+
+-- ---- the tree: the powers of two that divide a number
+
+count : ℕ → ℕ → ℕ → ℕ
+count g n i = length (keep (λ l. divides (2 ^ l) g) (upFrom i n))
+
+length-push : (b : Bool) (x : ℕ) (r : List ℕ) → length (push b x r) ≡ bit b + length r
+length-push true x r = omega arith
+length-push false x r = omega arith
+
+-- twice a number has the powers of its half, doubled; an odd number has none but 1
+double-mod : (h w : ℕ) → 0 < w → 2 * h % (2 * w) ≡ 2 * (h % w)
+double-mod h w p =
+    let l : h % w < w = mod-lt h p in
+    let d : h / w * w + h % w ≡ h = div-add-mod' h w in
+    let e : 2 * h ≡ h / w * (2 * w) + 2 * (h % w) = omega arith in
+    ap (λ (x : ℕ). x % (2 * w)) e ∙ digits-mod (h / w) (omega arith)
+
+double-divides : (i h : ℕ) → divides (2 ^ suc i) (2 * h) ≡ divides (2 ^ i) h
+double-divides i h = rw (pow-succ', double-mod h (2 ^ i) (pow-pos i)) (bool-ext (eqb (2 * (h % 2 ^ i)) 0) (eqb (h % 2 ^ i) 0)
+    (λ e. let z = eqb-true (2 * (h % 2 ^ i)) 0 e in eq-eqb (h % 2 ^ i) 0 (omega arith))
+    (λ e. let z = eqb-true (h % 2 ^ i) 0 e in eq-eqb (2 * (h % 2 ^ i)) 0 (omega arith)))
+
+odd-divides : (i h : ℕ) → divides (2 ^ suc i) (2 * h + 1) ≡ false
+odd-divides i h = ne-eqb ((2 * h + 1) % 2 ^ suc i) 0 (λ z.
+    let d : (2 * h + 1) / 2 ^ suc i * 2 ^ suc i + (2 * h + 1) % 2 ^ suc i ≡ 2 * h + 1 = div-add-mod' (2 * h + 1) (2 ^ suc i) in
+    let m : (2 * h + 1) / 2 ^ suc i * 2 ^ suc i ≡ 2 * ((2 * h + 1) / 2 ^ suc i * 2 ^ i) = rw pow-succ' (omega arith) in
+    let f : (2 * ((2 * h + 1) / 2 ^ suc i * 2 ^ i)) ≡ 2 * h + 1 = omega arith in
+    omega arith)
+
+count-even : (h n i : ℕ) → count (2 * h) n (suc i) ≡ count h n i
+unfolding count
+count-even h zero i = refl
+count-even h (suc n) i =
+    let r = count-even h n (suc i) in
+    rw (length-push (divides (2 ^ suc i) (2 * h)) (suc i), length-push (divides (2 ^ i) h) i, double-divides i h) (ap (λ (x : ℕ). bit (divides (2 ^ i) h) + x) r)
+
+count-odd : (h n i : ℕ) → count (2 * h + 1) n (suc i) ≡ 0
+unfolding count
+count-odd h zero i = refl
+count-odd h (suc n) i = rw (odd-divides i h) (count-odd h n (suc i))
+
+parity : (g : ℕ) → (g ≡ 2 * (g / 2)) ⊎ (g ≡ 2 * (g / 2) + 1)
+parity g = go (decLt (g % 2) 1)
+  where
+    go : Dec (g % 2 < 1) → (g ≡ 2 * (g / 2)) ⊎ (g ≡ 2 * (g / 2) + 1)
+    go (yes h) = inl (omega arith)
+    go (no h) = inr (omega arith)
+
+count-first : (n g : ℕ) → count g (suc n) 0 ≡ 1 + count g n 1
+unfolding count
+count-first n g = let e : divides 1 g ≡ true = eq-eqb (g % 1) 0 (mod-one g) in rw e (omega arith)
+
+count-ones : (n g : ℕ) → 1 ≤ g → g ≤ n → count g n 0 + ones g ≡ 2 + ones (pred g)
+count-ones zero g p l = absurd (omega arith)
+count-ones (suc n) g p l = go (λ a b. count-ones n (g / 2) a b) (parity g)
+  where
+    go : (1 ≤ g / 2 → g / 2 ≤ n → count (g / 2) n 0 + ones (g / 2) ≡ 2 + ones (pred (g / 2))) → (g ≡ 2 * (g / 2)) ⊎ (g ≡ 2 * (g / 2) + 1) → count g (suc n) 0 + ones g ≡ 2 + ones (pred g)
+    go rec (inl e) =
+        let r = rec (omega arith) (omega arith) in
+        let c : count g n 1 ≡ count (g / 2) n 0 = ap (λ (x : ℕ). count x n 1) e ∙ count-even (g / 2) n 0 in
+        let q : ones (pred g / 2) ≡ ones (pred (g / 2)) = ap ones (omega arith) in
+        omega (arith, count-first n g, ones-step g, ones-step (pred g))
+    go rec (inr e) =
+        let c : count g n 1 ≡ 0 = ap (λ (x : ℕ). count x n 1) e ∙ count-odd (g / 2) n 0 in
+        let q : ones (pred g / 2) ≡ ones (g / 2) = ap ones (omega arith) in
+        omega (arith, count-first n g, ones-step g, ones-step (pred g))
+
+levels-ones : (g : ℕ) → 1 ≤ g → length (levels g) + ones g ≡ 2 + ones (pred g)
+unfolding count
+levels-ones g p = count-ones g g p (omega arith)
+
+-- ---- the tree: where black is stored once
+
+below-pow : (l : ℕ) → l < 2 ^ l
+below-pow zero = lit< tt
+below-pow (suc l) = let r = below-pow l in omega arith
+
+pub power-of : (g : ℕ) → storedOnce g ≡ true → (l : ℕ) × (2 ^ l ≡ g)
+power-of g e = go (Memᴰ·of-map (λ (l : ℕ). 2 ^ l) (levels g) (has-mem g (map (λ l. 2 ^ l) (levels g)) e))
+  where
+    go : (l : ℕ) × (l among levels g) × (2 ^ l ≡ g) → (l : ℕ) × (2 ^ l ≡ g)
+    go r = (r .0, r .2)
+
+pub of-power : (l g : ℕ) → 2 ^ l ≡ g → storedOnce g ≡ true
+of-power l g e =
+    let b = below-pow l in
+    mem-has (Memᴰ·cast (sym e) (Memᴰ·map (λ (x : ℕ). 2 ^ x)
+    (mem-keep (λ x. divides (2 ^ x) g) (upFrom 0 g) l (upFrom-mem 0 g l (omega arith) (omega arith)) (eq-eqb (g % 2 ^ l) 0 (rw e (mod-self g))))))
+
+pow-lt-inv : {i j : ℕ} → 2 ^ i < 2 ^ j → i < j
+pow-lt-inv {i} {j} h = go (decLt i j)
+  where
+    go : Dec (i < j) → i < j
+    go (yes l) = l
+    go (no n) = let m : 2 ^ j ≤ 2 ^ i = pow-mono (omega arith) in absurd (omega arith)
+
+once-scale : (k m : ℕ) → 1 ≤ m → storedOnce (2 ^ k * m) ≡ storedOnce m
+once-scale k m p = bool-ext (storedOnce (2 ^ k * m)) (storedOnce m) (λ e. down (power-of (2 ^ k * m) e)) (λ e. up (power-of m e))
+  where
+    up : (l : ℕ) × (2 ^ l ≡ m) → storedOnce (2 ^ k * m) ≡ true
+    up r = of-power (k + r .0) (2 ^ k * m) (pow-add 2 k (r .0) ∙ ap (λ (x : ℕ). 2 ^ k * x) (r .1))
+
+    split-off : (l : ℕ) → 2 ^ l ≡ 2 ^ k * m → k ≤ l → storedOnce m ≡ true
+    split-off l e le =
+        let a : k + (l - k) ≡ l = omega arith in
+        let b : 2 ^ k * 2 ^ (l - k) ≡ 2 ^ k * m = sym (pow-add 2 k (l - k)) ∙ ap (λ (x : ℕ). 2 ^ x) a ∙ e in
+        of-power (l - k) m (eq-of-mul-eq-mul-left (2 ^ k) (pow-pos k) (2 ^ (l - k)) m b)
+
+    big : (l : ℕ) → 2 ^ l ≡ 2 ^ k * m → Dec (k ≤ l) → k ≤ l
+    big l e (yes h) = h
+    big l e (no h) =
+        let a : 2 ^ suc l ≤ 2 ^ k = pow-mono (lt-of-not-le h) in
+        let b : 2 ^ k * 1 ≤ 2 ^ k * m = mul-le-mul-left (2 ^ k) p in
+        let c = pow-pos l in
+        absurd (omega arith)
+
+    down : (l : ℕ) × (2 ^ l ≡ 2 ^ k * m) → storedOnce m ≡ true
+    down r = split-off (r .0) (r .1) (big (r .0) (r .1) (decLe k (r .0)))
+
+-- ---- lg
+
+lgIn-bounds : (f n : ℕ) → 1 ≤ n → n ≤ f → (2 ^ lgIn f n ≤ n) × (n < 2 ^ suc (lgIn f n))
+lgIn-bounds zero n p l = absurd (omega arith)
+lgIn-bounds (suc f) zero p l = absurd (omega arith)
+lgIn-bounds (suc f) (suc zero) p l = (lit≤ tt, lit< tt)
+lgIn-bounds (suc f) (suc (suc n)) p l =
+    let r = lgIn-bounds f (suc (suc n) / 2) (omega arith) (omega arith) in
+    let a : 2 ^ suc (lgIn f (suc (suc n) / 2)) ≤ suc (suc n) = omega arith in
+    let b : suc (suc n) < 2 ^ suc (suc (lgIn f (suc (suc n) / 2))) = omega arith in
+    (a, b)
+
+pub lg-bounds : (n : ℕ) → 1 ≤ n → (2 ^ lg n ≤ n) × (n < 2 ^ suc (lg n))
+unfolding lg
+lg-bounds n p = lgIn-bounds n n p (omega arith)
+
+pub lg-unique : (n j : ℕ) → 2 ^ j ≤ n → n < 2 ^ suc j → lg n ≡ j
+lg-unique n j a b =
+    let o = pow-pos j in
+    let r = lg-bounds n (omega arith) in
+    let c : j < suc (lg n) = pow-lt-inv (omega arith) in
+    let d : lg n < suc j = pow-lt-inv (omega arith) in
+    omega arith
+
+-- the binary digits of n
+abbrev pub digits : ℕ → ℕ
+digits zero = 0
+digits (suc n) = suc (lg (suc n))
+
+digits-step : (n : ℕ) → digits (suc n) ≡ digits n + bit (storedOnce (suc n))
+unfolding lg
+digits-step zero = refl
+digits-step (suc n) = go (ℕ-discrete (suc (suc n)) (2 ^ suc (lg (suc n))))
+  where
+    go : Dec (suc (suc n) ≡ 2 ^ suc (lg (suc n))) → digits (suc (suc n)) ≡ digits (suc n) + bit (storedOnce (suc (suc n)))
+    go (yes e) =
+        let b = lg-bounds (suc n) (omega arith) in
+        let q : lg (suc (suc n)) ≡ suc (lg (suc n)) = lg-unique (suc (suc n)) (suc (lg (suc n))) (omega arith) (omega (arith, pow-pos (lg (suc n)))) in
+        rw (of-power (suc (lg (suc n))) (suc (suc n)) (sym e)) (omega arith)
+    go (no h) =
+        let b = lg-bounds (suc n) (omega arith) in
+        let q : lg (suc (suc n)) ≡ lg (suc n) = lg-unique (suc (suc n)) (lg (suc n)) (omega arith) (omega arith) in
+        rw (none (split (storedOnce (suc (suc n))))) (omega arith)
+      where
+        between : (l : ℕ) × (2 ^ l ≡ suc (suc n)) → ⊥
+        between r =
+            let b = lg-bounds (suc n) (omega arith) in
+            let c : lg (suc n) < r .0 = pow-lt-inv (omega (arith, r .1)) in
+            let d : r .0 < suc (lg (suc n)) = pow-lt-inv (omega (arith, r .1)) in
+            omega arith
+
+        none : (storedOnce (suc (suc n)) ≡ true) ⊎ (storedOnce (suc (suc n)) ≡ false) → storedOnce (suc (suc n)) ≡ false
+        none (inl e) = absurd (between (power-of (suc (suc n)) e))
+        none (inr e) = e
+
+-- ---- the tree's formula
+
+-- of the days that n = 2^k divides, those that are powers of two
+stored-step : (k d : ℕ) → digits (suc d / 2 ^ k) ≡ digits (d / 2 ^ k) + bit (divides (2 ^ k) (suc d) && storedOnce (suc d))
+stored-step k d = go (split (divides (2 ^ k) (suc d)))
+  where
+    step : suc d / 2 ^ k ≡ d / 2 ^ k + bit (divides (2 ^ k) (suc d))
+    step = div-step (2 ^ k) d (pow-pos k)
+
+    go : (divides (2 ^ k) (suc d) ≡ true) ⊎ (divides (2 ^ k) (suc d) ≡ false) →
+        digits (suc d / 2 ^ k) ≡ digits (d / 2 ^ k) + bit (divides (2 ^ k) (suc d) && storedOnce (suc d))
+    go (inl e) =
+        let s : suc d / 2 ^ k ≡ d / 2 ^ k + 1 = rw e at step in
+        let q : suc d / 2 ^ k ≡ suc (d / 2 ^ k) = omega arith in
+        let z : suc d % 2 ^ k ≡ 0 = eqb-true (suc d % 2 ^ k) 0 e in
+        let w : suc d ≡ 2 ^ k * suc (d / 2 ^ k) = omega (arith, div-add-mod' (suc d) (2 ^ k), ap (λ (x : ℕ). x * 2 ^ k) q, mul-comm (2 ^ k) (suc (d / 2 ^ k))) in
+        let v : storedOnce (suc d) ≡ storedOnce (suc (d / 2 ^ k)) = ap storedOnce w ∙ once-scale k (suc (d / 2 ^ k)) (omega arith) in
+        rw (e, v, q) (digits-step (d / 2 ^ k))
+    go (inr e) =
+        let s : suc d / 2 ^ k ≡ d / 2 ^ k + 0 = rw e at step in
+        rw (e, s, add-zero) (omega arith)
+
+length-tree : (n g : ℕ) → length (names 3 n g) ≡ length (levels g) + bit (divides n g && not (storedOnce g))
+length-tree n g = simp (length-append, length-map, length-only)
+
+bits : (a b : Bool) → bit (a && not b) + bit (a && b) ≡ bit a
+bits true true = refl
+bits true false = refl
+bits false b = refl
+
+ones-zero : ones 0 ≡ 0
+unfolding ones
+ones-zero = refl
+
+count-tree-sum : (k d : ℕ) → length (named 3 (2 ^ k) d) + ones d + digits (d / 2 ^ k) ≡ 2 * d + d / 2 ^ k
+unfolding named
+count-tree-sum k zero = rw (div-eq-of-lt (pow-pos k)) (omega (arith, ones-zero))
+count-tree-sum k (suc d) =
+    omega (
+      arith,
+      count-suc 3 (2 ^ k) d,
+      length-tree (2 ^ k) (suc d),
+      levels-ones (suc d) (omega arith),
+      stored-step k d,
+      div-step (2 ^ k) d (pow-pos k),
+      bits (divides (2 ^ k) (suc d)) (storedOnce (suc d)),
+      count-tree-sum k d,
+    )
+
+digits-lg : (n : ℕ) → 1 ≤ n → digits n ≡ 1 + lg n
+digits-lg zero p = absurd (omega arith)
+digits-lg (suc n) p = omega arith
+
+-- ---- the count through any day, and 01's formulas
+
+-- the values of the days 1 to g, by arithmetic; black of the tree is not counted where it is stored once
+abbrev pub through : ℕ → ℕ → ℕ → ℕ
+through zero n g = 0
+through (suc zero) n g = g / n
+through (suc (suc zero)) n g = g / n * (2 + lg n)
+through (suc (suc (suc zero))) n g = 2 * g - ones g + g / n - digits (g / n)
+through (suc (suc (suc (suc s)))) n g = 0
+
+ones-small : (g : ℕ) → ones g ≤ g
+ones-small g = ones-le g g (below-pow g)
+
+pub digits-small : (g : ℕ) → digits g ≤ g
+digits-small zero = omega arith
+digits-small (suc g) = let b = lg-bounds (suc g) (omega arith) in let p = below-pow (lg (suc g)) in omega arith
+
+pub count-through : (s k g : ℕ) → 1 ≤ s → s ≤ 3 → length (named s (2 ^ k) g) ≡ through s (2 ^ k) g
+count-through zero k g a b = absurd (omega arith)
+count-through (suc zero) k g a b = count-black (2 ^ k) g (pow-pos k)
+count-through (suc (suc zero)) k g a b = count-tile (2 ^ k) g (pow-pos k)
+count-through (suc (suc (suc zero))) k g a b = omega (arith, count-tree-sum k g, ones-small g)
+count-through (suc (suc (suc (suc s)))) k g a b = absurd (omega arith)
+
+-- where d / n is not 0, this is 01's formula
+through-formula : (s n d : ℕ) → 1 ≤ d / n → through s n d ≡ valueCount s n d
+through-formula zero n d p = refl
+through-formula (suc zero) n d p = refl
+through-formula (suc (suc zero)) n d p = refl
+through-formula (suc (suc (suc zero))) n d p = ap (λ (x : ℕ). 2 * d - ones d + d / n - x) (digits-lg (d / n) p)
+through-formula (suc (suc (suc (suc s)))) n d p = refl
+
+-- 01's number of values is the number of chains
+pub values-length : (s k d : ℕ) → 1 ≤ s → s ≤ 3 → 1 ≤ d / 2 ^ k → valueCount s (2 ^ k) d ≡ length (chains s (2 ^ k) d)
+unfolding chains
+values-length s k d a b p = sym (length-map (named s (2 ^ k) d) (cover (2 ^ k)) ∙ count-through s k d a b ∙ through-formula s (2 ^ k) d p)

@@ -1,0 +1,43 @@
+-- The marked examples hold: antt computes the listing and the acceptance, and the laws of tables turn them into statements
+-- about the sets that give a table.
+use mathlib.Core.Path.{_≡_, refl, sym, ap, _∙_}
+use mathlib.Core.Logic.{_↔_}
+use mathlib.Core.Bool.{Bool, true, false}
+use mathlib.Core.List.{List, [], _∷_}
+use Prim.Native.Nat.{ℕ}
+use lib.ListN.{length}
+use Rattle.evidence.specs.Lists.{_among_, Ascends}
+use Rattle.evidence.specs.Tables.{tableOf, Gives, listing, accepted}
+use Rattle.evidence.proofs.ListLaws.{true-or-false}
+use Rattle.evidence.proofs.TableLaws.{listing-ascends, accepted-gives, given-iff-accepted, listed-iff}
+use Rattle.layouts.specs.Layouts.{lg, named, chains, valueCount}
+use Rattle.layouts.specs.Reading.{firstOf, lowOf, lastGood}
+use Rattle.layouts.specs.Examples.{Lists, NotGiven, Counts, Reads, Examples}
+
+lists : (s n d : ℕ) (table list : List ℕ) → accepted (chains s n d) d table ≡ true → listing (chains s n d) d table ≡ list → Lists s n d table list
+lists s n d table list a e =
+    record {
+      given = given-iff-accepted (chains s n d) d table .1 a;
+      listed = rw e at (listed-iff (chains s n d) d table a);
+      ascending = rw e at (listing-ascends (chains s n d) d table);
+    }
+
+refused : (s n d : ℕ) (table : List ℕ) → accepted (chains s n d) d table ≡ false → NotGiven s n d table
+refused s n d table e S h = true-or-false (given-iff-accepted (chains s n d) d table .0 (S, h)) e
+
+pub examples : Examples
+unfolding listing accepted tableOf lg named chains lastGood lib.Count.ones lib.Count.onesIn
+examples =
+    record {
+      figure = record { lists = lists 2 16 64 _ _ refl refl; low-is = refl; good-is = refl };
+      tree-16 = record { formula = refl; chains-are = refl };
+      tree-14 = record { formula = refl; chains-are = refl };
+      tree-3 = record { formula = refl; chains-are = refl };
+      tree-days = record { lists = lists 3 2 16 _ _ refl refl; low-is = refl; good-is = refl };
+      black-day = record { lists = lists 1 2 24 _ _ refl refl; low-is = refl; good-is = refl };
+      tile-1 = lists 2 1 1 _ _ refl refl;
+      tile-4 = lists 2 4 4 _ _ refl refl;
+      tile-14 = refused 2 4 4 _ refl;
+      tree-2 = lists 3 1 2 _ _ refl refl;
+      tree-2-14 = refused 3 1 2 _ refl;
+    }

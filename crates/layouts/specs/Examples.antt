@@ -1,0 +1,45 @@
+-- The examples that 01 marks, as statements about tables, the sets that give them, counts, low and last good.
+use mathlib.Core.Path.{_≡_}
+use mathlib.Core.Logic.{_↔_}
+use mathlib.Core.List.{List, [], _∷_}
+use Prim.Native.Nat.{ℕ}
+use lib.ListN.{length}
+use Rattle.evidence.specs.Lists.{_among_, upFrom, Ascends}
+use Rattle.evidence.specs.Tables.{tableOf, Gives}
+use Rattle.layouts.specs.Layouts.{chains, valueCount}
+use Rattle.layouts.specs.Reading.{firstOf, lowOf, lastGood}
+
+-- some set gives the table, and the list is that of the days of such sets, ascending, each once
+pub record Lists (scheme n d : ℕ) (table list : List ℕ) : Type 0 where
+  pub given : (S : List ℕ) × Gives (chains scheme n d) d S table
+  pub listed : (g : ℕ) → (g among list) ↔ ((S : List ℕ) × Gives (chains scheme n d) d S table × (g among S))
+  pub ascending : Ascends 1 list
+
+-- 01's cause 14: no set gives the table
+abbrev pub NotGiven : ℕ → ℕ → ℕ → List ℕ → Type 0
+NotGiven scheme n d table = (S : List ℕ) → Gives (chains scheme n d) d S table → ⊥
+
+-- a number of values, by the formula and by the chains
+pub record Counts (scheme n d count : ℕ) : Type 0 where
+  pub formula : valueCount scheme n d ≡ count
+  pub chains-are : length (chains scheme n d) ≡ count
+
+-- reading the table that the days S give: the list, low, last good
+pub record Reads (scheme n f d : ℕ) (S list : List ℕ) (low good : ℕ) : Type 0 where
+  pub lists : Lists scheme n d (tableOf (chains scheme n d) S) list
+  pub low-is : lowOf n f d (firstOf list) ≡ low
+  pub good-is : lastGood scheme n d (tableOf (chains scheme n d) S) ≡ good
+
+pub record Examples : Type 0 where
+  -- 001's figure
+  pub figure : Reads 2 16 2 64 (19 ∷ 20 ∷ 27 ∷ []) (19 ∷ 20 ∷ 23 ∷ 24 ∷ 27 ∷ 28 ∷ 31 ∷ 32 ∷ []) 32 16
+  pub tree-16 : Counts 3 2 16 35
+  pub tree-14 : Counts 3 2 14 29
+  pub tree-3 : Counts 3 1 3 5
+  pub tree-days : Reads 3 2 1 16 (4 ∷ 7 ∷ 10 ∷ []) (4 ∷ 7 ∷ 10 ∷ []) 14 2
+  pub black-day : Reads 1 2 3 24 (16 ∷ []) (upFrom 15 10) 18 14
+  pub tile-1 : Lists 2 1 1 (0 ∷ 0 ∷ []) (1 ∷ [])
+  pub tile-4 : Lists 2 4 4 (0 ∷ 1 ∷ 1 ∷ 0 ∷ []) (4 ∷ [])
+  pub tile-14 : NotGiven 2 4 4 (1 ∷ 1 ∷ 1 ∷ 0 ∷ [])
+  pub tree-2 : Lists 3 1 2 (1 ∷ 0 ∷ 0 ∷ []) (2 ∷ [])
+  pub tree-2-14 : NotGiven 3 1 2 (1 ∷ 1 ∷ 0 ∷ [])
