@@ -23,7 +23,7 @@ use Rattle.layouts.proofs.Covers.{named-suc}
 abbrev bit : Bool → ℕ
 bit b = cond b 1 0
 
-length-upFrom : (i n : ℕ) → length (upFrom i n) ≡ n
+pub length-upFrom : (i n : ℕ) → length (upFrom i n) ≡ n
 length-upFrom i zero = refl
 length-upFrom i (suc n) = ap suc (length-upFrom (suc i) n)
 
@@ -145,7 +145,7 @@ levels-ones g p = count-ones g g p (omega arith)
 
 -- ---- the tree: where black is stored once
 
-below-pow : (l : ℕ) → l < 2 ^ l
+pub below-pow : (l : ℕ) → l < 2 ^ l
 below-pow zero = lit< tt
 below-pow (suc l) = let r = below-pow l in omega arith
 

@@ -1,3 +1,4 @@
 pub mod Covers
 pub mod Counts
 pub mod Marked
+pub mod Positions

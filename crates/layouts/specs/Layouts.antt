@@ -5,6 +5,7 @@ use mathlib.Core.List.{List, [], _∷_, _++_, map}
 use Prim.Native.Nat.{ℕ, zero, suc, pred, _+_, _-_, _*_, _/_, _%_, _^_}
 use lib.Count.{ones}
 use lib.Dec.{eqb}
+use lib.ListN.{length}
 use Rattle.evidence.specs.Lists.{has, upFrom, keep}
 use Rattle.evidence.specs.Tables.{days}
 use Rattle.layouts.specs.Allowed.{divides}
@@ -86,3 +87,9 @@ valueCount (suc zero) n d = d / n
 valueCount (suc (suc zero)) n d = d / n * (2 + lg n)
 valueCount (suc (suc (suc zero))) n d = 2 * d - ones d + d / n - (1 + lg (d / n))
 valueCount (suc (suc (suc (suc s)))) n d = 0
+
+-- the place of a value in the book, counted from 0: after the values of the days before, by index or level; black last
+abbrev pub position : ℕ → ℕ → Name → ℕ
+position scheme n (black g) = pred (length (named scheme n g))
+position scheme n (tile i g) = length (named scheme n (pred g)) + i
+position scheme n (tree l g) = length (named scheme n (pred g)) + l
