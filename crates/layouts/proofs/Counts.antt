@@ -18,7 +18,7 @@ use Rattle.evidence.specs.Tables.{days}
 use Rattle.evidence.proofs.ListLaws.{split, true-or-false, bool-ext, has-mem, mem-has, upFrom-mem, keep-mem, mem-keep}
 use Rattle.layouts.specs.Allowed.{divides}
 use Rattle.layouts.specs.Layouts.{lgIn, lg, Name, black, tile, tree, levels, storedOnce, only, names, named, cover, closing, chains, valueCount}
-use Rattle.layouts.proofs.Covers.{named-suc}
+use Rattle.layouts.proofs.Coverage.{named-suc}
 
 abbrev bit : Bool → ℕ
 bit b = cond b 1 0
@@ -309,7 +309,7 @@ through (suc (suc zero)) n g = g / n * (2 + lg n)
 through (suc (suc (suc zero))) n g = 2 * g - ones g + g / n - digits (g / n)
 through (suc (suc (suc (suc s)))) n g = 0
 
-ones-small : (g : ℕ) → ones g ≤ g
+pub ones-small : (g : ℕ) → ones g ≤ g
 ones-small g = ones-le g g (below-pow g)
 
 pub digits-small : (g : ℕ) → digits g ≤ g

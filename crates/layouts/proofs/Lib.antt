@@ -1,4 +1,5 @@
-pub mod Covers
+pub mod Coverage
 pub mod Counts
+pub mod AllowedLaws
 pub mod Marked
 pub mod Positions

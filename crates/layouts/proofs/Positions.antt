@@ -18,7 +18,7 @@ use Rattle.evidence.proofs.ListLaws.{split, true-or-false, and-both, has-mem, u
 use Rattle.layouts.specs.Allowed.{divides}
 use Rattle.layouts.specs.Layouts.{lg, Name, black, tile, tree, ending, cover, levels, storedOnce, only, names, named, closing, chains, position}
 use Rattle.layouts.specs.Reading.{blackAt}
-use Rattle.layouts.proofs.Covers.{divisor-le, upFrom-snoc, named-suc, named-add}
+use Rattle.layouts.proofs.Coverage.{divisor-le, upFrom-snoc, named-suc, named-add}
 use Rattle.layouts.proofs.Counts.{length-upFrom, below-pow, power-of}
 
 -- ---- the numbers that pass a test are the first ones, where each number below one that passes does
@@ -147,7 +147,7 @@ black-last (suc (suc (suc zero))) n g a b p e = go (storedOnce g) refl
           map (λ j. tree j g) (upFrom 0 k),
           tree k g,
           ap (map (λ (j : ℕ). tree j g)) (levels-run g ∙ ap (upFrom 0) q ∙ upFrom-snoc 0 k ∙ ap (λ (x : ℕ). upFrom 0 k ++ (x ∷ [])) (zero-add k)) ∙
-          map-append (λ (j : ℕ). tree j g) (upFrom 0 k) (k ∷ []),
+              map-append (λ (j : ℕ). tree j g) (upFrom 0 k) (k ∷ []),
           rw (eq-eqb g g refl, eq-eqb (2 ^ k) g w),
         )
 
@@ -182,5 +182,5 @@ black-position s n (suc g) d a b p l e =
     in-day s n g d (length (r .0)) (black 0) (omega arith) (omega arith) ∙ rw (r .2) (getD-at (r .0) (r .1) [] (black 0) (length (r .0)) refl) in (
       rw length-map (omega arith),
       ap (λ (x : ℕ). getD (chains s n d) x []) q ∙ to-chains s n d (length (named s n g) + length (r .0)) (black 0) (r .1) refl at ∙
-      black-cover n (suc g) (r .1) (r .3),
+          black-cover n (suc g) (r .1) (r .3),
     )

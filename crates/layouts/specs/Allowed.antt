@@ -5,10 +5,7 @@ use Prim.Native.Nat.{ℕ, zero, suc, _*_, _%_}
 use lib.Dec.{eqb, leb}
 use Rattle.evidence.specs.Lists.{has}
 
--- 01's limits: bytes in a day, days in a book
-abbrev pub dayLimit : ℕ
-dayLimit = 16777216
-
+-- 01's limit of the days in a book
 abbrev pub bookLimit : ℕ
 bookLimit = 65536
 

@@ -1,0 +1,21 @@
+use Rattle.layouts.proofs.AllowedLaws.{place-fits, few, place}
+use mathlib.Core.Path.{refl}
+use native.Mathlib.Omega.{arith}
+use borrow.Author.Needs.{needs}
+use Rattle.layouts.proofs.tile_at.Statement.{statement}
+use Rattle.layouts.proofs.tile_at.Tie as tie
+
+sub-values-through : tie.Need-sub-values-through
+sub-values-through c = search needs
+
+values-through-requires : tie.Need-values-through-requires
+values-through-requires c κs = search needs
+
+add-result : tie.Need-add-result
+add-result c = record { fits = place-fits 2 _ _ _ refl (c .before .pre .0) (c .before .pre .2) (omega (arith, c .before .pre .3)) (c .values-through .ensures) }
+
+returns : tie.Need-returns
+returns c = place 2 _ _ _ (c .values-through .ensures)
+
+pub tile-at-spec : {M : Type 1} → statement M
+tile-at-spec = tie.close (tie.spec sub-values-through values-through-requires add-result returns)

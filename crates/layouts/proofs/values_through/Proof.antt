@@ -1,0 +1,47 @@
+use Rattle.layouts.proofs.AllowedLaws.{lg-fits, allowed-n-is, tile-bound, through-1, through-2, through-3}
+use mathlib.Core.Path.{sym, ap, _∙_}
+use native.Mathlib.Omega.{arith}
+use borrow.Author.Needs.{needs}
+use Rattle.layouts.proofs.values_through.Statement.{statement}
+use Rattle.layouts.proofs.values_through.Tie as tie
+
+div-result : tie.Need-div-result
+div-result c = allowed-n-is _ (c .before .pre .1) .some
+
+returns : tie.Need-returns
+returns c = through-1 _ _ _ (c .if1 .taken) (c .before .pre .1)
+
+div-result-2 : tie.Need-div-result-2
+div-result-2 c = allowed-n-is _ (c .before .before .pre .1) .some
+
+lg-requires : tie.Need-lg-requires
+lg-requires c κs = allowed-n-is _ (c .before .before .pre .1) .some
+
+add-result : tie.Need-add-result
+add-result c = record { fits = lg-fits _ _ (c .before .before .before .pre .1) (c .lg .ensures) }
+
+mul-result : tie.Need-mul-result
+mul-result c = record { fits = rw (c .lg .ensures) (tile-bound _ _ (c .before .before .before .pre .1) (c .before .before .before .pre .2)) }
+
+returns-2 : tie.Need-returns-2
+returns-2 c = through-2 _ _ _ _ (c .before .if2 .taken) (c .before .before .before .pre .1) (c .lg .ensures)
+
+tree-through-requires : tie.Need-tree-through-requires
+tree-through-requires c κs = search needs
+
+returns-3 : tie.Need-returns-3
+returns-3 c = through-3 _ _ _ _ (c .before .before .before .pre .0) (c .before .before .if1 .left) (c .before .if2 .left) (c .tree-through .ensures)
+
+pub values-through-spec : {M : Type 1} → statement M
+values-through-spec =
+    tie.close
+    (tie.spec
+    div-result
+    returns
+    div-result-2
+    lg-requires
+    add-result
+    mul-result
+    returns-2
+    tree-through-requires
+    returns-3)
