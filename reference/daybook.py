@@ -1,0 +1,529 @@
+"""Settlement day books: sealing, checking, reading.
+
+Reference implementation of the paper "Settlement day books: sealing,
+checking, reading" (01-scope).  Written for clearness, not for speed: the
+layouts, the book and the reading follow the definitions of the paper.
+
+Days count from 1.  Refusals are the paper's numbers, 0 stands for none.
+"""
+
+import hashlib
+import re
+from dataclasses import dataclass, replace
+
+DAY_LIMIT = 16_777_216      # bytes in a day
+DAYS_LIMIT = 65_536         # days in a book
+SLOTS = 17                  # running tile or tree chains in a record
+SUBSETS_LIMIT = 12          # up to this D, reading tries every set of days
+
+BLACK, TILE, TREE = "black", "tile", "tree"
+
+
+def lg(x):
+    """Base-2 logarithm rounded down, x >= 1."""
+    return x.bit_length() - 1
+
+
+# ---------------------------------------------------------------- hash, link
+
+START = bytes(32)
+
+
+def start(scheme, n):
+    """The value a chain starts with; the same for all layouts."""
+    return START
+
+
+def digest(day_bytes):
+    """The digest of a day."""
+    return hashlib.sha256(b"\x00" + bytes(day_bytes)).digest()
+
+
+def link(v, h):
+    """Chain value v extended by the day digest h."""
+    return hashlib.sha256(b"\x01" + v + h).digest()
+
+
+# ------------------------------------------------------------------- layouts
+
+def _closing(scheme, n, g):
+    """As closing, with a range in place of a list for unbroken chains."""
+    black = range(1, g + 1)
+    if scheme == 1:
+        return [black] if g % n == 0 else []
+    if scheme == 2:
+        if g % n != 0:
+            return []
+        tile = range(g - n + 1, g + 1)
+        out = [tile]
+        for i in range(1, lg(n) + 1):
+            weight = n // 2 ** i
+            out.append([day for day in tile if ((day - 1) % n) & weight == 0])
+        out.append(black)
+        return out
+    if scheme == 3:
+        out = []
+        level = 0
+        while g % 2 ** level == 0:
+            out.append(range(g - 2 ** level + 1, g + 1))
+            level += 1
+        if g % n == 0 and out[-1] != black:
+            out.append(black)
+        return out
+    raise ValueError("scheme")
+
+
+def closing(scheme, n, g):
+    """The chains that close at day g, in order, each as its covered days."""
+    return [list(chain) for chain in _closing(scheme, n, g)]
+
+
+def chains(scheme, n, d):
+    """The chains of a book of d days, in book order."""
+    return [chain for g in range(1, d + 1) for chain in closing(scheme, n, g)]
+
+
+def values(scheme, n, d):
+    """Number of values for d days, by the paper's formula."""
+    if scheme == 1:
+        return d // n
+    if scheme == 2:
+        return (d // n) * (2 + lg(n))
+    if scheme == 3:
+        return 2 * d - bin(d).count("1") + d // n - (1 + lg(d // n))
+    raise ValueError("scheme")
+
+
+def names(scheme, n, g):
+    """The chains that close at day g, in order, as (kind, index, day).
+
+    The index is i for tile chain c(i), the level for a tree chain and 0 for
+    black.  A black chain that the tree stores once bears its tree name.
+    """
+    if scheme == 1:
+        return [(BLACK, 0, g)] if g % n == 0 else []
+    if scheme == 2:
+        if g % n != 0:
+            return []
+        return [(TILE, i, g) for i in range(lg(n) + 1)] + [(BLACK, 0, g)]
+    if scheme == 3:
+        top = lg(g & -g)
+        out = [(TREE, level, g) for level in range(top + 1)]
+        if g % n == 0 and 2 ** top != g:
+            out.append((BLACK, 0, g))
+        return out
+    raise ValueError("scheme")
+
+
+def covers(n, name, day):
+    """Whether the named chain covers the day."""
+    kind, index, g = name
+    if kind == BLACK:
+        return 1 <= day <= g
+    if kind == TREE:
+        return g - 2 ** index < day <= g
+    if not g - n < day <= g:
+        return False
+    return index == 0 or ((day - 1) % n) // (n // 2 ** index) % 2 == 0
+
+
+# ---------------------------------------------------------------------- book
+
+def value(chain, days, scheme=None, n=None):
+    """The value of a chain, hashed from its first day.
+
+    days[0] holds the bytes of day 1.
+    """
+    v = start(scheme, n)
+    for day in chain:
+        v = link(v, digest(days[day - 1]))
+    return v
+
+
+def book(scheme, n, days):
+    """The book of the days, by definition: every chain hashed in full."""
+    return b"".join(value(chain, days, scheme, n)
+                    for chain in chains(scheme, n, len(days)))
+
+
+def _seal_digests(scheme, n, digests):
+    """The values of the book over the given day digests, incrementally."""
+    first = start(scheme, n)
+    black = first
+    running = {}
+    out = []
+    for g, h in enumerate(digests, 1):
+        black = link(black, h)
+        if scheme == 2:
+            for i in range(lg(n) + 1):
+                if covers(n, (TILE, i, g + (-g) % n), g):
+                    running[i] = link(running.get(i, first), h)
+        elif scheme == 3:
+            for level in range(SLOTS):
+                running[level] = link(running.get(level, first), h)
+        for kind, index, _ in names(scheme, n, g):
+            if kind == BLACK:
+                out.append(black)
+            else:
+                out.append(running.pop(index))
+    return out
+
+
+def seal_book(scheme, n, days):
+    """The same book as book(), each day linked once to each running chain."""
+    return b"".join(_seal_digests(scheme, n, [digest(day) for day in days]))
+
+
+# ------------------------------------------------------------------ refusals
+
+def settings_refusal(scheme, n, f):
+    """Refusals 1, 2, 3."""
+    if scheme not in (1, 2, 3):
+        return 1
+    if not 1 <= n <= 256 or n & (n - 1) != 0:
+        return 2
+    if not 1 <= f <= (1 if scheme == 3 else 64):
+        return 3
+    return 0
+
+
+def days_refusal(n, f, d):
+    """Refusal 7, for allowed n and f."""
+    return 0 if 1 <= d <= DAYS_LIMIT and d % (f * n) == 0 else 7
+
+
+def ledger_refusal(d, ledger, ends):
+    """Refusals 9 and 10."""
+    if len(ends) < d:
+        return 9
+    before = 0
+    for end in ends[:d]:
+        if end < before or end > len(ledger) or end - before > DAY_LIMIT:
+            return 10
+        before = end
+    return 0
+
+
+def ledger_days(d, ledger, ends):
+    """The bytes of days 1 to d."""
+    starts = [0] + list(ends[:d - 1])
+    return [bytes(ledger[a:b]) for a, b in zip(starts, ends[:d])]
+
+
+# ------------------------------------------------------------------- service
+
+@dataclass(frozen=True)
+class Record:
+    """The service's record.
+
+    running holds 18 values of 32 bytes: black, then 17 slots.  Under scheme
+    2, slot i is tile chain c(i); under scheme 3, slot L is the tree chain of
+    level L; slots without a chain are carried along unchanged.  open_day
+    holds the bytes of the open day in place of a hasher's state, so a record
+    that is not refused has open_bytes == len(open_day).
+    """
+    scheme: int = 0
+    n: int = 0
+    f: int = 0
+    days: int = 0
+    open_bytes: int = 0
+    running: tuple = (bytes(32),) * (1 + SLOTS)
+    open_day: bytes = b""
+
+
+def made_up(scheme, n, f, days, running, open_day=b""):
+    """A record with any days closed and any running values."""
+    running = tuple(bytes(v) for v in running)
+    assert len(running) == 1 + SLOTS and all(len(v) == 32 for v in running)
+    return Record(scheme, n, f, days, len(open_day), running, bytes(open_day))
+
+
+def record_refusal(record):
+    """Refusal 6."""
+    if (settings_refusal(record.scheme, record.n, record.f) != 0
+            or record.days > DAYS_LIMIT or record.open_bytes > DAY_LIMIT):
+        return 6
+    return 0
+
+
+def open_service(scheme, n, f):
+    """(refusal, record); a refused open gives a record of zeros."""
+    refusal = settings_refusal(scheme, n, f)
+    if refusal:
+        return refusal, Record()
+    return 0, Record(scheme, n, f, running=(start(scheme, n),) * (1 + SLOTS))
+
+
+def add(record, piece):
+    """(refusal, record) after a piece of the open day."""
+    if record_refusal(record):
+        return 6, record
+    if record.days == DAYS_LIMIT:
+        return 5, record
+    if record.open_bytes + len(piece) > DAY_LIMIT:
+        return 4, record
+    return 0, replace(record,
+                      open_bytes=record.open_bytes + len(piece),
+                      open_day=record.open_day + bytes(piece))
+
+
+def close(record, part):
+    """(refusal, record, number of values) after the end of the open day.
+
+    The values go to the front of part, a bytearray or a view of one.
+    """
+    if record_refusal(record):
+        return 6, record, 0
+    if record.days == DAYS_LIMIT:
+        return 5, record, 0
+    scheme, n, g = record.scheme, record.n, record.days + 1
+    ended = names(scheme, n, g)
+    if len(part) < 32 * len(ended):
+        return 8, record, 0
+    h = digest(record.open_day)
+    black, slots = record.running[0], list(record.running[1:])
+    black = link(black, h)
+    if scheme == 2:
+        slots[0] = link(slots[0], h)
+        for i in range(1, lg(n) + 1):
+            if ((g - 1) % n) & (n >> i) == 0:
+                slots[i] = link(slots[i], h)
+    elif scheme == 3:
+        slots = [link(v, h) for v in slots]
+    for position, (kind, index, _) in enumerate(ended):
+        if kind == BLACK:
+            v = black
+        else:
+            v = slots[index]
+            slots[index] = start(scheme, n)
+        part[32 * position:32 * position + 32] = v
+    return 0, replace(record, days=g, open_bytes=0,
+                      running=(black, *slots), open_day=b""), len(ended)
+
+
+class Diary:
+    """The plain account of a list of calls, fed with arguments only."""
+
+    def __init__(self, scheme, n, f):
+        self.scheme, self.n, self.f = scheme, n, f
+        self.entries = []
+        self.open_day = b""
+
+    def add(self, piece):
+        """The refusal of an add."""
+        if len(self.entries) == DAYS_LIMIT:
+            return 5
+        if len(self.open_day) + len(piece) > DAY_LIMIT:
+            return 4
+        self.open_day += bytes(piece)
+        return 0
+
+    def close(self, part_length):
+        """The refusal of a close that is lent part_length bytes."""
+        if len(self.entries) == DAYS_LIMIT:
+            return 5
+        day = len(self.entries) + 1
+        if part_length < 32 * len(_closing(self.scheme, self.n, day)):
+            return 8
+        self.entries.append(self.open_day)
+        self.open_day = b""
+        return 0
+
+
+def seal(scheme, n, f, d, ledger, ends, book):
+    """The refusal (1 2 3 7 9 10 8) of sealing d days of a ledger.
+
+    Opens the service, then adds and closes each day; the values go to the
+    front of book, a bytearray.
+    """
+    refusal = (settings_refusal(scheme, n, f) or days_refusal(n, f, d)
+               or ledger_refusal(d, ledger, ends))
+    if refusal:
+        return refusal
+    if len(book) < 32 * values(scheme, n, d):
+        return 8
+    _, record = open_service(scheme, n, f)
+    written = 0
+    for day in ledger_days(d, ledger, ends):
+        refusal, record = add(record, day)
+        assert refusal == 0
+        refusal, record, count = close(record, memoryview(book)[32 * written:])
+        assert refusal == 0
+        written += count
+    assert written == values(scheme, n, d)
+    return 0
+
+
+# ------------------------------------------------------------------ checking
+
+def check(scheme, n, f, d, ledger, ends, book, work, outcomes):
+    """The refusal (1 2 3 7 9 10 11 8) of checking a ledger against a book.
+
+    Fills the fronts of work (day digests) and outcomes (1 pass, 0 fail).
+    """
+    refusal = (settings_refusal(scheme, n, f) or days_refusal(n, f, d)
+               or ledger_refusal(d, ledger, ends))
+    if refusal:
+        return refusal
+    count = values(scheme, n, d)
+    if len(book) < 32 * count:
+        return 11
+    if len(work) < 32 * d or len(outcomes) < count:
+        return 8
+    digests = [digest(day) for day in ledger_days(d, ledger, ends)]
+    work[:32 * d] = b"".join(digests)
+    for k, v in enumerate(_seal_digests(scheme, n, digests)):
+        outcomes[k] = 1 if bytes(book[32 * k:32 * k + 32]) == v else 0
+    return 0
+
+
+# ------------------------------------------------------------------- reading
+
+def mask(chain):
+    """The days of a chain as a number: day d has weight 2^(d-1)."""
+    if isinstance(chain, range):
+        return (1 << chain.stop - 1) - (1 << chain.start - 1)
+    return sum(1 << day - 1 for day in chain)
+
+
+def masks(scheme, n, d):
+    """The chains of a book of d days, in book order, as masks."""
+    return [mask(chain) for g in range(1, d + 1)
+            for chain in _closing(scheme, n, g)]
+
+
+def gives(chain_masks, chosen, table):
+    """Whether the set of days gives the table: 0 exactly where covered."""
+    return all((outcome == 0) == (m & chosen != 0)
+               for m, outcome in zip(chain_masks, table))
+
+
+def unmask(chosen):
+    """The days of a mask, ascending."""
+    return [k + 1 for k, bit in enumerate(reversed(bin(chosen)[2:]))
+            if bit == "1"]
+
+
+def list_by_subsets(scheme, n, d, table):
+    """Days of at least one set that gives the table; None if no set does."""
+    chain_masks = masks(scheme, n, d)
+    giving = [s for s in range(1 << d) if gives(chain_masks, s, table)]
+    if not giving:
+        return None
+    union = 0
+    for s in giving:
+        union |= s
+    return unmask(union)
+
+
+def list_by_candidates(scheme, n, d, table):
+    """As list_by_subsets, by the largest candidate set.
+
+    A set that gives the table has no day of a passing chain, so it lies
+    within the days covered by no passing chain; if any set gives the table,
+    that largest one does too.
+    """
+    chain_masks = masks(scheme, n, d)
+    candidates = (1 << d) - 1
+    for m, outcome in zip(chain_masks, table):
+        if outcome == 1:
+            candidates &= ~m
+    if not gives(chain_masks, candidates, table):
+        return None
+    return unmask(candidates)
+
+
+def last_good_day(scheme, n, d, table):
+    """The last day whose black value passes, else 0.
+
+    Where black closes it is the last value of its day, also when the tree
+    has it stored once.
+    """
+    good = 0
+    position = 0
+    for g in range(1, d + 1):
+        position += len(names(scheme, n, g))
+        if g % n == 0 and table[position - 1] == 1:
+            good = g
+    return good
+
+
+@dataclass(frozen=True)
+class Reading:
+    """Reading's answer: kind is "clean", "changed" or "refused"."""
+    kind: str
+    refusal: int = 0
+    listed: int = 0
+    first: int = 0
+    low: int = 0
+    high: int = 0
+    last_good: int = 0
+
+
+def read(scheme, n, f, d, outcomes, list_buffer):
+    """Reading, refusals 1 2 3 7 8 12 13 14; days go to list_buffer's front."""
+    refusal = settings_refusal(scheme, n, f) or days_refusal(n, f, d)
+    if refusal:
+        return Reading("refused", refusal)
+    if len(list_buffer) < d:
+        return Reading("refused", 8)
+    count = values(scheme, n, d)
+    if len(outcomes) < count:
+        return Reading("refused", 12)
+    table = list(outcomes[:count])
+    if any(outcome not in (0, 1) for outcome in table):
+        return Reading("refused", 13)
+    if d <= SUBSETS_LIMIT:
+        listed = list_by_subsets(scheme, n, d, table)
+    else:
+        listed = list_by_candidates(scheme, n, d, table)
+    if listed is None:
+        return Reading("refused", 14)
+    if not listed:
+        return Reading("clean", last_good=d)
+    for k, day in enumerate(listed):
+        list_buffer[k] = day
+    return Reading("changed", 0, len(listed), listed[0],
+                   max(d - f * n, listed[0] - 1), d,
+                   last_good_day(scheme, n, d, table))
+
+
+# ------------------------------------------------------------------- program
+
+_NUMBER = rb"(0|[1-9][0-9]{0,4})"
+_FORM = re.compile(_NUMBER + b"," + _NUMBER + b"," + _NUMBER + b"," + _NUMBER
+                   + rb"\n([0-9]*)\n")
+
+
+def readtable(text):
+    """What the program readtable prints for the given standard input."""
+    def no(refusal):
+        return b"NO,%d\n" % refusal
+
+    form = _FORM.fullmatch(text)
+    if form is None or len(text) > 1024:
+        return no(15)
+    scheme, n, f, d = (int(field) for field in form.groups()[:4])
+    if d > 256:
+        return no(15)
+    refusal = settings_refusal(scheme, n, f) or days_refusal(n, f, d)
+    if refusal:
+        return no(refusal)
+    outcomes = [digit - ord("0") for digit in form.group(5)]
+    if len(outcomes) > values(scheme, n, d):
+        return no(15)
+    listed = [0] * d
+    result = read(scheme, n, f, d, outcomes, listed)
+    if result.kind == "refused":
+        return no(result.refusal)
+    out = b"REF,%d,%d,%d,%d,%d,%d\n" % (
+        scheme, result.listed, result.first, result.low, result.high,
+        result.last_good)
+    for day in listed[:result.listed]:
+        out += b"DAY,%d\n" % day
+    return out
+
+
+if __name__ == "__main__":
+    import sys
+    sys.stdout.buffer.write(readtable(sys.stdin.buffer.read()))

@@ -1,0 +1,709 @@
+"""Self-test of the reference implementation; see README.md."""
+
+import hashlib
+import os
+import sys
+
+import daybook as db
+import last_day
+import short_ledgers
+import thousand
+from pattern import day_bytes
+
+PASSED = 0
+FAILED = 0
+SIZES = [1, 2, 4, 8, 16, 32, 64, 128, 256]
+
+
+def expect(label, got, want):
+    global PASSED, FAILED
+    if got == want:
+        PASSED += 1
+    else:
+        FAILED += 1
+        print(f"FAILED {label}: got {got!r}, want {want!r}")
+
+
+def intervals(scheme):
+    return [1] if scheme == 3 else list(range(1, 65))
+
+
+def cases(most):
+    """Every allowed (scheme, N, F, D) with D up to most."""
+    return [(scheme, n, f, d)
+            for scheme in (1, 2, 3) for n in SIZES for f in intervals(scheme)
+            for d in range(f * n, most + 1, f * n)]
+
+
+def layouts(most):
+    """Every allowed (scheme, N, D) with D up to most."""
+    return [(scheme, n, d) for scheme in (1, 2, 3) for n in SIZES
+            for d in range(n, most + 1, n)]
+
+
+def table_of(scheme, n, d, changed):
+    """The table that a set of days gives."""
+    return [0 if set(chain) & set(changed) else 1
+            for chain in db.chains(scheme, n, d)]
+
+
+def read_list(scheme, n, f, d, outcomes):
+    """(reading, listed days); the rest of the buffer must stay."""
+    buffer = [777] * (d + 3)
+    result = db.read(scheme, n, f, d, outcomes, buffer)
+    expect("list buffer's rest", set(buffer[result.listed:]), {777})
+    return result, buffer[:result.listed]
+
+
+def ledger_of(days):
+    ends, total = [], 0
+    for day in days:
+        total += len(day)
+        ends.append(total)
+    return b"".join(days), ends
+
+
+# ------------------------------------------------------------------- examples
+
+def examples():
+    def changed(scheme, n, f, d, days):
+        return read_list(scheme, n, f, d, table_of(scheme, n, d, days))
+
+    r, days = changed(2, 16, 2, 64, [19, 20, 27])
+    expect("figure, list", days, [19, 20, 23, 24, 27, 28, 31, 32])
+    expect("figure, numbers", (r.kind, r.listed, r.first, r.low, r.high,
+                               r.last_good), ("changed", 8, 19, 32, 64, 16))
+
+    for n, d, want in [(2, 16, 35), (2, 14, 29), (1, 3, 5)]:
+        expect("tree values, formula", db.values(3, n, d), want)
+        expect("tree values, chains", len(db.chains(3, n, d)), want)
+
+    r, days = changed(3, 2, 1, 16, [4, 7, 10])
+    expect("tree, list", days, [4, 7, 10])
+    expect("tree, numbers", (r.kind, r.first, r.low, r.high, r.last_good),
+           ("changed", 4, 14, 16, 2))
+
+    r, days = changed(1, 2, 3, 24, [16])
+    expect("black, list", days, list(range(15, 25)))
+    expect("black, numbers", (r.kind, r.first, r.low, r.high, r.last_good),
+           ("changed", 15, 18, 24, 14))
+
+    expect("tile 1 1", read_list(2, 1, 1, 1, [0, 0]),
+           (db.Reading("changed", 0, 1, 1, 0, 1, 0), [1]))
+    expect("tile 4 4", read_list(2, 4, 1, 4, [0, 1, 1, 0]),
+           (db.Reading("changed", 0, 1, 4, 3, 4, 0), [4]))
+    expect("tile 4 4, no set", read_list(2, 4, 1, 4, [1, 1, 1, 0]),
+           (db.Reading("refused", 14), []))
+    expect("tree 1 2", read_list(3, 1, 1, 2, [1, 0, 0]),
+           (db.Reading("changed", 0, 1, 2, 1, 2, 1), [2]))
+    expect("tree 1 2, no set", read_list(3, 1, 1, 2, [1, 1, 0]),
+           (db.Reading("refused", 14), []))
+
+    for scheme in (1, 2, 3):
+        expect("N 256", db.open_service(scheme, 256, 1)[0], 0)
+        for n in (512, 0, 3, 255, 257):
+            expect("N refused", db.open_service(scheme, n, 1),
+                   (2, db.Record()))
+        expect("F 64", db.open_service(scheme, 1, 64)[0],
+               3 if scheme == 3 else 0)
+        for f in (0, 65):
+            expect("F refused", db.open_service(scheme, 1, f),
+                   (3, db.Record()))
+    expect("F 2 under the tree", db.open_service(3, 1, 2)[0], 3)
+    for scheme in (0, 4):
+        expect("scheme refused", db.open_service(scheme, 0, 0),
+               (1, db.Record()))
+
+    book = bytearray(32 * 4)
+    for last, want in [(5, 0), (6, 10)]:
+        got = db.check(2, 2, 1, 2, b"abcde", [2, last], book, bytearray(64),
+                       bytearray(3))
+        expect("end at the ledger's length and beyond", got, want)
+
+    expect("readtable example", db.readtable(b"2,4,1,8\n11110010\n"),
+           b"REF,2,2,6,5,8,4\nDAY,6\nDAY,8\n")
+
+
+def sketch_mistakes():
+    """Tile chains over bits that are 1 list other days in 001's figure."""
+    chains = []
+    for g in range(16, 65, 16):
+        tile = range(g - 15, g + 1)
+        chains.append(list(tile))
+        for weight in (8, 4, 2, 1):
+            chains.append([d for d in tile if (d - 1) % 16 & weight])
+        chains.append(list(range(1, g + 1)))
+    bad = {19, 20, 27}
+    rest = set(range(1, 65))
+    for chain in chains:
+        if not bad & set(chain):
+            rest -= set(chain)
+    listed = sorted(day for day in rest if day <= 32)
+    expect("bits that are 1", listed, [17, 18, 19, 20, 25, 26, 27, 28])
+
+
+# ----------------------------------------------------------------------- hash
+
+def hashes():
+    sha = lambda data: hashlib.sha256(data).hexdigest()
+    expect("vector abc", sha(b"abc"),
+           "ba7816bf8f01cfea414140de5dae2223b00361a396177a9cb410ff61f20015ad")
+    expect("vector empty", sha(b""),
+           "e3b0c44298fc1c149afbf4c8996fb92427ae41e4649b934ca495991b7852b855")
+    expect("vector of two blocks",
+           sha(b"abcdbcdecdefdefgefghfghighijhijkijkljklmklmnlmnomnopnopq"),
+           "248d6a61d20638b8e5c026930c3e6039a33ce45964ff2167f6ecedd419db06c1")
+    expect("vector of a million", sha(b"a" * 1_000_000),
+           "cdc76e5c9914fb9281a1c7e284d73e67f1809a48a497200e046d39ccc7112cd0")
+    expect("digest", db.digest(b"abc"), hashlib.sha256(b"\0abc").digest())
+    h = db.digest(b"x")
+    expect("start", db.start(1, 1), bytes(32))
+    expect("link", db.link(bytes(32), h),
+           hashlib.sha256(bytes([1] + [0] * 32) + h).digest())
+    expect("value", db.value([1, 3], [b"a", b"b", b"c"]),
+           db.link(db.link(bytes(32), db.digest(b"a")), db.digest(b"c")))
+
+
+# -------------------------------------------------------------------- layouts
+
+def layout_tests():
+    for scheme in (1, 2, 3):
+        for n in SIZES:
+            for g in range(1, 521):
+                ended = db.closing(scheme, n, g)
+                named = db.names(scheme, n, g)
+                covered = [[day for day in range(1, g + 1)
+                            if db.covers(n, name, day)] for name in named]
+                expect(f"names {scheme} {n} {g}", covered, ended)
+                if g % n == 0:
+                    expect("black is last", ended[-1],
+                           list(range(1, g + 1)))
+    for scheme, n, d in layouts(512):
+        counted = sum(len(db.names(scheme, n, g)) for g in range(1, d + 1))
+        expect(f"count {scheme} {n} {d}", db.values(scheme, n, d), counted)
+    for scheme, n, d in layouts(64):
+        expect(f"chains {scheme} {n} {d}", len(db.chains(scheme, n, d)),
+               db.values(scheme, n, d))
+    for n in SIZES:
+        total = 0
+        for g in range(1, 65_537):
+            total += len(db.names(3, n, g))
+            if g % n == 0 and (g % 4096 == 0 or g < 300 or g > 65_000):
+                expect(f"tree count {n} {g}", db.values(3, n, g), total)
+    expect("tile of 4", db.closing(2, 4, 8),
+           [[5, 6, 7, 8], [5, 6], [5, 7], [1, 2, 3, 4, 5, 6, 7, 8]])
+    expect("tree stored once", db.closing(3, 2, 4),
+           [[4], [3, 4], [1, 2, 3, 4]])
+    expect("tree with black", db.closing(3, 2, 6),
+           [[6], [5, 6], [1, 2, 3, 4, 5, 6]])
+
+
+# ----------------------------------------------------------------------- book
+
+def sample(d):
+    return [day_bytes(g, (g * 5) % 17) for g in range(1, d + 1)]
+
+
+def book_tests():
+    for scheme, n, d in layouts(40):
+        days = sample(d)
+        want = db.book(scheme, n, days)
+        expect("book length", len(want), 32 * db.values(scheme, n, d))
+        expect(f"seal_book {scheme} {n} {d}", db.seal_book(scheme, n, days),
+               want)
+        ledger, ends = ledger_of(days)
+        for f in intervals(scheme):
+            if d % (f * n) == 0:
+                book = bytearray(b"\xee" * (len(want) + 5))
+                got = db.seal(scheme, n, f, d, ledger, ends, book)
+                expect(f"seal {scheme} {n} {f} {d}", (got, bytes(book)),
+                       (0, want + b"\xee" * 5))
+    for scheme, n in [(1, 256), (2, 256), (3, 256), (2, 128), (3, 16)]:
+        days = sample(768)
+        expect(f"seal_book {scheme} {n} 768", db.seal_book(scheme, n, days),
+               db.book(scheme, n, days))
+    for scheme in (1, 2, 3):
+        days = thousand.days()
+        ledger, ends = ledger_of(days)
+        book = bytearray(32 * db.values(scheme, 8, 1000))
+        got = db.seal(scheme, 8, thousand.interval_count(scheme), 1000,
+                      ledger, ends, book)
+        expect("thousand days", (got, bytes(book)),
+               (0, db.book(scheme, 8, days)))
+        expect("thousand days, seal_book", db.seal_book(scheme, 8, days),
+               bytes(book))
+
+
+# -------------------------------------------------------------------- service
+
+def call_lists():
+    """Service against diary, over lists with refused calls among them."""
+    for scheme in (1, 2, 3):
+        for n in (1, 2, 4, 8):
+            _, record = db.open_service(scheme, n, 1)
+            diary = db.Diary(scheme, n, 1)
+            book = b""
+            seen = set()
+            for k in range(400):
+                if k % 3 != 2:
+                    piece = day_bytes(k, (k * 11) % 23)
+                    before = record
+                    refusal, record = db.add(record, piece)
+                    expect("add", refusal, diary.add(piece))
+                    expect("record kept", refusal == 0 or record == before,
+                           True)
+                else:
+                    room = (k * 13) % 200
+                    part = bytearray(b"\xcc" * room)
+                    before = record
+                    refusal, record, count = db.close(record, part)
+                    expect("close", refusal, diary.close(room))
+                    if refusal:
+                        expect("record kept", record, before)
+                        expect("no values", count, 0)
+                    expect("part's rest", bytes(part[32 * count:]),
+                           b"\xcc" * (room - 32 * count))
+                    book += part[:32 * count]
+                    seen.add(refusal)
+                expect("days", record.days, len(diary.entries))
+                expect("open day", record.open_day, diary.open_day)
+                expect("open bytes", record.open_bytes, len(diary.open_day))
+            expect("closes taken and refused", seen, {0, 8})
+            expect(f"book {scheme} {n}", book,
+                   db.book(scheme, n, diary.entries))
+
+
+def pieces():
+    """A day's cuts leave no trace in the book."""
+    days = short_ledgers.days()
+    for scheme in (1, 2, 3):
+        want = db.book(scheme, 4, days)
+        for size in (1, 2, 3, 7, 55, 63, 64, 65, 1000):
+            _, record = db.open_service(scheme, 4, 1)
+            book = b""
+            for day in days:
+                for a in range(0, len(day), size):
+                    _, record = db.add(record, day[a:a + size])
+                part = bytearray(32 * 18)
+                _, record, count = db.close(record, part)
+                book += part[:32 * count]
+            expect(f"pieces of {size}", book, want)
+
+
+def service_bounds():
+    limit = db.DAY_LIMIT
+    for scheme in (1, 2, 3):
+        _, fresh = db.open_service(scheme, 1, 1)
+        diary = db.Diary(scheme, 1, 1)
+        for length, want in [(limit + 1, 4), (limit, 0), (0, 0), (1, 4)]:
+            piece = bytes(length)
+            refusal, fresh = db.add(fresh, piece)
+            expect("day limit", (refusal, diary.add(piece)), (want, want))
+        part = bytearray(64)
+        refusal, fresh, count = db.close(fresh, part)
+        expect("close of a full day", (refusal, diary.close(64)), (0, 0))
+        expect("value of a full day", bytes(part[:32]),
+               db.value([1], [bytes(limit)]))
+
+    good = dict(scheme=1, n=1, f=1, days=0, open_bytes=0)
+    for field, number in [("scheme", 0), ("scheme", 4), ("n", 0), ("n", 3),
+                          ("n", 512), ("f", 0), ("f", 65), ("days", 65_537),
+                          ("open_bytes", limit + 1)]:
+        record = db.Record(**{**good, field: number})
+        expect("add 6", db.add(record, b""), (6, record))
+        expect("close 6", db.close(record, bytearray()), (6, record, 0))
+    tree = db.Record(scheme=3, n=1, f=2)
+    expect("add 6, tree", db.add(tree, b"")[0], 6)
+    expect("zeros", db.add(db.Record(), b"")[0], 6)
+
+    # Order: 6 before 5 before 4 or 8.
+    full = db.Record(scheme=1, n=1, f=1, days=65_536, open_bytes=limit)
+    expect("add 5 before 4", db.add(full, b"x"), (5, full))
+    expect("close 5 before 8", db.close(full, bytearray()), (5, full, 0))
+    worse = db.Record(scheme=1, n=1, f=0, days=65_536, open_bytes=limit)
+    expect("add 6 before 5", db.add(worse, b"x")[0], 6)
+    expect("close 6 before 5", db.close(worse, bytearray())[0], 6)
+
+    for scheme, n in [(1, 1), (2, 8), (3, 1)]:
+        need = 32 * len(db.names(scheme, n, n))
+        record = db.made_up(scheme, n, 1, n - 1, [bytes(32)] * 18)
+        part = bytearray(b"\xcc" * (need - 1))
+        expect("close 8", db.close(record, part), (8, record, 0))
+        expect("part kept", bytes(part), b"\xcc" * (need - 1))
+        expect("close at need", db.close(record, bytearray(need))[0], 0)
+    quiet = db.made_up(1, 8, 1, 0, [bytes(32)] * 18)
+    expect("no values, no part", db.close(quiet, bytearray())[::2], (0, 0))
+
+
+def last_days():
+    """All 65,536 days through the service and the diary."""
+    for scheme, n in [(1, 1), (2, 8), (3, 4)]:
+        _, record = db.open_service(scheme, n, 1)
+        diary = db.Diary(scheme, n, 1)
+        book = bytearray()
+        for g in range(1, 65_537):
+            piece = bytes([g % 256, g // 256 % 256])[:g % 3]
+            part = bytearray(32 * len(db.names(scheme, n, g)))
+            a, record = db.add(record, piece)
+            b, record, count = db.close(record, part)
+            if (a, b) != (0, 0) or diary.add(piece) or diary.close(len(part)):
+                expect(f"day {g}", False, True)
+            book += part
+        expect("days closed", (record.days, len(diary.entries)),
+               (65_536, 65_536))
+        expect("add on", (db.add(record, b""), diary.add(b"")),
+               ((5, record), 5))
+        expect("close on", (db.close(record, part), diary.close(0)),
+               ((5, record, 0), 5))
+        expect("values", len(book), 32 * db.values(scheme, n, 65_536))
+        expect("book", bytes(book), db.seal_book(scheme, n, diary.entries))
+        expect("last value", bytes(book[-32:]),
+               db.value(range(1, 65_537), diary.entries))
+
+        ledger, ends = ledger_of(diary.entries)
+        outcomes = bytearray(db.values(scheme, n, 65_536))
+        got = db.check(scheme, n, 1, 65_536, ledger, ends, book,
+                       bytearray(32 * 65_536), outcomes)
+        expect("all days check", (got, set(outcomes)), (0, {1}))
+        expect("all days read",
+               read_list(scheme, n, 1, 65_536, outcomes)[0],
+               db.Reading("clean", last_good=65_536))
+        ledger = bytearray(ledger)
+        ledger[ends[39_999] - 1] ^= 1       # day 40,000 has one byte
+        db.check(scheme, n, 1, 65_536, ledger, ends, book,
+                 bytearray(32 * 65_536), outcomes)
+        result, listed = read_list(scheme, n, 1, 65_536, outcomes)
+        expect("late change", (result.kind, 40_000 in listed,
+                               result.last_good),
+               ("changed", True, (40_000 - 1) // n * n))
+        expect("late change, list", listed,
+               {1: list(range(40_000, 65_537)), 2: [40_000],
+                3: [40_000]}[scheme])
+
+
+def made_up_records():
+    """The close of day 65,536 worked out directly."""
+    word = lambda k: b"".join((1000 * k + j).to_bytes(4, "big")
+                              for j in range(8))
+    h = db.digest(b"abc")
+    for scheme in (1, 2, 3):
+        for n in (1, 8, 256):
+            _, record = db.add(last_day.record(scheme, n), b"abc")
+            part = bytearray(32 * 18)
+            refusal, after, count = db.close(record, part)
+            if scheme == 1:
+                want = [db.link(word(0), h)]
+            elif scheme == 2:
+                want = [db.link(word(1), h)]
+                want += [word(1 + i) for i in range(1, db.lg(n) + 1)]
+                want += [db.link(word(0), h)]
+            else:
+                want = [db.link(word(1 + level), h) for level in range(17)]
+            expect(f"last day {scheme} {n}",
+                   (refusal, bytes(part[:32 * count])), (0, b"".join(want)))
+            expect("black runs on", after.running[0], db.link(word(0), h))
+            stored = {1: 0, 2: 1 + db.lg(n), 3: 17}[scheme]
+            expect("stored chains start again", after.running[1:1 + stored],
+                   (bytes(32),) * stored)
+            expect("other slots", after.running[1 + stored:],
+                   tuple(word(1 + s) for s in range(stored, 17)))
+
+
+# ------------------------------------------------------------------- checking
+
+def check_tests():
+    for scheme, n, d in layouts(16):
+        days = sample(d)
+        ledger, ends = ledger_of(days)
+        book = db.book(scheme, n, days)
+        count = db.values(scheme, n, d)
+        all_chains = db.chains(scheme, n, d)
+        for k in range(-1, count):
+            spoilt = bytearray(book + b"\xdd" * 3)
+            if k >= 0:
+                spoilt[32 * k + k % 32] ^= 1 << k % 8
+            work = bytearray(b"\xaa" * (32 * d + 2))
+            outcomes = bytearray(b"\xbb" * (count + 2))
+            got = db.check(scheme, n, 1, d, ledger + b"more", ends + [0, 9],
+                           spoilt, work, outcomes)
+            expect("check", got, 0)
+            expect("digests", bytes(work),
+                   b"".join(map(db.digest, days)) + b"\xaa\xaa")
+            expect("outcomes", bytes(outcomes),
+                   bytes(int(i != k) for i in range(count)) + b"\xbb\xbb")
+        for seed in range(12):
+            other = [day + b"!" if (g * 7 + seed * 3) % 5 == seed % 5 else day
+                     for g, day in enumerate(days)]
+            ledger2, ends2 = ledger_of(other)
+            outcomes = bytearray(count)
+            db.check(scheme, n, 1, d, ledger2, ends2, book,
+                     bytearray(32 * d), outcomes)
+            want = bytes(
+                int(db.value(chain, other) == book[32 * k:32 * k + 32])
+                for k, chain in enumerate(all_chains))
+            expect("outcomes by definition", bytes(outcomes), want)
+
+
+def check_refusals():
+    limit = db.DAY_LIMIT
+
+    def call(scheme=2, n=4, f=1, d=4, ledger=b"abcd", ends=(1, 2, 3, 4),
+             book=128, work=128, outcomes=4):
+        work, outcomes = bytearray(work), bytearray(b"\7" * outcomes)
+        before = bytes(work), bytes(outcomes)
+        got = db.check(scheme, n, f, d, ledger, list(ends), bytearray(book),
+                       work, outcomes)
+        if got:
+            expect("buffers kept", (bytes(work), bytes(outcomes)), before)
+        return got
+
+    expect("check accepted", call(), 0)
+    # Causes in the order of the tests: each call has all the later ones.
+    faults = [(1, dict(scheme=0)), (2, dict(n=3)), (3, dict(f=65)),
+              (7, dict(d=6)), (9, dict(ends=())), (11, dict(book=127)),
+              (8, dict(work=127, outcomes=3))]
+    for k, (number, _) in enumerate(faults):
+        arguments = {}
+        for _, fault in faults[k:]:
+            arguments.update(fault)
+        expect(f"check order {number}", call(**arguments), number)
+    expect("check order 10", call(ends=(1, 2, 3, 5), book=0, work=0), 10)
+    expect("check order 9 before 10", call(ends=(9, 8, 7)), 9)
+    for ends in [(2, 1, 3, 4), (1, 2, 3, 5), (5, 5, 5, 5), (1, 2, 4, 3)]:
+        expect("check 10", call(ends=ends), 10)
+    for ends in [(0, 0, 0, 0), (4, 4, 4, 4), (1, 2, 3, 4, 0), (0, 1, 1, 4)]:
+        expect("check ends", call(ends=ends), 0)
+    big = bytes(limit + 2)
+    for ends, want in [((limit,) * 4, 0), ((limit + 1,) * 4, 10),
+                       ((1, limit + 1, limit + 2, limit + 2), 0),
+                       ((1, limit + 2, limit + 2, limit + 2), 10)]:
+        expect("check day limit", call(ledger=big, ends=ends), want)
+    for d, want in [(0, 7), (4, 0), (5, 7), (65_536, 9), (65_540, 7)]:
+        expect(f"check D {d}", call(d=d), want)
+    expect("check D by F", [call(f=2, d=d) for d in (4, 8, 12)], [7, 9, 7])
+    for changes, want in [(dict(book=127), 11), (dict(work=127), 8),
+                          (dict(outcomes=3), 8)]:
+        expect("check lengths", call(**changes), want)
+
+    def seal(scheme=2, n=4, f=1, d=4, ledger=b"abcd", ends=(1, 2, 3, 4),
+             book=128):
+        part = bytearray(b"\7" * book)
+        got = db.seal(scheme, n, f, d, ledger, list(ends), part)
+        if got:
+            expect("book kept", bytes(part), b"\7" * book)
+        return got
+
+    expect("seal accepted", seal(), 0)
+    faults = [(1, dict(scheme=4)), (2, dict(n=512)), (3, dict(f=0)),
+              (7, dict(d=0)), (9, dict(ends=(5, 4))), (8, dict(book=127))]
+    for k, (number, _) in enumerate(faults):
+        arguments = {}
+        for _, fault in faults[k:]:
+            arguments.update(fault)
+        expect(f"seal order {number}", seal(**arguments), number)
+    expect("seal 10 before 8", seal(ends=(1, 2, 3, 5), book=0), 10)
+
+
+# -------------------------------------------------------------------- reading
+
+def given_tables(scheme, n, d):
+    """Every table that some set gives, with the union of those sets."""
+    chain_masks = db.masks(scheme, n, d)
+    unions = {}
+    for s in range(1 << d):
+        table = tuple(0 if m & s else 1 for m in chain_masks)
+        unions[table] = unions.get(table, 0) | s
+    return unions
+
+
+def reading_tests():
+    for scheme, n, d in layouts(12):
+        unions = given_tables(scheme, n, d)
+        count = db.values(scheme, n, d)
+
+        def one(table):
+            want = unions.get(table)
+            want = None if want is None else db.unmask(want)
+            got = db.list_by_candidates(scheme, n, d, table)
+            if got != want:
+                expect(f"candidates {scheme} {n} {d} {table}", got, want)
+            if d <= 6 and db.list_by_subsets(scheme, n, d, table) != want:
+                expect(f"subsets {scheme} {n} {d} {table}", False, True)
+            return 1
+
+        tried = 0
+        if count <= 15:
+            for k in range(1 << count):
+                tried += one(tuple(k >> i & 1 for i in range(count)))
+        else:
+            flip = 0
+            for table in unions:
+                tried += one(table)
+                other = list(table)
+                other[flip % count] ^= 1
+                tried += one(tuple(other))
+                other[flip // count % count] ^= 1
+                tried += one(tuple(other))
+                flip += 1
+        expect(f"reading {scheme} {n} {d}", tried >= len(unions), True)
+
+    for scheme, n, f, d in cases(10):
+        for table, union in given_tables(scheme, n, d).items():
+            result, listed = read_list(scheme, n, f, d, table + (9,))
+            expect("list", listed, db.unmask(union))
+            if union == 0:
+                expect("clean", result, db.Reading("clean", last_good=d))
+                continue
+            black = [g for g in range(n, d + 1, n)
+                     if table[db.values(scheme, n, g) - 1] == 1]
+            expect("numbers", result, db.Reading(
+                "changed", 0, len(listed), listed[0],
+                max(d - f * n, listed[0] - 1), d, max(black, default=0)))
+
+
+def reading_refusals():
+    def call(scheme=2, n=4, f=1, d=4, outcomes=(1, 1, 1, 1), places=4):
+        buffer = [777] * places
+        result = db.read(scheme, n, f, d, list(outcomes), buffer)
+        expect("list buffer kept", buffer, [777] * places)
+        return result.refusal
+
+    expect("read accepted", call(), 0)
+    faults = [(1, dict(scheme=0)), (2, dict(n=0)), (3, dict(f=65)),
+              (7, dict(d=65_540)), (8, dict(places=3)),
+              (12, dict(outcomes=(2, 1, 1)))]
+    for k, (number, _) in enumerate(faults):
+        arguments = {}
+        for _, fault in faults[k:]:
+            arguments.update(fault)
+        expect(f"read order {number}", call(**arguments), number)
+    for outcomes, want in [((1, 1, 2, 0), 13), ((1, 1, 1, 255), 13),
+                           ((1, 1, 1, 0), 14), ((1, 1, 1, 1, 2), 0),
+                           ((1, 1, 1), 12), ((), 12)]:
+        expect("read outcomes", call(outcomes=outcomes), want)
+    expect("read 8 when clean", call(places=3), 8)
+
+
+def whole_chain():
+    """Seal, change, check, read: the days listed are those the set allows."""
+    for scheme, n, d in layouts(8):
+        days = [day_bytes(g, g % 4) for g in range(1, d + 1)]
+        ledger, ends = ledger_of(days)
+        count = db.values(scheme, n, d)
+        book = bytearray(32 * count)
+        db.seal(scheme, n, 1, d, ledger, ends, book)
+        for s in range(1 << d):
+            changed = db.unmask(s) if s else []
+            other = [day + b"\0" if g in changed else day
+                     for g, day in enumerate(days, 1)]
+            ledger2, ends2 = ledger_of(other)
+            outcomes = bytearray(count)
+            db.check(scheme, n, 1, d, ledger2, ends2, book,
+                     bytearray(32 * d), outcomes)
+            expect("table", list(outcomes), table_of(scheme, n, d, changed))
+            result, listed = read_list(scheme, n, 1, d, outcomes)
+            expect("changed days listed",
+                   (set(changed) <= set(listed), result.kind),
+                   (True, "changed" if changed else "clean"))
+        if d > 2:       # moving an end changes both days beside it
+            moved = list(ends)
+            moved[1] -= 1
+            outcomes = bytearray(count)
+            db.check(scheme, n, 1, d, ledger, moved, book,
+                     bytearray(32 * d), outcomes)
+            expect("moved end", list(outcomes),
+                   table_of(scheme, n, d, [2, 3]))
+
+
+# -------------------------------------------------------------------- program
+
+def program():
+    run = db.readtable
+    for scheme in (1, 2, 3):
+        ones = b"1" * db.values(scheme, 4, 8)
+        expect("clean", run(b"%d,4,1,8\n%s\n" % (scheme, ones)),
+               b"REF,%d,0,0,0,0,8\n" % scheme)
+    for text in [b"", b"\n", b"\n\n", b"2,4,1,8", b"2,4,1,8\n",
+                 b"2,4,1,8\n11110010", b"2,4,1,8\n11110010\n\n",
+                 b"2,4,1,8\n11110010\nx", b"2,4,1,8\r\n11110010\r\n",
+                 b"2,4,1,8\n1111 0010\n", b"2,4,1,8\n1111001x\n",
+                 b"2,4,1\n11110010\n", b"2,4,1,8,\n11110010\n",
+                 b"2,4,1,8,1\n11110010\n", b"2,4,,8\n11110010\n",
+                 b"02,4,1,8\n11110010\n", b"2,4,1,08\n11110010\n",
+                 b"2,4,00,8\n11110010\n", b"2,4,1,+8\n11110010\n",
+                 b"2,4,1,-8\n11110010\n", b" 2,4,1,8\n11110010\n",
+                 b"2,4,1,8 \n11110010\n", b"2,100000,1,8\n11110010\n",
+                 b"2;4;1;8\n11110010\n", b"2,4,1,8\n11110010\n\0",
+                 b"\xef\xbb\xbf2,4,1,8\n11110010\n",
+                 "\u0662,4,1,8\n1\n".encode(), b"2,4,1,8\n\xb2\n"]:
+        expect(f"form {text!r}", run(text), b"NO,15\n")
+    for text, want in [(b"0,0,0,257\n\n", 15), (b"0,0,0,256\n\n", 1),
+                       (b"99999,99999,99999,256\n9\n", 1),
+                       (b"99999,99999,99999,99999\n9\n", 15),
+                       (b"4,0,0,0\n\n", 1), (b"1,0,0,0\n\n", 2),
+                       (b"1,512,0,0\n\n", 2), (b"1,3,0,0\n\n", 2),
+                       (b"1,256,0,0\n\n", 3), (b"1,256,65,0\n\n", 3),
+                       (b"3,1,2,0\n\n", 3), (b"1,256,1,0\n\n", 7),
+                       (b"1,256,2,256\n\n", 7), (b"1,256,1,256\n\n", 12),
+                       (b"1,256,1,256\n22\n", 15),
+                       (b"1,256,1,256\n2\n", 13),
+                       (b"2,4,1,8\n111100100\n", 15),
+                       (b"2,4,1,8\n9999999999\n", 15),
+                       (b"2,4,1,8\n9999999\n", 12),
+                       (b"2,4,1,8\n11112010\n", 13),
+                       (b"2,4,1,8\n00002999\n", 13),
+                       (b"2,4,1,4\n1110\n", 14), (b"3,1,1,2\n110\n", 14)]:
+        expect(f"order {text!r}", run(text), b"NO,%d\n" % want)
+    expect("tile 1 1", run(b"2,1,1,1\n00\n"), b"REF,2,1,1,0,1,0\nDAY,1\n")
+    expect("one value", run(b"1,256,1,256\n1\n"), b"REF,1,0,0,0,0,256\n")
+    expect("all days", run(b"1,256,1,256\n0\n"), b"REF,1,256,1,0,256,0\n"
+           + b"".join(b"DAY,%d\n" % g for g in range(1, 257)))
+
+    expect("most values at D 256",
+           max(db.values(s, n, 256) for s in (1, 2, 3) for n in SIZES), 758)
+    expect("longest table", run(b"3,1,1,256\n" + b"1" * 758 + b"\n"),
+           b"REF,3,0,0,0,0,256\n")
+    # 1,024 bytes are taken for their form, 1,025 are not; with a refused
+    # scheme the two are told apart.
+    head = b"0,1,1,1\n"
+    for total, want in [(1024, 1), (1025, 15)]:
+        text = head + b"1" * (total - len(head) - 1) + b"\n"
+        expect(f"length {total}", (len(text), run(text)),
+               (total, b"NO,%d\n" % want))
+
+    table = table_of(2, 16, 64, [19, 20, 27])
+    expect("figure", run(b"2,16,2,64\n" + bytes(48 + t for t in table)
+                         + b"\n"),
+           b"REF,2,8,19,32,64,16\n"
+           + b"".join(b"DAY,%d\n" % g
+                      for g in (19, 20, 23, 24, 27, 28, 31, 32)))
+
+
+# ----------------------------------------------------------- expected outputs
+
+def expected_outputs():
+    folder = os.path.join(os.path.dirname(os.path.abspath(__file__)),
+                          "expected")
+    outputs = {f"thousand-{s}.txt": thousand.lines(s) for s in (1, 2, 3)}
+    outputs["short_ledgers.txt"] = short_ledgers.lines()
+    outputs["last_day.txt"] = last_day.lines()
+    for name, lines in outputs.items():
+        with open(os.path.join(folder, name), encoding="ascii") as file:
+            expect(name, file.read(), "\n".join(lines) + "\n")
+
+
+def main():
+    for test in (examples, sketch_mistakes, hashes, layout_tests, book_tests,
+                 call_lists, pieces, service_bounds, made_up_records,
+                 last_days, check_tests, check_refusals, reading_tests,
+                 reading_refusals, whole_chain, program, expected_outputs):
+        before = PASSED, FAILED
+        test()
+        print(f"{test.__name__}: {PASSED - before[0]} passed, "
+              f"{FAILED - before[1]} failed", flush=True)
+    print(f"{PASSED} passed, {FAILED} failed")
+    return 1 if FAILED else 0
+
+
+if __name__ == "__main__":
+    sys.exit(main())
