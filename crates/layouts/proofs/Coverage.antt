@@ -14,7 +14,7 @@ use Rattle.evidence.specs.Lists.{_among_, has, upFrom, keep}
 use Rattle.evidence.specs.Tables.{days, Within}
 use Rattle.evidence.proofs.ListLaws.{has-mem, upFrom-mem, upFrom-bounds, keep-mem, mem-keep}
 use Rattle.layouts.specs.Allowed.{divides}
-use Rattle.layouts.specs.Layouts.{lg, Name, black, tile, tree, ending, offset, covers, cover, levels, storedOnce, only, names, namesOf, named, closing, chains}
+use Rattle.layouts.specs.Layouts.{lg, Name, black, tile, tree, ending, offset, covers, cover, levels, storedOnce, blackToo, only, names, namesOf, named, closing, chains}
 
 -- a divisor of a number that is not 0 is no greater
 pub divisor-le : (w g : ℕ) → 1 ≤ g → divides w g ≡ true → w ≤ g
@@ -56,9 +56,9 @@ names-within (suc (suc (suc zero))) n g p x m = go (List·Memᴰ·append-cases (
     part : (l : ℕ) × (l among levels g) × (tree l g ≡ x) → Within g (cover n x)
     part r = rw (← (r .2)) (ending-within (2 ^ (r .0)) g (divisor-le (2 ^ (r .0)) g p (keep-mem (λ l. divides (2 ^ l) g) (upFrom 0 g) (r .0) (r .1) .1)))
 
-    go : (x among map (λ (l : ℕ). tree l g) (levels g)) ⊎ (x among only (divides n g && not (storedOnce g)) (black g ∷ [])) → Within g (cover n x)
+    go : (x among map (λ (l : ℕ). tree l g) (levels g)) ⊎ (x among only (blackToo n g) (black g ∷ [])) → Within g (cover n x)
     go (inl k) = part (Memᴰ·of-map (λ (l : ℕ). tree l g) (levels g) k)
-    go (inr k) = rw (List·Memᴰ·eq-of-singleton (only-mem (divides n g && not (storedOnce g)) (black g ∷ []) k .1)) (ending-within g g (omega arith))
+    go (inr k) = rw (List·Memᴰ·eq-of-singleton (only-mem (blackToo n g) (black g ∷ []) k .1)) (ending-within g g (omega arith))
 names-within (suc (suc (suc (suc s)))) n g p x m = elim m [ ]
 
 -- a name of the layout closes at one of its days
@@ -114,7 +114,7 @@ black-closes (suc (suc (suc zero))) n g a b p e = go (storedOnce g) refl
     once : (l : ℕ) × (l among levels g) × (2 ^ l ≡ g) → (x : Name) × (x among names 3 n g) × (cover n x ≡ ending g g)
     once r = (
       tree (r .0) g,
-      Memᴰ·append-left (only (divides n g && not (storedOnce g)) (black g ∷ [])) (Memᴰ·map (λ (l : ℕ). tree l g) (r .1)),
+      Memᴰ·append-left (only (blackToo n g) (black g ∷ [])) (Memᴰ·map (λ (l : ℕ). tree l g) (r .1)),
       ap (λ (w : ℕ). ending w g) (r .2),
     )
 
@@ -139,7 +139,7 @@ pub tree-single : (n d g : ℕ) → g among days d → (g ∷ []) among chains 3
 unfolding chains
 tree-single n d g m =
     let b = upFrom-bounds 1 d g m in
-    Memᴰ·cast (lone b) (Memᴰ·map (cover n) (named-in 3 n d m (tree 0 g) (Memᴰ·append-left (only (divides n g && not (storedOnce g)) (black g ∷ [])) (Memᴰ·map (λ (l : ℕ). tree l g) (none b)))))
+    Memᴰ·cast (lone b) (Memᴰ·map (cover n) (named-in 3 n d m (tree 0 g) (Memᴰ·append-left (only (blackToo n g) (black g ∷ [])) (Memᴰ·map (λ (l : ℕ). tree l g) (none b)))))
   where
     lone : (1 ≤ g) × (g < 1 + d) → g ∷ [] ≡ ending 1 g
     lone b = let q : g ≡ suc (g - 1) = omega arith in ap (λ (x : ℕ). x ∷ []) q

@@ -16,7 +16,7 @@ use borrow.Author.Tests.{eqb-true, eq-eqb}
 use Rattle.evidence.specs.Lists.{_among_, has, upFrom, push, keep}
 use Rattle.evidence.proofs.ListLaws.{split, true-or-false, and-both, has-mem, upFrom-mem, upFrom-bounds, keep-mem, mem-keep}
 use Rattle.layouts.specs.Allowed.{divides}
-use Rattle.layouts.specs.Layouts.{lg, Name, black, tile, tree, ending, cover, levels, storedOnce, only, names, named, closing, chains, position}
+use Rattle.layouts.specs.Layouts.{lg, Name, black, tile, tree, ending, cover, levels, storedOnce, blackToo, only, names, named, closing, chains, position}
 use Rattle.layouts.specs.Reading.{blackAt}
 use Rattle.layouts.proofs.Coverage.{divisor-le, upFrom-snoc, named-suc, named-add}
 use Rattle.layouts.proofs.Counts.{length-upFrom, below-pow, power-of}
@@ -107,7 +107,7 @@ tile-place n g i z l =
 
 tree-place : (n g l : ℕ) (z : Name) → l < length (levels g) → getD (names 3 n g) l z ≡ tree l g
 tree-place n g l z h =
-    List·getD-append (map (λ (j : ℕ). tree j g) (levels g)) (only (divides n g && not (storedOnce g)) (black g ∷ [])) z l (rw length-map h) ∙
+    List·getD-append (map (λ (j : ℕ). tree j g) (levels g)) (only (blackToo n g) (black g ∷ [])) z l (rw length-map h) ∙
     getD-map-in (λ (j : ℕ). tree j g) (levels g) l 0 z h ∙
     ap (λ (j : ℕ). tree j g) (ap (λ (r : List ℕ). getD r l 0) (levels-run g) ∙ getD-upFrom 0 (length (levels g)) l 0 h ∙ zero-add l)
 

@@ -53,6 +53,10 @@ levels g = keep (λ l. divides (2 ^ l) g) (upFrom 0 g)
 abbrev pub storedOnce : ℕ → Bool
 storedOnce g = has g (map (λ l. 2 ^ l) (levels g))
 
+-- whether black is a value of its own at g under scheme 3
+abbrev pub blackToo : ℕ → ℕ → Bool
+blackToo n g = divides n g && not (storedOnce g)
+
 abbrev pub only : Bool → List Name → List Name
 only true xs = xs
 only false xs = []
@@ -62,7 +66,7 @@ abbrev pub names : ℕ → ℕ → ℕ → List Name
 names zero n g = []
 names (suc zero) n g = only (divides n g) (black g ∷ [])
 names (suc (suc zero)) n g = only (divides n g) (map (λ i. tile i g) (upFrom 0 (suc (lg n))) ++ (black g ∷ []))
-names (suc (suc (suc zero))) n g = map (λ l. tree l g) (levels g) ++ only (divides n g && not (storedOnce g)) (black g ∷ [])
+names (suc (suc (suc zero))) n g = map (λ l. tree l g) (levels g) ++ only (blackToo n g) (black g ∷ [])
 names (suc (suc (suc (suc s)))) n g = []
 
 abbrev pub namesOf : ℕ → ℕ → List ℕ → List Name
