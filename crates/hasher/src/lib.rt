@@ -1,0 +1,194 @@
+// SHA-256 of a message that comes in pieces, and of one that is all at hand. A result is the eight words of the digest.
+ghost use mathlib.Core.Path.{_≡_};
+ghost use mathlib.Core.List.{[], _∷_, _++_};
+ghost use Prim.Native.Nat.{_+_, _*_, _≤_};
+ghost use lib.ListN.{length, take};
+ghost use Rattle.sha256.specs.Sha256.{words, wide, hashed, bytesOf};
+ghost use Rattle.hasher.specs.Hasher as spec;
+ghost use Rattle.hasher.specs.Hasher.{filled};
+ghost use Rattle.hasher.specs.Link as form;
+
+// What the bytes of a message have come to: the hash value of its whole blocks, and the bytes since the last, followed by
+// zeros. How many bytes came is the caller's to know.
+pub struct Hasher {
+    pub words: [u32; 8],
+    pub block: [u8; 64],
+}
+
+// A block of the first at bytes of b, those of s, and zeros.
+fn fill(b: [u8; 64], at: usize, s: &[u8]) -> [u8; 64]
+    requires { ⌜ at + length (now s) ≤ 64 ⌝ }
+    ensures { λ r. ⌜ r ≡ filled (take at b ++ now (s .entry)) ⌝ }
+{
+    let mut r = [0u8; 64];
+    let mut i = 0;
+    while i < at {
+        r[i] = b[i];
+        i += 1;
+    }
+    let mut j = 0;
+    while j < s.len() {
+        r[at + j] = s[j];
+        j += 1;
+    }
+    r
+}
+
+// What the bytes of s leave, after the hash value h.
+fn onward(h: [u32; 8], s: &[u8]) -> Hasher
+    ensures { λ r. ⌜ r ≡ spec.onward h (now (s .entry)) ⌝ }
+{
+    let g = sha256::blocks(h, s);
+    let a = s.len() / 64 * 64;
+    let z = [0u8; 64];
+    let b = fill(z, 0, &s[a..]);
+    Hasher { words: g, block: b }
+}
+
+// No byte yet.
+pub fn empty() -> Hasher
+    ensures { λ r. ⌜ r ≡ spec.begun [] ⌝ }
+{
+    let h = sha256::initial();
+    Hasher {
+        words: h,
+        block: [0u8; 64],
+    }
+}
+
+// The byte first.
+pub fn begin(first: u8) -> Hasher
+    ensures { λ r. ⌜ r ≡ spec.begun (first ∷ []) ⌝ }
+{
+    let h = sha256::initial();
+    let mut b = [0u8; 64];
+    b[0] = first;
+    Hasher { words: h, block: b }
+}
+
+// One piece more, after count bytes. A block is compressed in the call that fills it.
+pub fn absorb(st: Hasher, count: u64, s: &[u8]) -> Hasher
+    ensures { λ r. ⌜ r ≡ spec.absorbed st count (now (s .entry)) ⌝ }
+{
+    let n = (count % 64) as usize;
+    let h = st.words;
+    let b = st.block;
+    if n == 0 {
+        return onward(h, s);
+    }
+    let room = 64 - n;
+    if s.len() < room {
+        let c = fill(b, n, s);
+        return Hasher { words: h, block: c };
+    }
+    let c = fill(b, n, &s[..room]);
+    let g = sha256::blocks(h, &c);
+    onward(g, &s[room..])
+}
+
+// A block whose last eight bytes are the bits of count bytes.
+fn ended(b: [u8; 64], count: u64) -> [u8; 64]
+    ensures { λ r. ⌜ r ≡ take 56 b ++ wide (8 * count) ⌝ }
+{
+    let mut r = b;
+    r[56] = (count / 9007199254740992 % 256) as u8;
+    r[57] = (count / 35184372088832 % 256) as u8;
+    r[58] = (count / 137438953472 % 256) as u8;
+    r[59] = (count / 536870912 % 256) as u8;
+    r[60] = (count / 2097152 % 256) as u8;
+    r[61] = (count / 8192 % 256) as u8;
+    r[62] = (count / 32 % 256) as u8;
+    r[63] = (count % 32 * 8) as u8;
+    r
+}
+
+// The digest, after count bytes.
+pub fn finish(st: Hasher, count: u64) -> [u32; 8]
+    ensures { λ r. ⌜ r ≡ spec.finished st count ⌝ }
+{
+    let n = (count % 64) as usize;
+    let h = st.words;
+    let b = st.block;
+    let one = [128u8];
+    let c = fill(b, n, &one);
+    if n < 56 {
+        let d = ended(c, count);
+        return sha256::blocks(h, &d);
+    }
+    let g = sha256::blocks(h, &c);
+    let z = [0u8; 64];
+    let d = ended(z, count);
+    sha256::blocks(g, &d)
+}
+
+// The digest of the byte first and the bytes of s.
+pub fn digest(first: u8, s: &[u8]) -> [u32; 8]
+    ensures { λ r. ⌜ r ≡ hashed (first ∷ now (s .entry)) ⌝ }
+{
+    let st = absorb(begin(first), 1, s);
+    finish(st, s.len() as u64 + 1)
+}
+
+// The word of the last byte of a and the first three bytes of b.
+fn across(a: u32, b: u32) -> u32
+    ensures { λ r. ⌜ r ≡ form.across a b ⌝ }
+{
+    a % 256 * 16777216 + b / 256
+}
+
+// The words of the first block of the byte 1 and the bytes of v and of h; and of the second, the padding with them.
+fn front(v: [u32; 8], h: [u32; 8]) -> [u32; 16]
+    ensures { λ r. ⌜ r ≡ form.front v h ⌝ }
+{
+    [
+        across(1, v[0]),
+        across(v[0], v[1]),
+        across(v[1], v[2]),
+        across(v[2], v[3]),
+        across(v[3], v[4]),
+        across(v[4], v[5]),
+        across(v[5], v[6]),
+        across(v[6], v[7]),
+        across(v[7], h[0]),
+        across(h[0], h[1]),
+        across(h[1], h[2]),
+        across(h[2], h[3]),
+        across(h[3], h[4]),
+        across(h[4], h[5]),
+        across(h[5], h[6]),
+        across(h[6], h[7]),
+    ]
+}
+
+fn back(h: [u32; 8]) -> [u32; 16]
+    ensures { λ r. ⌜ r ≡ form.back h ⌝ }
+{
+    [
+        across(h[7], 0x80000000),
+        0,
+        0,
+        0,
+        0,
+        0,
+        0,
+        0,
+        0,
+        0,
+        0,
+        0,
+        0,
+        0,
+        0,
+        520,
+    ]
+}
+
+// The digest of the byte 1, the bytes of v and the bytes of h: two blocks, whose words are those of v and h, a byte on.
+pub fn link(v: [u32; 8], h: [u32; 8]) -> [u32; 8]
+    ensures { λ r. ⌜ r ≡ hashed (1 ∷ (bytesOf v ++ bytesOf h)) ⌝ }
+{
+    let m = front(v, h);
+    let n = back(h);
+    let g = sha256::compress(sha256::initial(), m);
+    sha256::compress(g, n)
+}

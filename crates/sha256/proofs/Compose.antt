@@ -1,0 +1,118 @@
+-- A definition of SHA-256 from the values that the code computes one after the other.
+-- Assumes nothing.
+use Prim.Native.Nat.{ℕ, _+_}
+use mathlib.Core.Path.{_≡_, sym, ap, ap₂, _∙_}
+use native.Mathlib.Nat.{add-zero}
+use mathlib.Core.List.{List, [], _∷_}
+use lib.ListN.{getD}
+use Rattle.sha256.specs.Sha256.{plus, wordAt, words, first, second, turned, round, summed}
+use Rattle.sha256.specs.Window.{mixed, slid, slides, roundsOn}
+
+pub round-of : (v : List ℕ) (k w : ℕ) {x y p q : ℕ}
+    → x ≡ first (getD v 4 0) (getD v 5 0) (getD v 6 0) (getD v 7 0) k w
+    → y ≡ second (getD v 0 0) (getD v 1 0) (getD v 2 0)
+    → p ≡ plus x y
+    → q ≡ plus (getD v 3 0) x
+    → p ∷ getD v 0 0 ∷ getD v 1 0 ∷ getD v 2 0 ∷ q ∷ getD v 4 0 ∷ getD v 5 0 ∷ getD v 6 0 ∷ [] ≡ round v k w
+unfolding round turned
+round-of v k w hx hy hp hq = cc
+
+pub summed-of : (h v : List ℕ) {a b c d e f g i : ℕ}
+    → a ≡ plus (getD h 0 0) (getD v 0 0)
+    → b ≡ plus (getD h 1 0) (getD v 1 0)
+    → c ≡ plus (getD h 2 0) (getD v 2 0)
+    → d ≡ plus (getD h 3 0) (getD v 3 0)
+    → e ≡ plus (getD h 4 0) (getD v 4 0)
+    → f ≡ plus (getD h 5 0) (getD v 5 0)
+    → g ≡ plus (getD h 6 0) (getD v 6 0)
+    → i ≡ plus (getD h 7 0) (getD v 7 0)
+    → a ∷ b ∷ c ∷ d ∷ e ∷ f ∷ g ∷ i ∷ [] ≡ summed h v
+unfolding summed
+summed-of h v ha hb hc hd he hf hg hi = cc
+
+pub words-of : (b : List ℕ) {w0 w1 w2 w3 w4 w5 w6 w7 w8 w9 w10 w11 w12 w13 w14 w15 : ℕ}
+    → w0 ≡ wordAt b 0
+    → w1 ≡ wordAt b 4
+    → w2 ≡ wordAt b 8
+    → w3 ≡ wordAt b 12
+    → w4 ≡ wordAt b 16
+    → w5 ≡ wordAt b 20
+    → w6 ≡ wordAt b 24
+    → w7 ≡ wordAt b 28
+    → w8 ≡ wordAt b 32
+    → w9 ≡ wordAt b 36
+    → w10 ≡ wordAt b 40
+    → w11 ≡ wordAt b 44
+    → w12 ≡ wordAt b 48
+    → w13 ≡ wordAt b 52
+    → w14 ≡ wordAt b 56
+    → w15 ≡ wordAt b 60
+    → w0 ∷ w1 ∷ w2 ∷ w3 ∷ w4 ∷ w5 ∷ w6 ∷ w7 ∷ w8 ∷ w9 ∷ w10 ∷ w11 ∷ w12 ∷ w13 ∷ w14 ∷ w15 ∷ [] ≡ words b
+unfolding words
+words-of b e0 e1 e2 e3 e4 e5 e6 e7 e8 e9 e10 e11 e12 e13 e14 e15 =
+    rw (e0, e1, e2, e3, e4, e5, e6, e7, e8, e9, e10, e11, e12, e13, e14, e15)
+
+pub slid-of : (w : List ℕ) {x : ℕ} → x ≡ mixed (getD w 14 0) (getD w 9 0) (getD w 1 0) (getD w 0 0)
+    → getD w 1 0 ∷ getD w 2 0 ∷ getD w 3 0 ∷ getD w 4 0 ∷ getD w 5 0 ∷ getD w 6 0 ∷ getD w 7 0 ∷ getD w 8 0 ∷ getD w 9 0 ∷ getD w 10 0 ∷ getD w 11 0 ∷ getD w 12 0 ∷ getD w 13 0 ∷ getD w 14 0 ∷ getD w 15 0 ∷ x ∷ [] ≡ slid w
+unfolding slid
+slid-of w e = rw e
+
+-- sixteen calls, one on the other's result
+pub slides-of : (w : List ℕ) {w1 w2 w3 w4 w5 w6 w7 w8 w9 w10 w11 w12 w13 w14 w15 w16 : List ℕ}
+    → w1 ≡ slid w
+    → w2 ≡ slid w1
+    → w3 ≡ slid w2
+    → w4 ≡ slid w3
+    → w5 ≡ slid w4
+    → w6 ≡ slid w5
+    → w7 ≡ slid w6
+    → w8 ≡ slid w7
+    → w9 ≡ slid w8
+    → w10 ≡ slid w9
+    → w11 ≡ slid w10
+    → w12 ≡ slid w11
+    → w13 ≡ slid w12
+    → w14 ≡ slid w13
+    → w15 ≡ slid w14
+    → w16 ≡ slid w15
+    → w16 ≡ slides 16 w
+unfolding slides
+slides-of w e1 e2 e3 e4 e5 e6 e7 e8 e9 e10 e11 e12 e13 e14 e15 e16 =
+    e16 ∙ ap slid (e15 ∙ ap slid (e14 ∙ ap slid (e13 ∙ ap slid (e12 ∙ ap slid (e11 ∙ ap slid (e10 ∙ ap slid (e9 ∙ ap slid (e8 ∙ ap slid (e7 ∙ ap slid (e6 ∙ ap slid (e5 ∙ ap slid (e4 ∙ ap slid (e3 ∙ ap slid (e2 ∙ ap slid (e1)))))))))))))))
+
+pub rounds-of : (v w k : List ℕ) (t : ℕ) {v1 v2 v3 v4 v5 v6 v7 v8 v9 v10 v11 v12 v13 v14 v15 v16 : List ℕ}
+    → v1 ≡ round v (getD k t 0) (getD w 0 0)
+    → v2 ≡ round v1 (getD k (t + 1) 0) (getD w 1 0)
+    → v3 ≡ round v2 (getD k (t + 2) 0) (getD w 2 0)
+    → v4 ≡ round v3 (getD k (t + 3) 0) (getD w 3 0)
+    → v5 ≡ round v4 (getD k (t + 4) 0) (getD w 4 0)
+    → v6 ≡ round v5 (getD k (t + 5) 0) (getD w 5 0)
+    → v7 ≡ round v6 (getD k (t + 6) 0) (getD w 6 0)
+    → v8 ≡ round v7 (getD k (t + 7) 0) (getD w 7 0)
+    → v9 ≡ round v8 (getD k (t + 8) 0) (getD w 8 0)
+    → v10 ≡ round v9 (getD k (t + 9) 0) (getD w 9 0)
+    → v11 ≡ round v10 (getD k (t + 10) 0) (getD w 10 0)
+    → v12 ≡ round v11 (getD k (t + 11) 0) (getD w 11 0)
+    → v13 ≡ round v12 (getD k (t + 12) 0) (getD w 12 0)
+    → v14 ≡ round v13 (getD k (t + 13) 0) (getD w 13 0)
+    → v15 ≡ round v14 (getD k (t + 14) 0) (getD w 14 0)
+    → v16 ≡ round v15 (getD k (t + 15) 0) (getD w 15 0)
+    → v16 ≡ roundsOn v w k t 16
+unfolding roundsOn
+rounds-of v w k t e1 e2 e3 e4 e5 e6 e7 e8 e9 e10 e11 e12 e13 e14 e15 e16 =
+    e16
+    ∙ ap (λ (u : List ℕ). round u (getD k (t + 15) 0) (getD w 15 0)) (e15
+    ∙ ap (λ (u : List ℕ). round u (getD k (t + 14) 0) (getD w 14 0)) (e14
+    ∙ ap (λ (u : List ℕ). round u (getD k (t + 13) 0) (getD w 13 0)) (e13
+    ∙ ap (λ (u : List ℕ). round u (getD k (t + 12) 0) (getD w 12 0)) (e12
+    ∙ ap (λ (u : List ℕ). round u (getD k (t + 11) 0) (getD w 11 0)) (e11
+    ∙ ap (λ (u : List ℕ). round u (getD k (t + 10) 0) (getD w 10 0)) (e10
+    ∙ ap (λ (u : List ℕ). round u (getD k (t + 9) 0) (getD w 9 0)) (e9
+    ∙ ap (λ (u : List ℕ). round u (getD k (t + 8) 0) (getD w 8 0)) (e8
+    ∙ ap (λ (u : List ℕ). round u (getD k (t + 7) 0) (getD w 7 0)) (e7
+    ∙ ap (λ (u : List ℕ). round u (getD k (t + 6) 0) (getD w 6 0)) (e6
+    ∙ ap (λ (u : List ℕ). round u (getD k (t + 5) 0) (getD w 5 0)) (e5
+    ∙ ap (λ (u : List ℕ). round u (getD k (t + 4) 0) (getD w 4 0)) (e4
+    ∙ ap (λ (u : List ℕ). round u (getD k (t + 3) 0) (getD w 3 0)) (e3
+    ∙ ap (λ (u : List ℕ). round u (getD k (t + 2) 0) (getD w 2 0)) (e2
+    ∙ ap (λ (u : List ℕ). round u (getD k (t + 1) 0) (getD w 1 0)) (e1 ∙ ap (λ (n : ℕ). round v (getD k n 0) (getD w 0 0)) (sym (add-zero t)))))))))))))))))

@@ -1,0 +1,157 @@
+-- The schedule's recursion, and the window that slides over it, up to a block's compression.
+-- Assumes nothing.
+use Prim.Native.Nat.{ℕ, zero, suc, _+_, _-_, _*_, _≤_, _<_}
+use mathlib.Core.Path.{_≡_, refl, sym, ap, ap₂, _∙_}
+use mathlib.Core.List.{List, [], _∷_, _++_}
+use native.Mathlib.Omega.{arith}
+use native.Mathlib.Nat.{add-suc, add-zero}
+use native.Mathlib.Numerals.{add-one}
+use borrow.Author.Tests.{lt-ltb, le-ltb}
+use lib.ListN.{length, getD, take, drop, length-append, length-take, length-drop, drop-of-length-le}
+use lib.Seq.{take-suc, getD-take, getD-drop, take-all, take-at, take-append-le, getD-at, drop-cons, length-take-le}
+use Rattle.sha256.specs.Sha256.{kTable, later, pick, scheduled, grown, schedule, round, rounds, compress, summed}
+use Rattle.sha256.specs.Window.{window, mixed, slid, slides, roundsOn}
+
+-- ---- the schedule's words
+
+length-schedule : (m : List ℕ) (n : ℕ) → length (schedule m n) ≡ n
+unfolding schedule grown
+length-schedule m zero = refl
+length-schedule m (suc n) =
+    length-append (schedule m n) (scheduled m (schedule m n) n ∷ []) ∙ omega (arith, length-schedule m n)
+
+-- its first sixteen are the block's
+begins : (m : List ℕ) (t : ℕ) → length m ≡ 16 → t ≤ 16 → schedule m t ≡ take t m
+unfolding schedule grown scheduled
+begins m zero e l = refl
+begins m (suc t) e l =
+    rw (lt-ltb t 16 (omega arith), take-suc m t 0 (omega arith), begins m t e (omega arith))
+
+-- the schedule of fewer words is a beginning of that of more
+prefix : (m : List ℕ) (i k : ℕ) → take i (schedule m (i + k)) ≡ schedule m i
+unfolding schedule grown
+prefix m i zero = rw add-zero (take-all i (schedule m i) (omega (arith, length-schedule m i)))
+prefix m i (suc k) =
+    rw add-suc
+    (take-append-le i (schedule m (i + k)) (scheduled m (schedule m (i + k)) (i + k) ∷ []) (omega (arith, length-schedule m (i + k)))
+    ∙ prefix m i k)
+
+before : (m : List ℕ) (i n : ℕ) → i ≤ n → take i (schedule m n) ≡ schedule m i
+before m i n l = let e : n ≡ i + (n - i) = omega arith in rw e (prefix m i (n - i))
+
+later-take : (w : List ℕ) (t : ℕ) → 16 ≤ t → later (take t w) t ≡ later w t
+unfolding later
+later-take w t h =
+    rw (getD-take t w (t - 2) 0 (omega arith), getD-take t w (t - 7) 0 (omega arith), getD-take t w (t - 15) 0 (omega arith), getD-take t w (t - 16) 0 (omega arith))
+
+last : (m : List ℕ) (i : ℕ) → getD (schedule m (suc i)) i 0 ≡ scheduled m (schedule m i) i
+unfolding schedule grown
+last m i = getD-at (schedule m i) (scheduled m (schedule m i) i) [] 0 i (length-schedule m i)
+
+-- word i + 16 of a schedule of more words, by the words before it
+recurs : (m : List ℕ) (i n : ℕ) → i + 16 < n
+    → getD (schedule m n) (i + 16) 0
+    ≡ mixed (getD (schedule m n) (i + 14) 0) (getD (schedule m n) (i + 9) 0) (getD (schedule m n) (i + 1) 0) (getD (schedule m n) i 0)
+unfolding scheduled later mixed
+recurs m i n l =
+    let e : take (suc (i + 16)) (schedule m n) ≡ schedule m (suc (i + 16)) = before m (suc (i + 16)) n l in
+    let s : take (i + 16) (schedule m n) ≡ schedule m (i + 16) = before m (i + 16) n (omega arith) in
+    let a : i + 16 - 2 ≡ i + 14 = omega arith in
+    let b′ : i + 16 - 7 ≡ i + 9 = omega arith in
+    let c : i + 16 - 15 ≡ i + 1 = omega arith in
+    let d : i + 16 - 16 ≡ i = omega arith in
+    sym (getD-take (suc (i + 16)) (schedule m n) (i + 16) 0 (omega arith)) ∙ ap (λ (w : List ℕ). getD w (i + 16) 0) e ∙ last m (i + 16)
+    ∙ rw (le-ltb (i + 16) 16 (omega arith)) (ap (λ (w : List ℕ). later w (i + 16)) (sym s) ∙ later-take (schedule m n) (i + 16) (omega arith) ∙ rw (a, b′, c, d))
+
+-- ---- the window
+
+at-window : (w : List ℕ) (t j : ℕ) → j < 16 → getD (window w t) j 0 ≡ getD w (t + j) 0
+at-window w t j l = getD-take 16 (drop t w) j 0 l ∙ getD-drop t w j 0
+
+-- n elements of x, from element j on
+gets : ℕ → ℕ → List ℕ → List ℕ
+gets j zero x = []
+gets j (suc n) x = getD x j 0 ∷ gets (suc j) n x
+
+gets-drop : (n j : ℕ) (x : List ℕ) → length x ≡ j + n → gets j n x ≡ drop j x
+unfolding gets
+gets-drop zero j x e = sym (drop-of-length-le x {i = j} (omega arith))
+gets-drop (suc n) j x e = ap (λ (l : List ℕ). getD x j 0 ∷ l) (gets-drop n (suc j) x (omega arith)) ∙ sym (drop-cons x j 0 (omega arith))
+
+length-window : (w : List ℕ) (t : ℕ) → t + 16 ≤ length w → length (window w t) ≡ 16
+length-window w t l = length-take-le 16 (drop t w) (rw length-drop (omega arith))
+
+shift : (w : List ℕ) (t j : ℕ) → j < 15 → getD (window w t) (j + 1) 0 ≡ getD (window w (suc t)) j 0
+shift w t j l =
+    let e : t + (j + 1) ≡ suc t + j = omega arith in
+    at-window w t (j + 1) (omega arith) ∙ ap (λ (i : ℕ). getD w i 0) e ∙ sym (at-window w (suc t) j (omega arith))
+
+slid-last : (m : List ℕ) (n t : ℕ) → t + 17 ≤ n
+    → mixed (getD (window (schedule m n) t) 14 0) (getD (window (schedule m n) t) 9 0) (getD (window (schedule m n) t) 1 0) (getD (window (schedule m n) t) 0 0)
+    ≡ getD (window (schedule m n) (suc t)) 15 0
+slid-last m n t l =
+    let w : List ℕ = schedule m n in
+    let e : suc t + 15 ≡ t + 16 = omega arith in
+    rw (at-window w t 14 (omega arith), at-window w t 9 (omega arith), at-window w t 1 (omega arith), at-window w t 0 (omega arith), at-window w (suc t) 15 (omega arith), e, add-zero)
+    (sym (recurs m t n (omega arith)))
+
+slid-window : (m : List ℕ) (n t : ℕ) → t + 17 ≤ n → slid (window (schedule m n) t) ≡ window (schedule m n) (suc t)
+unfolding slid gets
+slid-window m n t l =
+    let w : List ℕ = schedule m n in
+    let x : List ℕ = window w (suc t) in
+    let lx : length x ≡ 16 = length-window w (suc t) (omega (arith, length-schedule m n)) in
+    rw (slid-last m n t l, shift w t 0 (omega arith), shift w t 1 (omega arith), shift w t 2 (omega arith), shift w t 3 (omega arith), shift w t 4 (omega arith), shift w t 5 (omega arith), shift w t 6 (omega arith), shift w t 7 (omega arith), shift w t 8 (omega arith), shift w t 9 (omega arith), shift w t 10 (omega arith), shift w t 11 (omega arith), shift w t 12 (omega arith), shift w t 13 (omega arith), shift w t 14 (omega arith))
+    (gets-drop 16 0 x lx)
+
+slides-window : (m : List ℕ) (k t n : ℕ) → t + n + 16 ≤ k → slides n (window (schedule m k) t) ≡ window (schedule m k) (t + n)
+unfolding slides
+slides-window m k t zero l = rw add-zero
+slides-window m k t (suc n) l =
+    rw add-suc (ap slid (slides-window m k t n (omega arith)) ∙ slid-window m k (t + n) (omega arith))
+
+rounds-window : (h w : List ℕ) (t n : ℕ) → n ≤ 16 → roundsOn (rounds h w t) (window w t) kTable t n ≡ rounds h w (t + n)
+unfolding roundsOn rounds
+rounds-window h w t zero l = rw add-zero
+rounds-window h w t (suc n) l =
+    rw (add-suc, at-window w t n l) (ap (λ (v : List ℕ). round v (getD kTable (t + n) 0) (getD w (t + n) 0)) (rounds-window h w t n (omega arith)))
+
+-- ---- the four groups of sixteen rounds
+
+module _ (h m : List ℕ) (sixteen : length m ≡ 16) where
+  abbrev all : List ℕ
+  all = schedule m 64
+
+  start : m ≡ window all 0
+  start = sym (take-all 16 m (omega arith)) ∙ sym (begins m 16 sixteen (omega arith)) ∙ sym (before m 16 64 (omega arith))
+
+  group : (t : ℕ) {w v k u : List ℕ} → k ≡ kTable → w ≡ window all t → v ≡ rounds h all t → u ≡ roundsOn v w k t 16 → u ≡ rounds h all (t + 16)
+  group t ek ew ev eu = eu ∙ rw (ek, ew, ev) (rounds-window h all t 16 (omega arith))
+
+  along : (t : ℕ) {w x : List ℕ} → t + 32 ≤ 64 → w ≡ window all t → x ≡ slides 16 w → x ≡ window all (t + 16)
+  along t l ew ex = ex ∙ rw ew (slides-window m 64 t 16 (omega arith))
+
+  none : h ≡ rounds h all 0
+  unfolding rounds
+  none = refl
+
+  pub compress-of : {k w1 w2 w3 v0 v1 v2 v3 r : List ℕ} → k ≡ kTable
+      → v0 ≡ roundsOn h m k 0 16
+      → w1 ≡ slides 16 m
+      → v1 ≡ roundsOn v0 w1 k 16 16
+      → w2 ≡ slides 16 w1
+      → v2 ≡ roundsOn v1 w2 k 32 16
+      → w3 ≡ slides 16 w2
+      → v3 ≡ roundsOn v2 w3 k 48 16
+      → r ≡ summed h v3
+      → r ≡ compress h m
+  unfolding compress
+  compress-of {w1} {w2} {w3} {v0} {v1} {v2} {v3} ek f0 e1 f1 e2 f2 e3 f3 er =
+      let c0 : v0 ≡ rounds h all 16 = group 0 ek start none f0 in
+      let a1 : w1 ≡ window all 16 = along 0 (omega arith) start e1 in
+      let c1 : v1 ≡ rounds h all 32 = group 16 ek a1 c0 f1 in
+      let a2 : w2 ≡ window all 32 = along 16 (omega arith) a1 e2 in
+      let c2 : v2 ≡ rounds h all 48 = group 32 ek a2 c1 f2 in
+      let a3 : w3 ≡ window all 48 = along 32 (omega arith) a2 e3 in
+      let c3 : v3 ≡ rounds h all 64 = group 48 ek a3 c2 f3 in
+      er ∙ ap (summed h) c3
