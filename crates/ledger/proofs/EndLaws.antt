@@ -1,0 +1,170 @@
+-- Laws of the ends of days, and of the refusals 9 and 10.
+use mathlib.Core.Path.{_≡_, refl, sym, ap, _∙_}
+use mathlib.Core.Logic.{_⊎_, inl, inr}
+use mathlib.Core.Bool.{Bool, true, false, _&&_, cond}
+use mathlib.Core.List.{List}
+use Prim.Native.Nat.{ℕ, zero, suc, _+_, _-_, _≤_, _<_}
+use native.Mathlib.Nat.{eq-or-lt-of-le, le-refl}
+use native.Mathlib.Numerals.{add-one}
+use native.Mathlib.Omega.{arith}
+use lib.Dec.{leb, ltb}
+use lib.ListN.{length, take}
+use lib.Seq.{getD-take, take-all, length-take-le}
+use borrow.Author.Tests.{ltb-false, lt-ltb, le-ltb, leb-true, leb-false, le-leb}
+use Rattle.ledger.specs.Ledger.{dayLimit, startOf, endOf, goodEnd, goodEnds, endsRefusal, EndsHold}
+
+-- ---- tests
+
+true-or-false : {b : Bool} → b ≡ true → b ≡ false → ⊥
+true-or-false {b} p q = let z : _≡_ {A = ℕ} 0 1 = cc in omega arith
+
+and-both : (a b : Bool) → a && b ≡ true → (a ≡ true) × (b ≡ true)
+and-both true b e = (refl, e)
+and-both false b e = absurd (true-or-false e refl)
+
+-- ---- one end
+
+-- what the test of one end says
+pub good-end : (s e size : ℕ) → goodEnd s e size ≡ true → (s ≤ e) × (e ≤ size) × (e - s ≤ dayLimit)
+good-end s e size h =
+    let b = and-both (leb s e && leb e size) (leb (e - s) dayLimit) h in
+    let a = and-both (leb s e) (leb e size) (b .0) in
+    (leb-true s e (a .0), leb-true e size (a .1), leb-true (e - s) dayLimit (b .1))
+
+pub end-good : (s e size : ℕ) → s ≤ e → e ≤ size → e - s ≤ dayLimit → goodEnd s e size ≡ true
+end-good s e size p q r = rw (le-leb s e p, le-leb e size q, le-leb (e - s) dayLimit r)
+
+-- every day but day 1 starts where the one before ends
+pub start-later : (ends : List ℕ) (i : ℕ) → 1 ≤ i → startOf ends i ≡ endOf ends (i - 1)
+start-later ends zero h = absurd (omega arith)
+start-later ends (suc i) h = ap (endOf ends) (let e : i ≡ suc i - 1 = omega arith in e)
+
+-- ---- the first d ends
+
+-- the test of the first d ends is the test of each
+pub good-at : (d : ℕ) (ends : List ℕ) (size i : ℕ) → goodEnds d ends size ≡ true → i < d → goodEnd (startOf ends i) (endOf ends i) size ≡ true
+good-at zero ends size i h l = absurd (omega arith)
+good-at (suc d) ends size i h l = go (λ m. good-at d ends size i (b .0) m) (eq-or-lt-of-le l)
+  where
+    b : (goodEnds d ends size ≡ true) × (goodEnd (startOf ends d) (endOf ends d) size ≡ true)
+    b = and-both (goodEnds d ends size) (goodEnd (startOf ends d) (endOf ends d) size) h
+
+    go : (i < d → goodEnd (startOf ends i) (endOf ends i) size ≡ true) → (suc i ≡ suc d) ⊎ (suc i < suc d) → goodEnd (startOf ends i) (endOf ends i) size ≡ true
+    go rec (inl e) = let q : i ≡ d = omega arith in rw q (b .1)
+    go rec (inr m) = rec (omega arith)
+
+pub at-good : (d : ℕ) (ends : List ℕ) (size : ℕ) → ((i : ℕ) → i < d → goodEnd (startOf ends i) (endOf ends i) size ≡ true) → goodEnds d ends size ≡ true
+at-good zero ends size f = refl
+at-good (suc d) ends size f = rw (at-good d ends size (λ i l. f i (omega arith)), f d (omega arith))
+
+-- one more end that is good
+pub good-more : (ends : List ℕ) (size i : ℕ) → goodEnds i ends size ≡ true → goodEnd (startOf ends i) (endOf ends i) size ≡ true → goodEnds (suc i) ends size ≡ true
+good-more ends size i p q = rw (p, q)
+
+-- one that is not, among the first d
+pub bad-at : (d : ℕ) (ends : List ℕ) (size i : ℕ) → i < d → goodEnd (startOf ends i) (endOf ends i) size ≡ false → goodEnds d ends size ≡ false
+bad-at d ends size i l e = go (goodEnds d ends size) refl
+  where
+    go : (b : Bool) → goodEnds d ends size ≡ b → b ≡ false
+    go true h = absurd (true-or-false (good-at d ends size i h l) e)
+    go false h = refl
+
+-- ---- the refusal
+
+pub refusal-few : (d : ℕ) (ends : List ℕ) (size : ℕ) → length ends < d → endsRefusal d ends size ≡ 9
+unfolding endsRefusal
+refusal-few d ends size l = rw (lt-ltb (length ends) d l)
+
+pub refusal-bad : (d : ℕ) (ends : List ℕ) (size i : ℕ) → d ≤ length ends → i < d → goodEnd (startOf ends i) (endOf ends i) size ≡ false → endsRefusal d ends size ≡ 10
+unfolding endsRefusal
+refusal-bad d ends size i m l e = rw (le-ltb (length ends) d m, bad-at d ends size i l e)
+
+pub refusal-good : (d : ℕ) (ends : List ℕ) (size i : ℕ) → goodEnds i ends size ≡ true → i ≡ d → d ≤ length ends → endsRefusal d ends size ≡ 0
+unfolding endsRefusal
+refusal-good d ends size i e q m = rw (le-ltb (length ends) d m, ← q, e)
+
+-- ---- a program's test of the end at i, from the parts that it computed
+
+module _ (ends : List ℕ) (size i s e : ℕ) (b : Bool) (start : s ≡ startOf ends i) (end : e ≡ endOf ends i) (test : b ≡ goodEnd s e size) where
+  tested : b ≡ goodEnd (startOf ends i) (endOf ends i) size
+  tested = rw (← start, ← end) test
+
+  pub test-good : b ≡ true → goodEnds i ends size ≡ true → goodEnds (i + 1) ends size ≡ true
+  test-good q p = rw (add-one i) (good-more ends size i p (sym tested ∙ q))
+
+  pub test-bad : b ≡ false → (d : ℕ) → d ≤ length ends → i < d → endsRefusal d ends size ≡ 10
+  test-bad q d m l = refusal-bad d ends size i m l (sym tested ∙ q)
+
+-- ---- no refusal
+
+none-tests : (few good : Bool) → _≡_ {A = ℕ} (cond few 9 (cond good 0 10)) 0 → (few ≡ false) × (good ≡ true)
+none-tests true good e = absurd (let z : _≡_ {A = ℕ} 9 0 = e in omega arith)
+none-tests false true e = (refl, refl)
+none-tests false false e = absurd (let z : _≡_ {A = ℕ} 10 0 = e in omega arith)
+
+-- there are d ends, and each of the first d is good
+pub refusal-none : (d : ℕ) (ends : List ℕ) (size : ℕ) → endsRefusal d ends size ≡ 0 → EndsHold d ends size
+unfolding endsRefusal
+refusal-none d ends size e =
+    let t = none-tests (ltb (length ends) d) (goodEnds d ends size) e in
+    let g : (i : ℕ) → i < d → (startOf ends i ≤ endOf ends i) × (endOf ends i ≤ size) × (endOf ends i - startOf ends i ≤ dayLimit) =
+    λ i l. good-end (startOf ends i) (endOf ends i) size (good-at d ends size i (t .1) l) in
+    record {
+      enough = ltb-false (length ends) d (t .0);
+      ascend = λ i l. g i l .0;
+      within = λ i l. g i l .1;
+      limited = λ i l. g i l .2;
+    }
+
+pub none-refusal : (d : ℕ) (ends : List ℕ) (size : ℕ) → EndsHold d ends size → endsRefusal d ends size ≡ 0
+none-refusal d ends size h =
+    refusal-good d ends size d
+    (at-good d ends size (λ i l. end-good (startOf ends i) (endOf ends i) size (h .ascend i l) (h .within i l) (h .limited i l))) refl (h .enough)
+
+-- ---- starts
+
+-- starts ascend
+pub start-ascends : (d : ℕ) (ends : List ℕ) → ((i : ℕ) → i < d → startOf ends i ≤ endOf ends i) → (i : ℕ) → i ≤ d → startOf ends i ≤ startOf ends d
+start-ascends zero ends a zero l = omega arith
+start-ascends zero ends a (suc i) l = absurd (omega arith)
+start-ascends (suc d) ends a i l = go (λ m. start-ascends d ends (λ k n. a k (omega arith)) i m) (eq-or-lt-of-le l)
+  where
+    go : (i ≤ d → startOf ends i ≤ startOf ends d) → (i ≡ suc d) ⊎ (i < suc d) → startOf ends i ≤ startOf ends (suc d)
+    go rec (inl e) = rw e (le-refl (startOf ends (suc d)))
+    go rec (inr m) =
+        let p = rec (omega arith) in
+        let q = a d (omega arith) in
+        omega arith
+
+-- none is beyond the ledger, the end of the last day included
+pub start-within : (d : ℕ) (ends : List ℕ) (size i : ℕ) → EndsHold d ends size → i ≤ d → startOf ends i ≤ size
+start-within d ends size zero h l = omega arith
+start-within d ends size (suc i) h l = h .within i (omega arith)
+
+-- ---- what is read
+
+pub start-front : (d : ℕ) (ends : List ℕ) (i : ℕ) → i ≤ d → startOf (take d ends) i ≡ startOf ends i
+start-front d ends zero l = refl
+start-front d ends (suc i) l = getD-take d ends i 0 l
+
+good-front : (d : ℕ) (ends : List ℕ) (size k : ℕ) → k ≤ d → goodEnds k (take d ends) size ≡ goodEnds k ends size
+good-front d ends size zero l = refl
+good-front d ends size (suc k) l =
+    let m : k ≤ d = omega arith in
+    rw (good-front d ends size k m, start-front d ends k m, getD-take d ends k 0 l)
+
+read-enough : (d : ℕ) (ends : List ℕ) (size : ℕ) → d ≤ length ends → endsRefusal d ends size ≡ endsRefusal d (take d ends) size
+unfolding endsRefusal
+read-enough d ends size l =
+    let m : d ≤ length (take d ends) = rw (length-take-le d ends l) (le-refl d) in
+    rw (le-ltb (length ends) d l, le-ltb (length (take d ends)) d m, good-front d ends size d (le-refl d))
+
+-- the refusal looks at the first d ends only
+pub refusal-read : (d : ℕ) (ends : List ℕ) (size : ℕ) → endsRefusal d ends size ≡ endsRefusal d (take d ends) size
+refusal-read d ends size = go (leb d (length ends)) refl
+  where
+    go : (b : Bool) → leb d (length ends) ≡ b → endsRefusal d ends size ≡ endsRefusal d (take d ends) size
+    go true e = read-enough d ends size (leb-true d (length ends) e)
+    go false e =
+        let l = leb-false d (length ends) e in
+        rw (take-all d ends (omega arith))

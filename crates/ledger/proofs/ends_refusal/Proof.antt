@@ -1,0 +1,68 @@
+-- The loop's invariant: the first i ends are good. The measure is what is left of the days.
+use Prim.Native.Nat.{_≤_, _-_}
+use mathlib.Core.Path.{_≡_, sym, refl}
+use mathlib.Core.Bool.{true}
+use native.Mathlib.Omega.{arith}
+use borrow.Author.Needs.{needs}
+use borrow.Author.Tests.{not-true, not-false}
+use Rattle.ledger.specs.Ledger.{goodEnds}
+use Rattle.ledger.proofs.EndLaws.{refusal-few, refusal-good, test-good, test-bad}
+use Rattle.ledger.proofs.ends_refusal.Statement.{statement}
+use Rattle.ledger.proofs.ends_refusal.Tie as tie
+
+abbrev Inv-loop : tie.InvT-loop
+Inv-loop d ends size days i₀ i = (i ≤ days) × (goodEnds i ends size ≡ true)
+
+abbrev μ-loop : tie.MeasureT-loop
+μ-loop d ends size days i₀ i = days - i
+
+wide-requires : tie.Need-wide-requires Inv-loop μ-loop
+wide-requires c κs = search needs
+
+returns : tie.Need-returns Inv-loop μ-loop
+returns c = sym (refusal-few _ _ _ (omega arith))
+
+loop-holds : tie.Need-loop-holds Inv-loop μ-loop
+loop-holds c = (search needs, refl)
+
+start-of-requires : tie.Need-start-of-requires Inv-loop μ-loop
+start-of-requires c κs = search needs
+
+end-of-requires : tie.Need-end-of-requires Inv-loop μ-loop
+end-of-requires c κs = search needs
+
+good-end-requires : tie.Need-good-end-requires Inv-loop μ-loop
+good-end-requires c κs = search needs
+
+returns-2 : tie.Need-returns-2 Inv-loop μ-loop
+returns-2 c = sym (test-bad _ _ _ _ _ _ (c .before .before .before .start-of .ensures) (c .before .before .end-of .ensures) (c .before .good-end .ensures) (not-true _ (c .if2 .taken)) _ (omega arith) (omega arith))
+
+add-i : tie.Need-add-i Inv-loop μ-loop
+add-i c = search needs
+
+loop-less : tie.Need-loop-less Inv-loop μ-loop
+loop-less c = search needs
+
+loop-again : tie.Need-loop-again Inv-loop μ-loop
+loop-again c = (search needs, test-good (c .before .before .before .before .before .before .before .before .before .args .ends .now) _ (c .before .before .before .before .before .loop .i) _ _ _ (c .before .before .before .start-of .ensures) (c .before .before .end-of .ensures) (c .before .good-end .ensures) (not-false _ (c .if2 .left)) (c .before .before .before .before .before .loop .inv .1))
+
+returns-3 : tie.Need-returns-3 Inv-loop μ-loop
+returns-3 c = sym (refusal-good _ _ _ (c .before .loop .i) (c .before .loop .inv .1) (omega arith) (omega arith))
+
+pub ends-refusal-spec : {M : Type 1} → statement M
+ends-refusal-spec =
+    tie.close
+    (tie.spec
+    Inv-loop
+    μ-loop
+    wide-requires
+    returns
+    loop-holds
+    start-of-requires
+    end-of-requires
+    good-end-requires
+    returns-2
+    add-i
+    loop-less
+    loop-again
+    returns-3)

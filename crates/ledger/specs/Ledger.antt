@@ -1,0 +1,53 @@
+-- A ledger: bytes, and the ends of its days. Definitions only.
+-- Day 1 has the index 0: the day of index i is day i + 1.
+use mathlib.Core.Bool.{Bool, true, _&&_, cond}
+use mathlib.Core.List.{List, [], _∷_, _++_, map}
+use Prim.Native.Nat.{ℕ, zero, suc, _-_, _≤_, _<_}
+use lib.Dec.{leb, ltb}
+use lib.ListN.{length, getD, take, drop}
+
+-- 01's limit: the bytes that a day holds at most
+abbrev pub dayLimit : ℕ
+dayLimit = 16777216
+
+-- 01's end of a day: the number at its place
+abbrev pub endOf : List ℕ → ℕ → ℕ
+endOf ends i = getD ends i 0
+
+-- 01's start of a day: day 1 starts at 0, every other where the one before ends
+abbrev pub startOf : List ℕ → ℕ → ℕ
+startOf ends zero = 0
+startOf ends (suc i) = endOf ends i
+
+-- a day's bytes by ledger and ends: those from its start to its end
+abbrev pub dayAt : List ℕ → List ℕ → ℕ → List ℕ
+dayAt ledger ends i = take (endOf ends i - startOf ends i) (drop (startOf ends i) ledger)
+
+-- the indices 0 to d - 1
+abbrev pub upTo : ℕ → List ℕ
+upTo zero = []
+upTo (suc i) = upTo i ++ (i ∷ [])
+
+-- 01's days of a ledger: the bytes of the days 1 to d
+unfoldable pub daysOf : List ℕ → List ℕ → ℕ → List (List ℕ)
+daysOf ledger ends d = map (dayAt ledger ends) (upTo d)
+
+-- an end is not below the one before, not beyond the ledger's size, and does not make a day over its limit
+abbrev pub goodEnd : ℕ → ℕ → ℕ → Bool
+goodEnd start end size = leb start end && leb end size && leb (end - start) dayLimit
+
+-- each of the first d ends is so
+abbrev pub goodEnds : ℕ → List ℕ → ℕ → Bool
+goodEnds zero ends size = true
+goodEnds (suc i) ends size = goodEnds i ends size && goodEnd (startOf ends i) (endOf ends i) size
+
+-- 01's refusals 9 and 10, in this order; 0 where neither finds its cause
+unfoldable pub endsRefusal : ℕ → List ℕ → ℕ → ℕ
+endsRefusal d ends size = cond (ltb (length ends) d) 9 (cond (goodEnds d ends size) 0 10)
+
+-- what no refusal says; the laws `refusal-none` and `none-refusal`: it is this exactly
+pub record EndsHold (d : ℕ) (ends : List ℕ) (size : ℕ) : Type 0 where
+  pub enough : d ≤ length ends
+  pub ascend : (i : ℕ) → i < d → startOf ends i ≤ endOf ends i
+  pub within : (i : ℕ) → i < d → endOf ends i ≤ size
+  pub limited : (i : ℕ) → i < d → endOf ends i - startOf ends i ≤ dayLimit

@@ -1,0 +1,63 @@
+// The days of a ledger by 32-bit ends: refusals 9 and 10, starts and ends.
+ghost use mathlib.Core.Path.{_≡_};
+ghost use Prim.Native.Nat.{_<_, _≤_};
+ghost use lib.ListN.{length};
+ghost use Rattle.ledger.specs.Ledger.{startOf, endOf, goodEnd, endsRefusal};
+
+// The bytes that a day holds at most.
+const DAY_LIMIT: usize = 16777216;
+
+fn wide(x: u32) -> usize
+    ensures { λ r. ⌜ r ≡ x ⌝ }
+{
+    x as usize
+}
+
+// Where the day of index i starts.
+pub fn start_of(ends: &[u32], i: usize) -> usize
+    requires { ⌜ i ≤ length (now ends) ⌝ }
+    ensures { λ r. ⌜ r ≡ startOf (now (ends .entry)) i ⌝ }
+{
+    if i == 0 {
+        return 0;
+    }
+    wide(ends[i - 1])
+}
+
+// Where the day of index i ends.
+pub fn end_of(ends: &[u32], i: usize) -> usize
+    requires { ⌜ i < length (now ends) ⌝ }
+    ensures { λ r. ⌜ r ≡ endOf (now (ends .entry)) i ⌝ }
+{
+    wide(ends[i])
+}
+
+fn good_end(start: usize, end: usize, size: usize) -> bool
+    ensures { λ r. ⌜ r ≡ goodEnd start end size ⌝ }
+{
+    if end < start {
+        return false;
+    }
+    if size < end {
+        return false;
+    }
+    end - start <= DAY_LIMIT
+}
+
+// 9 for fewer than d ends, 10 for one of the first d that is not good, else 0. Ends past d are not read.
+pub fn ends_refusal(d: u32, ends: &[u32], size: usize) -> u32
+    ensures { λ r. ⌜ r ≡ endsRefusal d (now (ends .entry)) size ⌝ }
+{
+    let days = wide(d);
+    if ends.len() < days {
+        return 9;
+    }
+    let mut i = 0;
+    while i < days {
+        if !good_end(start_of(ends, i), end_of(ends, i), size) {
+            return 10;
+        }
+        i += 1;
+    }
+    0
+}
