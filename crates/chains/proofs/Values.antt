@@ -1,0 +1,161 @@
+-- The values of a day stand in the slots, in their order, and then black.
+use mathlib.Core.Path.{_≡_, refl, sym, ap, ap₂, _∙_}
+use mathlib.Core.Bool.{Bool, true, false, not, _&&_}
+use mathlib.Core.Logic.{_⊎_, inl, inr}
+use mathlib.Core.List.{List, [], _∷_, _++_, map, map-append, append-nil, List·Memᴰ, List·Memᴰ·head, List·Memᴰ·tail}
+use Prim.Native.Nat.{ℕ, zero, suc, pred, _+_, _-_, _*_, _/_, _%_, _^_, _≤_, _<_}
+use native.Mathlib.Omega.{arith}
+use lib.Dec.{eqb, leb}
+use lib.ListN.{length, getD, take, set, length-map, length-append}
+use lib.Pow.{pow-mono}
+use lib.Seq.{take-suc, take-suc-set}
+use borrow.Author.Tests.{leb-true, leb-false}
+use Rattle.evidence.specs.Lists.{_among_, upFrom, keep}
+use Rattle.evidence.proofs.ListLaws.{split, true-or-false, and-both, upFrom-mem, keep-mem}
+use Rattle.layouts.specs.Allowed.{divides, allowedScheme, allowedN}
+use Rattle.layouts.specs.Layouts.{lg, Name, black, tile, tree, levels, storedOnce, blackToo, only, names, closing, cover}
+use Rattle.layouts.proofs.AllowedLaws.{allowed-scheme-is, allowed-n-is}
+use Rattle.layouts.proofs.Coverage.{divisor-le, upFrom-snoc}
+use Rattle.layouts.proofs.Counts.{of-power, length-upFrom}
+use Rattle.layouts.proofs.Positions.{levels-run}
+use Rattle.chains.specs.declared.Value.{Value}
+use Rattle.chains.specs.Step.{linked, storesBlack, linkedSlots, restarted, current, dayValues, Stepped}
+
+-- the names of a day: m of slots, in order, then black where it is a value of its own
+pub record InSlots (s n g : ℕ) : Type 0 where
+  pub many : ℕ
+  pub few : many ≤ 17
+  pub name : ℕ → Name
+  pub are : names s n g ≡ map name (upFrom 0 many) ++ only (storesBlack s n g) (black g ∷ [])
+  pub slot : (b : Value) (slots : List Value) (i : ℕ) → current b slots (name i) ≡ getD slots i b
+  pub room : storesBlack s n g ≡ true → many ≤ 16
+
+-- a level that ends at a day is at most 16
+pub level-small : (l g : ℕ) → 1 ≤ g → g ≤ 65536 → divides (2 ^ l) g ≡ true → l ≤ 16
+level-small l g p h e = go (split (leb l 16))
+  where
+    go : (leb l 16 ≡ true) ⊎ (leb l 16 ≡ false) → l ≤ 16
+    go (inl t) = leb-true l 16 t
+    go (inr t) =
+        let m : 2 ^ 17 ≤ 2 ^ l = pow-mono (leb-false l 16 t) in
+        let w = divisor-le (2 ^ l) g p e in
+        absurd (omega arith)
+
+level-of : (g k : ℕ) → k < length (levels g) → divides (2 ^ k) g ≡ true
+level-of g k h = keep-mem (λ l. divides (2 ^ l) g) (upFrom 0 g) k (rw levels-run (upFrom-mem 0 (length (levels g)) k (omega arith) (omega arith))) .1
+
+levels-few : (g : ℕ) → 1 ≤ g → g ≤ 65536 → length (levels g) ≤ 17
+levels-few g p h = go (length (levels g)) refl
+  where
+    go : (m : ℕ) → length (levels g) ≡ m → m ≤ 17
+    go zero e = omega arith
+    go (suc m) e = let l = level-small m g p h (level-of g m (omega arith)) in omega arith
+
+levels-room : (g : ℕ) → 1 ≤ g → g ≤ 65536 → storedOnce g ≡ false → length (levels g) ≤ 16
+levels-room g p h f = go (split (leb (length (levels g)) 16))
+  where
+    go : (leb (length (levels g)) 16 ≡ true) ⊎ (leb (length (levels g)) 16 ≡ false) → length (levels g) ≤ 16
+    go (inl t) = leb-true (length (levels g)) 16 t
+    go (inr t) =
+        let m : 16 < length (levels g) = leb-false (length (levels g)) 16 t in
+        let w : 2 ^ 16 ≤ g = divisor-le (2 ^ 16) g p (level-of g 16 m) in
+        let q : 2 ^ 16 ≡ g = omega arith in
+        absurd (true-or-false (of-power 16 g q) f)
+
+pub in-slots : (s n g : ℕ) → allowedScheme s ≡ true → allowedN n ≡ true → 1 ≤ g → g ≤ 65536 → InSlots s n g
+in-slots zero n g a b p h = let r = allowed-scheme-is 0 a in absurd (omega (arith, r .0))
+in-slots (suc zero) n g a b p h =
+    record { many = 0; few = omega arith; name = λ i. tile i g; are = refl; slot = λ v vs i. refl; room = λ e. omega arith }
+in-slots (suc (suc zero)) n g a b p h = go (divides n g) refl
+  where
+    l : lg n ≤ 8
+    l = allowed-n-is n b .small
+
+    go : (c : Bool) → divides n g ≡ c → InSlots 2 n g
+    go true e = record { many = suc (lg n); few = omega (arith, l); name = λ i. tile i g; are = rw e; slot = λ v vs i. refl; room = λ q. omega (arith, l) }
+    go false e = record { many = 0; few = omega arith; name = λ i. tile i g; are = rw e; slot = λ v vs i. refl; room = λ q. omega arith }
+in-slots (suc (suc (suc zero))) n g a b p h =
+    record {
+      many = length (levels g);
+      few = levels-few g p h;
+      name = λ i. tree i g;
+      are = ap (λ (r : List ℕ). map (λ (i : ℕ). tree i g) r ++ only (blackToo n g) (black g ∷ [])) (levels-run g);
+      slot = λ v vs i. refl;
+      room = λ e. levels-room g p h (once (divides n g) (storedOnce g) e);
+    }
+  where
+    once : (x y : Bool) → x && not y ≡ true → y ≡ false
+    once true true e = sym e
+    once true false e = refl
+    once false y e = absurd (true-or-false e refl)
+in-slots (suc (suc (suc (suc s)))) n g a b p h = let r = allowed-scheme-is (suc (suc (suc (suc s)))) a in absurd (omega (arith, r .1))
+
+-- the first m slots, by their names
+slots-front : (f : ℕ → Name) (b : Value) (slots : List Value) → ((i : ℕ) → current b slots (f i) ≡ getD slots i b) → (m : ℕ) → m ≤ length slots →
+    map (current b slots) (map f (upFrom 0 m)) ≡ take m slots
+slots-front f b slots e zero h = refl
+slots-front f b slots e (suc m) h =
+    ap (λ (r : List ℕ). map (current b slots) (map f r)) (upFrom-snoc 0 m ∙ ap (λ (x : ℕ). upFrom 0 m ++ (x ∷ [])) zero-plus) ∙
+    ap (map (current b slots)) (map-append f (upFrom 0 m) (m ∷ [])) ∙ map-append (current b slots) (map f (upFrom 0 m)) (f m ∷ []) ∙
+    rw (slots-front f b slots e m (omega arith), e m) (sym (take-suc slots m b h))
+  where
+    zero-plus : 0 + m ≡ m
+    zero-plus = omega arith
+
+module _ (s n g : ℕ) (b : Value) (slots : List Value) (size : length slots ≡ 17) (at : InSlots s n g) where
+  count-of : (c : Bool) → storesBlack s n g ≡ c → length (names s n g) ≡ at .many + length (only c (black g ∷ []))
+  count-of c e = rw (at .are, e, length-append, length-map, length-upFrom)
+
+  front : (c : Bool) → storesBlack s n g ≡ c → dayValues s n g b slots ≡ take (at .many) slots ++ map (current b slots) (only c (black g ∷ []))
+  unfolding dayValues
+  front c e =
+      rw (at .are, e, map-append (current b slots) (map (at .name) (upFrom 0 (at .many))) (only c (black g ∷ []))) (ap
+      (λ (r : List Value). r ++ map (current b slots) (only c (black g ∷ [])))
+      (slots-front (at .name) b slots (at .slot b slots) (at .many) (omega (arith, at .few))))
+
+  -- with black: it goes to the place after the slots
+  pub values-black : (k : ℕ) {r : List Value} → storesBlack s n g ≡ true → k ≡ length (names s n g) → r ≡ set slots (k - 1) b → take k r ≡ dayValues s n g b slots
+  values-black k {r} e q w =
+      let c : length (names s n g) ≡ at .many + 1 = count-of true e in
+      let v : k ≡ suc (at .many) = omega arith in
+      let u : k - 1 ≡ at .many = omega arith in
+      let room = at .room e in
+      rw (w, u, v) (take-suc-set slots (at .many) b (omega arith) ∙ sym (front true e))
+
+  pub values-plain : (k : ℕ) {r : List Value} → storesBlack s n g ≡ false → k ≡ length (names s n g) → r ≡ slots → take k r ≡ dayValues s n g b slots
+  values-plain k {r} e q w =
+      let c : length (names s n g) ≡ at .many + 0 = count-of false e in
+      let v : k ≡ at .many = omega arith in
+      rw (w, v) (sym (front false e ∙ append-nil (take (at .many) slots)))
+
+  pub black-place : (k : ℕ) → storesBlack s n g ≡ true → k ≡ length (names s n g) → (1 ≤ k) × (k - 1 < 17)
+  black-place k e q =
+      let c : length (names s n g) ≡ at .many + 1 = count-of true e in
+      let room = at .room e in
+      (omega arith, omega arith)
+
+-- a day has at most seventeen values
+pub day-few : (s n g : ℕ) → allowedScheme s ≡ true → allowedN n ≡ true → 1 ≤ g → g ≤ 65536 → length (names s n g) ≤ 17
+day-few s n g a b p h = go (storesBlack s n g) refl
+  where
+    at : InSlots s n g
+    at = in-slots s n g a b p h
+
+    go : (c : Bool) → storesBlack s n g ≡ c → length (names s n g) ≤ 17
+    go true e = let room = at .room e in rw (at .are, e, length-append, length-map, length-upFrom) (omega arith)
+    go false e = let w = at .few in rw (at .are, e, length-append, length-map, length-upFrom) (omega arith)
+
+pub closing-length : (s n g : ℕ) → length (closing s n g) ≡ length (names s n g)
+unfolding closing
+closing-length s n g = length-map (names s n g) (cover n)
+
+pub stepped : (s n g : ℕ) (first old : Value) (slots : List Value) (h : List ℕ) {b : Value} {l v next : List Value} {k : ℕ} → b ≡ linked old h → l ≡ linkedSlots s n g h slots →
+    k ≡ length (closing s n g) → take k v ≡ dayValues s n g b l → next ≡ restarted s n g first l →
+    Stepped s n g first old slots h (record { black = b; slots = next; values = v; count = k })
+stepped s n g first old slots h {b} {l} {v} {next} {k} eb el ek ev en =
+    record {
+      black-is = eb;
+      slots-are = en ∙ ap (restarted s n g first) el;
+      count-is = ek ∙ closing-length s n g;
+      values-are = ev ∙ ap₂ (dayValues s n g) eb el;
+    }

@@ -1,0 +1,89 @@
+-- The running hashes, and what one more day does to them. Definitions only.
+-- There is one for black and seventeen slots: tile chain c(i) in slot i, or the tree's level l in slot l.
+use mathlib.Core.Path.{_≡_}
+use mathlib.Core.Bool.{Bool, true, false, _&&_}
+use mathlib.Core.List.{List, [], _∷_, _++_, map}
+use Prim.Native.Nat.{ℕ, zero, suc, _^_}
+use lib.Dec.{leb}
+use lib.ListN.{length, getD, take, replicate}
+use Rattle.layouts.specs.Allowed.{divides}
+use Rattle.layouts.specs.Layouts.{lg, Name, black, tile, tree, offset, covers, blackToo, names}
+use Rattle.sha256.specs.Sha256.{hashed, bytesOf}
+use Rattle.chains.specs.declared.DayStep.{DayStep}
+use Rattle.chains.specs.declared.Value.{Value}
+
+abbrev pub pick : {A : Type 0} → Bool → A → A → A
+pick true a b = a
+pick false a b = b
+
+-- the start of a chain, as words
+unfoldable pub startValue : ℕ → ℕ → Value
+startValue scheme n = record { words = replicate 8 0 }
+
+-- a value linked with a digest, both as words
+unfoldable pub linked : Value → List ℕ → Value
+linked v h = record { words = hashed (1 ∷ (bytesOf (v .words) ++ bytesOf h)) }
+
+-- whether day g is linked to slot i: each tile chain that covers it; each level of the tree
+abbrev pub linksSlot : ℕ → ℕ → ℕ → ℕ → Bool
+linksSlot zero n g i = false
+linksSlot (suc zero) n g i = false
+linksSlot (suc (suc zero)) n g i = leb i (lg n) && covers n i (offset n g)
+linksSlot (suc (suc (suc zero))) n g i = true
+linksSlot (suc (suc (suc (suc s)))) n g i = false
+
+-- whether the chain of slot i is a value of day g, and so starts again
+abbrev pub storesSlot : ℕ → ℕ → ℕ → ℕ → Bool
+storesSlot zero n g i = false
+storesSlot (suc zero) n g i = false
+storesSlot (suc (suc zero)) n g i = leb i (lg n) && divides n g
+storesSlot (suc (suc (suc zero))) n g i = divides (2 ^ i) g
+storesSlot (suc (suc (suc (suc s)))) n g i = false
+
+-- whether black is a value of its own of day g
+abbrev pub storesBlack : ℕ → ℕ → ℕ → Bool
+storesBlack zero n g = false
+storesBlack (suc zero) n g = divides n g
+storesBlack (suc (suc zero)) n g = divides n g
+storesBlack (suc (suc (suc zero))) n g = blackToo n g
+storesBlack (suc (suc (suc (suc s)))) n g = false
+
+abbrev pub linkSlot : ℕ → ℕ → ℕ → List ℕ → ℕ → Value → Value
+linkSlot scheme n g h i v = pick (linksSlot scheme n g i) (linked v h) v
+
+abbrev pub restartSlot : ℕ → ℕ → ℕ → Value → ℕ → Value → Value
+restartSlot scheme n g first i v = pick (storesSlot scheme n g i) first v
+
+-- a function of the index and the value, at each slot from i on
+abbrev pub each : (ℕ → Value → Value) → ℕ → List Value → List Value
+each f i [] = []
+each f i (v ∷ vs) = f i v ∷ each f (suc i) vs
+
+-- the slots with day g linked; and with those started again whose chains are values of day g
+unfoldable pub linkedSlots : ℕ → ℕ → ℕ → List ℕ → List Value → List Value
+linkedSlots scheme n g h slots = each (linkSlot scheme n g h) 0 slots
+
+unfoldable pub restarted : ℕ → ℕ → ℕ → Value → List Value → List Value
+restarted scheme n g first slots = each (restartSlot scheme n g first) 0 slots
+
+-- the value of a named chain, from the running hashes that have day g linked
+abbrev pub current : Value → List Value → Name → Value
+current b slots (black g) = b
+current b slots (tile i g) = getD slots i b
+current b slots (tree l g) = getD slots l b
+
+-- the values of day g, in book order
+unfoldable pub dayValues : ℕ → ℕ → ℕ → Value → List Value → List Value
+dayValues scheme n g b slots = map (current b slots) (names scheme n g)
+
+-- what one more day gives: the running hashes after it, the values of the day at the front of a list, and their number
+pub record Stepped (scheme n g : ℕ) (first b : Value) (slots : List Value) (h : List ℕ) (r : DayStep) : Type 0 where
+  pub black-is : r .black ≡ linked b h
+  pub slots-are : r .slots ≡ restarted scheme n g first (linkedSlots scheme n g h slots)
+  pub count-is : r .count ≡ length (names scheme n g)
+  pub values-are : take (r .count) (r .values) ≡ dayValues scheme n g (linked b h) (linkedSlots scheme n g h slots)
+
+-- values as bytes, end to end
+unfoldable pub valueBytes : List Value → List ℕ
+valueBytes [] = []
+valueBytes (v ∷ vs) = bytesOf (v .words) ++ valueBytes vs

@@ -1,0 +1,175 @@
+// The running hashes of a service: what one more day does to black, to the tile chains and to the tree's levels, and which of
+// them are values of that day. Closing a day and checking one use the same step.
+ghost use mathlib.Core.Path.{_≡_};
+ghost use mathlib.Core.Bool.{true};
+ghost use Prim.Native.Nat.{_+_, _≤_, _<_, _^_};
+ghost use lib.ListN.{length, take};
+ghost use Rattle.layouts.specs.Allowed.{allowedScheme, allowedN};
+ghost use Rattle.layouts.specs.Layouts.{names};
+ghost use Rattle.chains.specs.Step as spec;
+ghost use Rattle.chains.specs.Step.{startValue, linked, linksSlot, storesSlot, storesBlack, linkSlot, restartSlot, linkedSlots, restarted, dayValues, Stepped};
+
+pub struct Value {
+    pub words: [u32; 8],
+}
+
+pub struct DayStep {
+    pub black: Value,
+    pub slots: [Value; 17],
+    pub values: [Value; 17],
+    pub count: u32,
+}
+
+// The start of a chain.
+pub fn start(scheme: u32, n: u32) -> Value
+    ensures { λ r. ⌜ r ≡ startValue scheme n ⌝ }
+{
+    Value { words: [0u32; 8] }
+}
+
+fn link(v: Value, h: [u32; 8]) -> Value
+    ensures { λ r. ⌜ r ≡ linked v h ⌝ }
+{
+    let w = v.words;
+    Value {
+        words: hasher::link(w, h),
+    }
+}
+
+fn size(l: u32) -> u32
+    requires { ⌜ l ≤ 16 ⌝ }
+    ensures { λ r. ⌜ r ≡ 2 ^ l ⌝ }
+{
+    1u32 << l
+}
+
+fn links_slot(scheme: u32, n: u32, g: u32, i: u32) -> bool
+    requires { ⌜ (allowedN n ≡ true) × (1 ≤ g) ⌝ }
+    ensures { λ r. ⌜ r ≡ linksSlot scheme n g i ⌝ }
+{
+    if scheme == 2 {
+        if layouts::lg(n) < i {
+            return false;
+        }
+        return layouts::covers(n, i, (g - 1) % n);
+    }
+    scheme == 3
+}
+
+fn stores_slot(scheme: u32, n: u32, g: u32, i: u32) -> bool
+    requires { ⌜ (allowedN n ≡ true) × (i ≤ 16) ⌝ }
+    ensures { λ r. ⌜ r ≡ storesSlot scheme n g i ⌝ }
+{
+    if scheme == 2 {
+        if layouts::lg(n) < i {
+            return false;
+        }
+        return g % n == 0;
+    }
+    if scheme == 3 {
+        return g % size(i) == 0;
+    }
+    false
+}
+
+fn stores_black(scheme: u32, n: u32, g: u32) -> bool
+    requires { ⌜ (allowedScheme scheme ≡ true) × (allowedN n ≡ true) × (1 ≤ g) × (g ≤ 65536) ⌝ }
+    ensures { λ r. ⌜ r ≡ storesBlack scheme n g ⌝ }
+{
+    if g % n != 0 {
+        return false;
+    }
+    if scheme != 3 {
+        return true;
+    }
+    size(layouts::lg(g)) != g
+}
+
+fn slot_linked(scheme: u32, n: u32, g: u32, i: usize, v: Value, h: [u32; 8]) -> Value
+    requires { ⌜ (allowedN n ≡ true) × (1 ≤ g) × (i < 17) ⌝ }
+    ensures { λ r. ⌜ r ≡ linkSlot scheme n g h i v ⌝ }
+{
+    if links_slot(scheme, n, g, i as u32) {
+        return link(v, h);
+    }
+    v
+}
+
+fn slot_restarted(scheme: u32, n: u32, g: u32, first: Value, i: usize, v: Value) -> Value
+    requires { ⌜ (allowedN n ≡ true) × (i < 17) ⌝ }
+    ensures { λ r. ⌜ r ≡ restartSlot scheme n g first i v ⌝ }
+{
+    if stores_slot(scheme, n, g, i as u32) {
+        return first;
+    }
+    v
+}
+
+fn link_slots(scheme: u32, n: u32, g: u32, slots: [Value; 17], h: [u32; 8]) -> [Value; 17]
+    requires { ⌜ (allowedN n ≡ true) × (1 ≤ g) ⌝ }
+    ensures { λ r. ⌜ r ≡ linkedSlots scheme n g h slots ⌝ }
+{
+    let mut r = slots;
+    let mut i = 0usize;
+    while i < 17 {
+        let v = r[i];
+        let w = slot_linked(scheme, n, g, i, v, h);
+        r[i] = w;
+        i += 1;
+    }
+    r
+}
+
+fn restart_slots(scheme: u32, n: u32, g: u32, first: Value, slots: [Value; 17]) -> [Value; 17]
+    requires { ⌜ allowedN n ≡ true ⌝ }
+    ensures { λ r. ⌜ r ≡ restarted scheme n g first slots ⌝ }
+{
+    let mut r = slots;
+    let mut i = 0usize;
+    while i < 17 {
+        let v = r[i];
+        let w = slot_restarted(scheme, n, g, first, i, v);
+        r[i] = w;
+        i += 1;
+    }
+    r
+}
+
+// The values of day g, k of them: the slots in their order, then black where it is one of its own.
+fn day_values(scheme: u32, n: u32, g: u32, k: u32, black: Value, slots: [Value; 17]) -> [Value; 17]
+    requires { ⌜ (allowedScheme scheme ≡ true) × (allowedN n ≡ true) × (1 ≤ g) × (g ≤ 65536) × (k ≡ length (names scheme n g)) ⌝ }
+    ensures { λ r. ⌜ take k r ≡ dayValues scheme n g black slots ⌝ }
+{
+    let mut r = slots;
+    if stores_black(scheme, n, g) {
+        let at = (k - 1) as usize;
+        r[at] = black;
+    }
+    r
+}
+
+// One more day, g, whose digest is h.
+pub fn step(
+    scheme: u32,
+    n: u32,
+    g: u32,
+    first: Value,
+    black: Value,
+    slots: [Value; 17],
+    h: [u32; 8],
+) -> DayStep
+    requires { ⌜ (allowedScheme scheme ≡ true) × (allowedN n ≡ true) × (1 ≤ g) × (g ≤ 65536) ⌝ }
+    ensures { λ r. ⌜ Stepped scheme n g first black slots h r ⌝ }
+{
+    let b = link(black, h);
+    let linked = link_slots(scheme, n, g, slots, h);
+    let k = layouts::values_of_day(scheme, n, g);
+    let values = day_values(scheme, n, g, k, b, linked);
+    let next = restart_slots(scheme, n, g, first, linked);
+    DayStep {
+        black: b,
+        slots: next,
+        values,
+        count: k,
+    }
+}
