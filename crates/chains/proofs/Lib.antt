@@ -1,2 +1,4 @@
 pub mod Slots
 pub mod Values
+pub mod Running
+pub mod BookLaws

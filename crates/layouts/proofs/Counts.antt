@@ -20,7 +20,7 @@ use Rattle.layouts.specs.Allowed.{divides}
 use Rattle.layouts.specs.Layouts.{lgIn, lg, Name, black, tile, tree, levels, storedOnce, only, names, named, cover, closing, chains, valueCount}
 use Rattle.layouts.proofs.Coverage.{named-suc}
 
-abbrev bit : Bool → ℕ
+abbrev pub bit : Bool → ℕ
 bit b = cond b 1 0
 
 pub length-upFrom : (i n : ℕ) → length (upFrom i n) ≡ n
@@ -31,7 +31,7 @@ count-suc : (s n d : ℕ) → length (named s n (suc d)) ≡ length (named s n d
 count-suc s n d = rw (named-suc, length-append)
 
 -- n divides the next number exactly if the quotient grows
-div-step : (n d : ℕ) → 0 < n → suc d / n ≡ d / n + bit (divides n (suc d))
+pub div-step : (n d : ℕ) → 0 < n → suc d / n ≡ d / n + bit (divides n (suc d))
 div-step n d p = go (decLt (suc (d % n)) n)
   where
     whole : d / n * n + d % n ≡ d
