@@ -108,11 +108,11 @@ divides-factor n f d p e =
 
 -- ---- no refusal
 
-unless-zero : (b : Bool) (x : ℕ) → unless b (suc x) ≡ 0 → b ≡ true
+pub unless-zero : (b : Bool) (x : ℕ) → unless b (suc x) ≡ 0 → b ≡ true
 unless-zero true x e = refl
 unless-zero false x e = absurd (omega arith)
 
-or-else-zero : (x y : ℕ) → orElse x y ≡ 0 → (x ≡ 0) × (y ≡ 0)
+pub or-else-zero : (x y : ℕ) → orElse x y ≡ 0 → (x ≡ 0) × (y ≡ 0)
 or-else-zero zero y e = (refl, e)
 or-else-zero (suc x) y e = absurd (omega arith)
 
