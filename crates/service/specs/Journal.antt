@@ -1,0 +1,50 @@
+-- 01's diary, here a journal: a plain account of a list of calls, fed only their arguments. It knows nothing of records, answers
+-- or written bytes. Definitions only.
+use mathlib.Core.List.{List, [], _∷_, _++_}
+use Prim.Native.Nat.{ℕ, zero, suc, _+_, _*_}
+use lib.Dec.{leb, ltb}
+use lib.ListN.{length}
+use Rattle.layouts.specs.Allowed.{bookLimit, unless, orElse}
+use Rattle.layouts.specs.Layouts.{closing}
+use Rattle.ledger.specs.Ledger.{dayLimit}
+
+-- one entry for each closed day, its bytes; and the open day's bytes
+pub record Journal : Type 0 where
+  pub entries : List (List ℕ)
+  pub day : List ℕ
+
+abbrev pub empty : Journal
+empty = record { entries = []; day = [] }
+
+-- the arguments of a call: a piece, or the length of the part lent
+pub data Argument : Type 0 where
+  adds : List ℕ → Argument
+  closes : ℕ → Argument
+
+-- 01's refusals: add 5 4, close 5 8
+abbrev pub refusalOf : ℕ → ℕ → Journal → Argument → ℕ
+refusalOf scheme n j (adds piece) = orElse (unless (ltb (length (j .entries)) bookLimit) 5) (unless (leb (length (j .day) + length piece) dayLimit) 4)
+refusalOf scheme n j (closes size) =
+    orElse (unless (ltb (length (j .entries)) bookLimit) 5) (unless (leb (32 * length (closing scheme n (suc (length (j .entries))))) size) 8)
+
+-- the piece goes to the open day's end; the open day becomes the next entry and an empty one opens
+abbrev pub entered : Journal → Argument → Journal
+entered j (adds piece) = record { entries = j .entries; day = j .day ++ piece }
+entered j (closes size) = record { entries = j .entries ++ (j .day ∷ []); day = [] }
+
+-- a refused call changes nothing
+abbrev pub unlessRefused : ℕ → Journal → Journal → Journal
+unlessRefused zero j next = next
+unlessRefused (suc x) j next = j
+
+abbrev pub kept : ℕ → ℕ → Journal → Argument → Journal
+kept scheme n j a = unlessRefused (refusalOf scheme n j a) j (entered j a)
+
+-- the journal after a list of calls, and its refusals, one for each call (0 for none)
+abbrev pub journalAfter : ℕ → ℕ → Journal → List Argument → Journal
+journalAfter scheme n j [] = j
+journalAfter scheme n j (a ∷ later) = journalAfter scheme n (kept scheme n j a) later
+
+abbrev pub refusals : ℕ → ℕ → Journal → List Argument → List ℕ
+refusals scheme n j [] = []
+refusals scheme n j (a ∷ later) = refusalOf scheme n j a ∷ refusals scheme n (kept scheme n j a) later

@@ -1,0 +1,49 @@
+-- A list of add and close calls on a service, by what the calls' contracts say; and the claim on every such list.
+use mathlib.Core.Path.{_≡_}
+use mathlib.Core.List.{List, [], _∷_, _++_, map}
+use Prim.Native.Nat.{ℕ, _*_}
+use lib.ListN.{length, take}
+use Rattle.chains.specs.Book.{bookOf}
+use Rattle.service.specs.declared.Record.{Record}
+use Rattle.service.specs.Calls.{numberOf, writingNumber, countOf, opened, added, closed, written}
+use Rattle.service.specs.Journal.{Journal, empty, Argument, adds, closes, journalAfter, refusals}
+
+-- a call: add with its piece, close with the part lent to it, whatever it holds
+pub data Call : Type 0 where
+  add : List ℕ → Call
+  close : List ℕ → Call
+
+abbrev pub argumentOf : Call → Argument
+argumentOf (add piece) = adds piece
+argumentOf (close part) = closes (length part)
+
+-- each call is handed the record that the call before gave back, refused or not
+abbrev pub stateAfter : Record → List Call → Record
+stateAfter r [] = r
+stateAfter r (add piece ∷ cs) = stateAfter (added r piece .state) cs
+stateAfter r (close part ∷ cs) = stateAfter (closed r (length part) .state) cs
+
+-- the number of each answer
+abbrev pub answers : Record → List Call → List ℕ
+answers r [] = []
+answers r (add piece ∷ cs) = numberOf (added r piece .answer) ∷ answers (added r piece .state) cs
+answers r (close part ∷ cs) = writingNumber (closed r (length part) .answer) ∷ answers (closed r (length part) .state) cs
+
+-- 01's book of the list: what its accepted closes wrote to the front of their parts, end to end
+abbrev pub bookWritten : Record → List Call → List ℕ
+bookWritten r [] = []
+bookWritten r (add piece ∷ cs) = bookWritten (added r piece .state) cs
+bookWritten r (close part ∷ cs) = take (32 * countOf (closed r (length part) .answer)) (written r part) ++ bookWritten (closed r (length part) .state) cs
+
+-- the journal of the list, from no entry and an empty open day
+abbrev pub journalOf : ℕ → ℕ → List Call → Journal
+journalOf scheme n cs = journalAfter scheme n empty (map argumentOf cs)
+
+-- The claim: from the record of an accepted open, for every list of calls, refused ones included, the service refuses exactly
+-- what the journal refuses, with the same number; and what the accepted closes wrote is 01's book over the journal's entries.
+pub record Kept (scheme n f : ℕ) (cs : List Call) : Type 0 where
+  pub refused : answers (opened scheme n f .state) cs ≡ refusals scheme n empty (map argumentOf cs)
+  pub book : bookWritten (opened scheme n f .state) cs ≡ bookOf scheme n (journalOf scheme n cs .entries)
+
+abbrev pub Claim : Type 0
+Claim = (scheme n f : ℕ) → numberOf (opened scheme n f .answer) ≡ 0 → (cs : List Call) → Kept scheme n f cs
