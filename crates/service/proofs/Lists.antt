@@ -254,3 +254,26 @@ pub claim : Claim
 claim s n f e cs =
     let w = from-open s n f e cs in
     record { refused = w .refused; book = ap (λ (l : List ℕ). l ++ bookWritten (opened s n f .state) cs) (sym (book-none s n)) ∙ w .book }
+
+-- ---- one call that is taken
+
+module _ (s n f : ℕ) (setup : setupRefusal s n f ≡ 0) (j : Journal) (r : Record) (k : Keeps s n f j r) where
+  pub taken-add : (piece : List ℕ) → refusalOf s n j (adds piece) ≡ 0 → Keeps s n f (entered j (adds piece)) (added r piece .state)
+  taken-add piece e = rw (added-is r piece 0 (add-same s n f setup j r k piece ∙ e)) (keeps-grown s n f setup j r k piece e)
+
+  pub taken-close : (part : List ℕ) → refusalOf s n j (closes (length part)) ≡ 0 → Keeps s n f (entered j (closes (length part))) (closed r (length part) .state)
+  taken-close part e = rw (closed-is r (length part) 0 (close-same s n f setup j r k (length part) ∙ e)) (keeps-closed s n f setup j r k (length part) e)
+
+  pub taken-count : (part : List ℕ) → refusalOf s n j (closes (length part)) ≡ 0 → countOf (closed r (length part) .answer) ≡ length (closing s n (suc (length (j .entries))))
+  taken-count part e = rw (closed-is r (length part) 0 (close-same s n f setup j r k (length part) ∙ e), k .scheme-is, k .n-is, k .days-are)
+
+  pub taken-writes : (part : List ℕ) → refusalOf s n j (closes (length part)) ≡ 0 →
+      written r part ≡ values sha256 (start s n) (j .entries ++ (j .day ∷ [])) (closing s n (suc (length (j .entries)))) ++ drop (32 * length (closing s n (suc (length (j .entries))))) part
+  taken-writes part e =
+      let b = day-bytes-are s n f setup j r k (length part) e in
+      let l : length (dayBytes r) ≡ 32 * length (closing s n (suc (length (j .entries)))) = ap length b ∙ values-of-length s n (j .entries ++ (j .day ∷ [])) (closing s n (suc (length (j .entries)))) in
+      written-is r part 0 (close-same s n f setup j r k (length part) ∙ e) ∙ ap₂ (λ (x : List ℕ) (y : ℕ). x ++ drop y part) b l
+
+pub keeps-open : (s n f : ℕ) → setupRefusal s n f ≡ 0 → Keeps s n f empty (opened s n f .state)
+unfolding opened
+keeps-open s n f e = rw e (keeps-fresh s n f e)

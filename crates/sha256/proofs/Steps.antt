@@ -1,15 +1,15 @@
 -- The schedule's recursion, and the window that slides over it, up to a block's compression.
 -- Assumes nothing.
-use Prim.Native.Nat.{ℕ, zero, suc, _+_, _-_, _*_, _≤_, _<_}
-use mathlib.Core.Path.{_≡_, refl, sym, ap, ap₂, _∙_}
-use mathlib.Core.List.{List, [], _∷_, _++_}
+use Prim.Native.Nat.{ℕ, zero, suc, _+_, _-_, _%_, _≤_, _<_}
+use mathlib.Core.Path.{_≡_, refl, sym, ap, _∙_}
+use mathlib.Core.List.{List, [], _∷_}
 use native.Mathlib.Omega.{arith}
-use native.Mathlib.Nat.{add-suc, add-zero}
-use native.Mathlib.Numerals.{add-one}
+use native.Mathlib.Nat.{add-suc, add-zero, eq-or-lt-of-le, le-of-suc-le-suc}
+use mathlib.Core.Logic.{⊎-elim}
 use borrow.Author.Tests.{lt-ltb, le-ltb}
-use lib.ListN.{length, getD, take, drop, length-append, length-take, length-drop, drop-of-length-le}
-use lib.Seq.{take-suc, getD-take, getD-drop, take-all, take-at, take-append-le, getD-at, drop-cons, length-take-le}
-use Rattle.sha256.specs.Sha256.{kTable, later, pick, scheduled, grown, schedule, round, rounds, compress, summed}
+use lib.ListN.{length, getD, take, drop, length-set, length-append, length-drop}
+use lib.Seq.{take-suc, getD-take, getD-drop, take-all, take-append-le, getD-at, getD-set-same, getD-set-other, ext-getD, length-take-le}
+use Rattle.sha256.specs.Sha256.{kTable, later, scheduled, grown, schedule, round, rounds, compress, summed}
 use Rattle.sha256.specs.Window.{window, mixed, slid, slides, roundsOn}
 
 -- ---- the schedule's words
@@ -68,47 +68,57 @@ recurs m i n l =
 at-window : (w : List ℕ) (t j : ℕ) → j < 16 → getD (window w t) j 0 ≡ getD w (t + j) 0
 at-window w t j l = getD-take 16 (drop t w) j 0 l ∙ getD-drop t w j 0
 
--- n elements of x, from element j on
-gets : ℕ → ℕ → List ℕ → List ℕ
-gets j zero x = []
-gets j (suc n) x = getD x j 0 ∷ gets (suc j) n x
-
-gets-drop : (n j : ℕ) (x : List ℕ) → length x ≡ j + n → gets j n x ≡ drop j x
-unfolding gets
-gets-drop zero j x e = sym (drop-of-length-le x {i = j} (omega arith))
-gets-drop (suc n) j x e = ap (λ (l : List ℕ). getD x j 0 ∷ l) (gets-drop n (suc j) x (omega arith)) ∙ sym (drop-cons x j 0 (omega arith))
-
 length-window : (w : List ℕ) (t : ℕ) → t + 16 ≤ length w → length (window w t) ≡ 16
 length-window w t l = length-take-le 16 (drop t w) (rw length-drop (omega arith))
 
-shift : (w : List ℕ) (t j : ℕ) → j < 15 → getD (window w t) (j + 1) 0 ≡ getD (window w (suc t)) j 0
-shift w t j l =
-    let e : t + (j + 1) ≡ suc t + j = omega arith in
-    at-window w t (j + 1) (omega arith) ∙ ap (λ (i : ℕ). getD w i 0) e ∙ sym (at-window w (suc t) j (omega arith))
+length-slides : (n : ℕ) (w : List ℕ) → length (slides n w) ≡ length w
+unfolding slides slid
+length-slides zero w = refl
+length-slides (suc n) w = rw length-set (length-slides n w)
 
-slid-last : (m : List ℕ) (n t : ℕ) → t + 17 ≤ n
-    → mixed (getD (window (schedule m n) t) 14 0) (getD (window (schedule m n) t) 9 0) (getD (window (schedule m n) t) 1 0) (getD (window (schedule m n) t) 0 0)
-    ≡ getD (window (schedule m n) (suc t)) 15 0
-slid-last m n t l =
-    let w : List ℕ = schedule m n in
-    let e : suc t + 15 ≡ t + 16 = omega arith in
-    rw (at-window w t 14 (omega arith), at-window w t 9 (omega arith), at-window w t 1 (omega arith), at-window w t 0 (omega arith), at-window w (suc t) 15 (omega arith), e, add-zero)
-    (sym (recurs m t n (omega arith)))
+-- after n words the ring starts at n: its word k is word t + n + k of the schedule
+module _ (m : List ℕ) (size t : ℕ) (fits : t + 32 ≤ size) where
+  abbrev w : List ℕ
+  w = window (schedule m size) t
 
-slid-window : (m : List ℕ) (n t : ℕ) → t + 17 ≤ n → slid (window (schedule m n) t) ≡ window (schedule m n) (suc t)
-unfolding slid gets
-slid-window m n t l =
-    let w : List ℕ = schedule m n in
-    let x : List ℕ = window w (suc t) in
-    let lx : length x ≡ 16 = length-window w (suc t) (omega (arith, length-schedule m n)) in
-    rw (slid-last m n t l, shift w t 0 (omega arith), shift w t 1 (omega arith), shift w t 2 (omega arith), shift w t 3 (omega arith), shift w t 4 (omega arith), shift w t 5 (omega arith), shift w t 6 (omega arith), shift w t 7 (omega arith), shift w t 8 (omega arith), shift w t 9 (omega arith), shift w t 10 (omega arith), shift w t 11 (omega arith), shift w t 12 (omega arith), shift w t 13 (omega arith), shift w t 14 (omega arith))
-    (gets-drop 16 0 x lx)
+  length-ring : (n : ℕ) → length (slides n w) ≡ 16
+  length-ring n = length-slides n w ∙ length-window (schedule m size) t (omega (arith, length-schedule m size))
 
-slides-window : (m : List ℕ) (k t n : ℕ) → t + n + 16 ≤ k → slides n (window (schedule m k) t) ≡ window (schedule m k) (t + n)
-unfolding slides
-slides-window m k t zero l = rw add-zero
-slides-window m k t (suc n) l =
-    rw add-suc (ap slid (slides-window m k t n (omega arith)) ∙ slid-window m k (t + n) (omega arith))
+  renewed : (n : ℕ) → n < 16
+      → ((k : ℕ) → k < 16 → getD (slides n w) ((n + k) % 16) 0 ≡ getD (schedule m size) (t + n + k) 0)
+      → getD (slides (suc n) w) n 0 ≡ getD (schedule m size) (t + n + 16) 0
+  unfolding slides slid
+  renewed n l h =
+      let e : (n + 0) % 16 ≡ n = omega arith in
+      let z : getD (slides n w) n 0 ≡ getD (schedule m size) (t + n) 0 = rw (e, add-zero) at (h 0 (omega arith)) in
+      rw (getD-set-same (slides n w) n _ 0 (omega (arith, length-ring n)), h 14 (omega arith), h 9 (omega arith), h 1 (omega arith), z)
+      (sym (recurs m (t + n) size (omega arith)))
+
+  ring : (n k : ℕ) → n ≤ 16 → k < 16 → getD (slides n w) ((n + k) % 16) 0 ≡ getD (schedule m size) (t + n + k) 0
+  unfolding slides slid
+  ring zero k l lk =
+      let e : (0 + k) % 16 ≡ k = omega arith in
+      let f : t + 0 + k ≡ t + k = omega arith in
+      rw (e, f) (at-window (schedule m size) t k lk)
+  ring (suc n) k l lk = ⊎-elim
+      (λ e.
+      let i : (suc n + k) % 16 ≡ n = omega arith in
+      let j : t + suc n + k ≡ t + n + 16 = omega arith in
+      rw (i, j) (renewed n (omega arith) (λ k′ l′. ring n k′ (omega arith) l′)))
+      (λ lt.
+      let i : (suc n + k) % 16 ≡ (n + suc k) % 16 = omega arith in
+      let j : t + suc n + k ≡ t + n + suc k = omega arith in
+      rw (i, j) (getD-set-other (slides n w) n ((n + suc k) % 16) _ 0 (λ e. omega arith) ∙ ring n (suc k) (omega arith) (omega arith)))
+      (eq-or-lt-of-le (le-of-suc-le-suc lk))
+
+  slides-window : slides 16 w ≡ window (schedule m size) (t + 16)
+  slides-window =
+      let lw : length (window (schedule m size) (t + 16)) ≡ 16 = length-window (schedule m size) (t + 16) (omega (arith, length-schedule m size)) in
+      ext-getD 0 (slides 16 w) (window (schedule m size) (t + 16)) (length-ring 16 ∙ sym lw)
+      (λ i l.
+      let li : i < 16 = omega (arith, length-ring 16) in
+      let e : (16 + i) % 16 ≡ i = omega arith in
+      (rw e at (ring 16 i (omega arith) li)) ∙ sym (at-window (schedule m size) (t + 16) i li))
 
 rounds-window : (h w : List ℕ) (t n : ℕ) → n ≤ 16 → roundsOn (rounds h w t) (window w t) kTable t n ≡ rounds h w (t + n)
 unfolding roundsOn rounds
@@ -129,7 +139,7 @@ module _ (h m : List ℕ) (sixteen : length m ≡ 16) where
   group t ek ew ev eu = eu ∙ rw (ek, ew, ev) (rounds-window h all t 16 (omega arith))
 
   along : (t : ℕ) {w x : List ℕ} → t + 32 ≤ 64 → w ≡ window all t → x ≡ slides 16 w → x ≡ window all (t + 16)
-  along t l ew ex = ex ∙ rw ew (slides-window m 64 t 16 (omega arith))
+  along t l ew ex = ex ∙ rw ew (slides-window m 64 t l)
 
   none : h ≡ rounds h all 0
   unfolding rounds

@@ -1,8 +1,8 @@
--- The form of the code, which is no part of the standard: the schedule as a window of sixteen words that slides by one.
+-- The form of the code, which is no part of the standard: the schedule as a window of sixteen words, renewed one by one.
 -- Assumes nothing.
-use Prim.Native.Nat.{ℕ, zero, suc, _+_}
-use mathlib.Core.List.{List, [], _∷_}
-use lib.ListN.{getD, take, drop}
+use Prim.Native.Nat.{ℕ, zero, suc, _+_, _%_}
+use mathlib.Core.List.{List}
+use lib.ListN.{getD, take, drop, set}
 use Rattle.sha256.specs.Sha256.{plus, small0, small1, round}
 
 -- the sixteen words of w from word t on
@@ -12,16 +12,18 @@ window w t = take 16 (drop t w)
 unfoldable pub mixed : ℕ → ℕ → ℕ → ℕ → ℕ
 mixed a b c d = plus (plus (plus (small1 a) b) (small0 c)) d
 
--- the window, one word on; and n words on
-unfoldable pub slid : List ℕ → List ℕ
-slid w =
-    getD w 1 0 ∷ getD w 2 0 ∷ getD w 3 0 ∷ getD w 4 0 ∷ getD w 5 0 ∷ getD w 6 0 ∷ getD w 7 0 ∷ getD w 8 0
-    ∷ getD w 9 0 ∷ getD w 10 0 ∷ getD w 11 0 ∷ getD w 12 0 ∷ getD w 13 0 ∷ getD w 14 0 ∷ getD w 15 0
-    ∷ mixed (getD w 14 0) (getD w 9 0) (getD w 1 0) (getD w 0 0) ∷ []
+-- the window as a ring: word i made the word sixteen on; and so the first n words
+unfoldable pub slid : List ℕ → ℕ → List ℕ
+slid w i = set w i (mixed (getD w ((i + 14) % 16) 0) (getD w ((i + 9) % 16) 0) (getD w ((i + 1) % 16) 0) (getD w i 0))
 
 unfoldable pub slides : ℕ → List ℕ → List ℕ
 slides zero w = w
-slides (suc n) w = slid (slides n w)
+slides (suc n) w = slid (slides n w) n
+
+-- four rounds, from round t on, with the constants k
+unfoldable pub four : List ℕ → List ℕ → ℕ → ℕ → ℕ → ℕ → ℕ → List ℕ
+four v k t a b c d =
+    round (round (round (round v (getD k t 0) a) (getD k (t + 1) 0) b) (getD k (t + 2) 0) c) (getD k (t + 3) 0) d
 
 -- n rounds on a window, from round t on, with the constants k
 unfoldable pub roundsOn : List ℕ → List ℕ → List ℕ → ℕ → ℕ → List ℕ

@@ -86,51 +86,37 @@ fn mixed(a: u32, b: u32, c: u32, d: u32) -> u32
     plus(plus(plus(small1(a), b), small0(c)), d)
 }
 
-// The window of 16 words, one word on.
-fn slid(w: [u32; 16]) -> [u32; 16]
-    ensures { λ r. ⌜ r ≡ form.slid w ⌝ }
+// The window of sixteen words as a ring: word i made the word sixteen on.
+fn slid(w: [u32; 16], i: usize) -> [u32; 16]
+    requires { ⌜ i < 16 ⌝ }
+    ensures { λ r. ⌜ r ≡ form.slid w i ⌝ }
 {
-    let x = mixed(w[14], w[9], w[1], w[0]);
-    [
-        w[1],
-        w[2],
-        w[3],
-        w[4],
-        w[5],
-        w[6],
-        w[7],
-        w[8],
-        w[9],
-        w[10],
-        w[11],
-        w[12],
-        w[13],
-        w[14],
-        w[15],
-        x,
-    ]
+    let x = mixed(w[(i + 14) % 16], w[(i + 9) % 16], w[(i + 1) % 16], w[i]);
+    let mut r = w;
+    r[i] = x;
+    r
 }
 
 // The window, sixteen words on.
 fn slides(w: [u32; 16]) -> [u32; 16]
     ensures { λ r. ⌜ r ≡ form.slides 16 w ⌝ }
 {
-    let w1 = slid(w);
-    let w2 = slid(w1);
-    let w3 = slid(w2);
-    let w4 = slid(w3);
-    let w5 = slid(w4);
-    let w6 = slid(w5);
-    let w7 = slid(w6);
-    let w8 = slid(w7);
-    let w9 = slid(w8);
-    let w10 = slid(w9);
-    let w11 = slid(w10);
-    let w12 = slid(w11);
-    let w13 = slid(w12);
-    let w14 = slid(w13);
-    let w15 = slid(w14);
-    slid(w15)
+    let w1 = slid(w, 0);
+    let w2 = slid(w1, 1);
+    let w3 = slid(w2, 2);
+    let w4 = slid(w3, 3);
+    let w5 = slid(w4, 4);
+    let w6 = slid(w5, 5);
+    let w7 = slid(w6, 6);
+    let w8 = slid(w7, 7);
+    let w9 = slid(w8, 8);
+    let w10 = slid(w9, 9);
+    let w11 = slid(w10, 10);
+    let w12 = slid(w11, 11);
+    let w13 = slid(w12, 12);
+    let w14 = slid(w13, 13);
+    let w15 = slid(w14, 14);
+    slid(w15, 15)
 }
 
 // One round, with the constant k and the word w.
@@ -267,27 +253,30 @@ fn words(b: &[u8]) -> [u32; 16]
     ]
 }
 
-// Sixteen rounds, from round t on.
+// Four rounds, from round t on.
+fn four(v: [u32; 8], k: &[u32; 64], t: usize, a: u32, b: u32, c: u32, d: u32) -> [u32; 8]
+    requires { ⌜ t + 4 ≤ 64 ⌝ }
+    ensures { λ r. ⌜ r ≡ form.four v (now (k .entry)) t a b c d ⌝ }
+{
+    let v1 = round(v, k[t], a);
+    let v2 = round(v1, k[t + 1], b);
+    let v3 = round(v2, k[t + 2], c);
+    round(v3, k[t + 3], d)
+}
+
+// Sixteen rounds, from round t on. `four` is called in one place, so that the compiler puts it there.
 fn rounds(v: [u32; 8], w: [u32; 16], k: &[u32; 64], t: usize) -> [u32; 8]
     requires { ⌜ t + 16 ≤ 64 ⌝ }
     ensures { λ r. ⌜ r ≡ form.roundsOn v w (now (k .entry)) t 16 ⌝ }
 {
-    let v1 = round(v, k[t], w[0]);
-    let v2 = round(v1, k[t + 1], w[1]);
-    let v3 = round(v2, k[t + 2], w[2]);
-    let v4 = round(v3, k[t + 3], w[3]);
-    let v5 = round(v4, k[t + 4], w[4]);
-    let v6 = round(v5, k[t + 5], w[5]);
-    let v7 = round(v6, k[t + 6], w[6]);
-    let v8 = round(v7, k[t + 7], w[7]);
-    let v9 = round(v8, k[t + 8], w[8]);
-    let v10 = round(v9, k[t + 9], w[9]);
-    let v11 = round(v10, k[t + 10], w[10]);
-    let v12 = round(v11, k[t + 11], w[11]);
-    let v13 = round(v12, k[t + 12], w[12]);
-    let v14 = round(v13, k[t + 13], w[13]);
-    let v15 = round(v14, k[t + 14], w[14]);
-    round(v15, k[t + 15], w[15])
+    let mut u = v;
+    let mut j = 0;
+    while j < 16 {
+        let y = four(u, k, t + j, w[j], w[j + 1], w[j + 2], w[j + 3]);
+        u = y;
+        j += 4;
+    }
+    u
 }
 
 // The hash value after h, by the block whose words are m.

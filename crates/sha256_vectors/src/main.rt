@@ -1,6 +1,5 @@
 // Writes digests, one to a line: of the standard's example messages, of a million bytes, of a message of each length from 0
 // to 200 in two cuttings and after a first byte, and of links of words. reference/vectors.py writes what they must be.
-ghost use mathlib.Core.Path.{_≡_};
 ghost use Prim.Native.Nat.{_≤_, _<_};
 ghost use lib.ListN.{length};
 

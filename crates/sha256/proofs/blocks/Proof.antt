@@ -1,8 +1,6 @@
 -- `sha256::blocks` meets its contract.
-use Prim.Native.Nat.{_≤_, _<_, _-_, _+_, _*_, _/_}
+use Prim.Native.Nat.{_≤_, _-_}
 use mathlib.Core.Path.{_≡_}
-use mathlib.Core.List.{_++_}
-use lib.ListN.{length, take, getD}
 use borrow.Author.Needs.{needs}
 use native.Mathlib.Omega.{arith}
 use Rattle.sha256.specs.Sha256 as spec

@@ -1,9 +1,8 @@
 -- `sha256::bytes` meets its contract.
 use lib.ListN.{length-set}
-use Prim.Native.Nat.{_≤_, _<_, _-_, _+_, _*_, _/_}
+use Prim.Native.Nat.{_≤_, _-_, _*_}
 use mathlib.Core.Path.{_≡_, refl}
-use mathlib.Core.List.{_++_}
-use lib.ListN.{length, take, getD}
+use lib.ListN.{length, take}
 use borrow.Author.Needs.{needs}
 use native.Mathlib.Omega.{arith}
 use Rattle.sha256.specs.Sha256 as spec

@@ -1,5 +1,5 @@
 -- `sha256::first` meets its contract.
-use Rattle.sha256.specs.Sha256.{first}
+use Rattle.sha256.proofs.Compose.{first-of}
 use borrow.Author.Needs.{needs}
 use Rattle.sha256.proofs.first.Statement.{statement}
 use Rattle.sha256.proofs.first.Tie as tie
@@ -23,8 +23,7 @@ plus-requires-4 : tie.Need-plus-requires-4
 plus-requires-4 c κs = search needs
 
 returns : tie.Need-returns
-unfolding first
-returns c = cc
+returns c = first-of _ _ _ _ _ _ (c .before .before .before .before .before .big1 .ensures) (c .before .before .before .before .plus .ensures) (c .before .before .before .ch .ensures) (c .before .before .plus2 .ensures) (c .before .plus3 .ensures) (c .plus4 .ensures)
 
 pub first-spec : {M : Type 1} → statement M
 first-spec =

@@ -1,5 +1,5 @@
 -- `sha256::mixed` meets its contract.
-use Rattle.sha256.specs.Window.{mixed}
+use Rattle.sha256.proofs.Compose.{mixed-of}
 use borrow.Author.Needs.{needs}
 use Rattle.sha256.proofs.mixed.Statement.{statement}
 use Rattle.sha256.proofs.mixed.Tie as tie
@@ -20,8 +20,7 @@ plus-requires-3 : tie.Need-plus-requires-3
 plus-requires-3 c κs = search needs
 
 returns : tie.Need-returns
-unfolding mixed
-returns c = cc
+returns c = mixed-of _ _ _ _ (c .before .before .before .before .small1 .ensures) (c .before .before .before .plus .ensures) (c .before .before .small0 .ensures) (c .before .plus2 .ensures) (c .plus3 .ensures)
 
 pub mixed-spec : {M : Type 1} → statement M
 mixed-spec =

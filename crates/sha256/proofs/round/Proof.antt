@@ -1,6 +1,6 @@
 -- `sha256::round` meets its contract.
 use Rattle.sha256.proofs.Compose.{round-of}
-use Rattle.sha256.specs.Sha256.{round, turned}
+use Rattle.sha256.specs.Sha256.{round}
 use borrow.Author.Needs.{needs}
 use Rattle.sha256.proofs.round.Statement.{statement}
 use Rattle.sha256.proofs.round.Tie as tie

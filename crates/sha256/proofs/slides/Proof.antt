@@ -1,5 +1,5 @@
 -- `sha256::slides` meets its contract.
-use Rattle.sha256.proofs.Compose.{slid-of, slides-of, rounds-of}
+use Rattle.sha256.proofs.Compose.{slides-of}
 use borrow.Author.Needs.{needs}
 use Rattle.sha256.proofs.slides.Statement.{statement}
 use Rattle.sha256.proofs.slides.Tie as tie
