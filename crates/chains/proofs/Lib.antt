@@ -2,3 +2,4 @@ pub mod Slots
 pub mod Values
 pub mod Running
 pub mod BookLaws
+pub mod Puts

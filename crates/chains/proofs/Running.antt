@@ -278,7 +278,7 @@ module _ (s n : ℕ) (E : List (List ℕ)) (day : List ℕ) where
     all-days : ending (suc d) (suc d) ≡ days (suc d)
     all-days = let e : suc (suc d - suc d) ≡ 1 = omega arith in ap (λ (x : ℕ). upFrom x (suc d)) e
 
-    abbrev Right : Name → Type 0
+    abbrev pub Right : Name → Type 0
     Right x = bytesOf (current (linked b h) (linkedSlots s n (suc d) h slots) x .words) ≡ value sha256 (start s n) F (cover n x)
 
     black-right : (x : Name) → x among (black (suc d) ∷ []) → Right x
@@ -288,7 +288,8 @@ module _ (s n : ℕ) (E : List (List ℕ)) (day : List ℕ) where
         bytesOf (getD (linkedSlots s n (suc d) h slots) i (linked b h) .words) ≡ value sha256 (start s n) F (cover n (slotName s i (suc d)))
     slot-right i u e = slot-next i (linked b h) u ∙ ap (value sha256 (start s n) F) (ended s n d i a u e .0)
 
-names-right : (s n : ℕ) (E : List (List ℕ)) (day : List ℕ) (a : allowedN n ≡ true) (b : Value) (slots : List Value) (h : List ℕ) (held : Holds s n E b slots)
+-- each named value of the day is that of its chain
+pub names-right : (s n : ℕ) (E : List (List ℕ)) (day : List ℕ) (a : allowedN n ≡ true) (b : Value) (slots : List Value) (h : List ℕ) (held : Holds s n E b slots)
     (hash : bytesOf h ≡ digest sha256 day) → suc (length E) ≤ 65536 → (x : Name) → x among names s n (suc (length E)) → Right s n E day a b slots h held hash x
 names-right zero n E day a b slots h held hash few x m = elim m [ ]
 names-right (suc zero) n E day a b slots h held hash few x m =

@@ -2,8 +2,9 @@
 // them are values of that day. Closing a day and checking one use the same step.
 ghost use mathlib.Core.Path.{_≡_};
 ghost use mathlib.Core.Bool.{true};
+ghost use mathlib.Core.List.{_++_};
 ghost use Prim.Native.Nat.{_+_, _≤_, _<_, _^_};
-ghost use lib.ListN.{length, take};
+ghost use lib.ListN.{length, take, drop};
 ghost use Rattle.layouts.specs.Allowed.{allowedScheme, allowedN};
 ghost use Rattle.layouts.specs.Layouts.{names};
 ghost use Rattle.chains.specs.Step as spec;
@@ -171,5 +172,17 @@ pub fn step(
         slots: next,
         values,
         count: k,
+    }
+}
+
+// Writes 32 bytes at a place of the part.
+pub fn put(part: &mut [u8], at: usize, b: [u8; 32])
+    requires { ⌜ at + 32 ≤ length (now part) ⌝ }
+    ensures { λ r. ⌜ now (part .exit) ≡ take at (now (part .entry)) ++ b ++ drop (at + 32) (now (part .entry)) ⌝ }
+{
+    let mut j = 0usize;
+    while j < 32 {
+        part[at + j] = b[j];
+        j += 1;
     }
 }

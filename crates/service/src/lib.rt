@@ -205,18 +205,6 @@ fn need(k: u32) -> usize
     32 * (k as usize)
 }
 
-// Writes 32 bytes at a place of the part.
-fn put(part: &mut [u8], at: usize, b: [u8; 32])
-    requires { ⌜ at + 32 ≤ length (now part) ⌝ }
-    ensures { λ r. ⌜ now (part .exit) ≡ take at (now (part .entry)) ++ b ++ drop (at + 32) (now (part .entry)) ⌝ }
-{
-    let mut j = 0usize;
-    while j < 32 {
-        part[at + j] = b[j];
-        j += 1;
-    }
-}
-
 // Writes the first k values to the front of the part.
 fn write(part: &mut [u8], values: [Value; 17], k: u32)
     requires { ⌜ (k ≤ 17) × (32 * k ≤ length (now part)) ⌝ }
@@ -226,7 +214,7 @@ fn write(part: &mut [u8], values: [Value; 17], k: u32)
     while i < k {
         let v = values[i as usize];
         let w = v.words;
-        put(part, need(i), sha256::bytes(w));
+        chains::put(part, need(i), sha256::bytes(w));
         i += 1;
     }
 }

@@ -4,9 +4,9 @@ use lib.ListN.{length, length-set}
 use lib.Seq.{paste, paste-zero}
 use native.Mathlib.Omega.{arith}
 use borrow.Author.Needs.{needs}
-use Rattle.service.proofs.Writes.{put-next, put-done}
-use Rattle.service.proofs.put.Statement.{statement}
-use Rattle.service.proofs.put.Tie as tie
+use Rattle.chains.proofs.Puts.{put-next, put-done}
+use Rattle.chains.proofs.put.Statement.{statement}
+use Rattle.chains.proofs.put.Tie as tie
 
 abbrev Inv-loop : tie.InvT-loop
 Inv-loop part₀ at b j₀ part j = (j ≤ 32) × (length part ≡ length part₀) × (part ≡ paste part₀ at b j)
