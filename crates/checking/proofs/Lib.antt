@@ -1,0 +1,3 @@
+pub mod Compares
+pub mod Tests
+pub mod Through

@@ -1,0 +1,258 @@
+-- Checking day by day: what the buffers hold after i days.
+use mathlib.Core.Path.{_≡_, refl, sym, ap, ap₂, subst₂, _∙_}
+use mathlib.Core.Bool.{Bool, true, false, cond}
+use mathlib.Core.List.{List, [], _∷_, _++_, map, append-assoc, append-nil, List·Memᴰ, List·Memᴰ·head, List·Memᴰ·tail}
+use Prim.Native.Nat.{ℕ, zero, suc, pred, _+_, _-_, _*_, _≤_, _<_}
+use native.Mathlib.Numerals.{add-one}
+use native.Mathlib.Omega.{arith}
+use lib.ListN.{length, getD, take, drop, replicate, length-append, length-drop, List·getD-append}
+use lib.Seq.{drop-drop, getD-at, length-take-le}
+use borrow.Rule.Slice.PartMut.{midOf, putMid}
+use Rattle.evidence.specs.Lists.{_among_, same, upFrom}
+use Rattle.evidence.specs.Tables.{days, Within}
+use Rattle.evidence.specs.Values.{dayOf, digest, value, digests, outcomes}
+use Rattle.evidence.proofs.ListLaws.{upFrom-bounds}
+use Rattle.evidence.proofs.ValueLaws.{value-same}
+use Rattle.layouts.specs.Allowed.{allowedScheme, allowedN}
+use Rattle.layouts.specs.Layouts.{Name, cover, names, named, closing, chains}
+use Rattle.layouts.proofs.Counts.{length-upFrom}
+use Rattle.layouts.proofs.Coverage.{chains-within, chains-front, chains-suc, upFrom-snoc}
+use Rattle.ledger.specs.Ledger.{startOf, endOf, dayAt, daysOf, EndsHold}
+use Rattle.ledger.proofs.DayLaws.{days-none, days-snoc, days-length}
+use Rattle.sha256.specs.Sha256.{sha256, hashed, bytesOf}
+use Rattle.sha256.proofs.Laws.{sha256-length}
+use Rattle.chains.specs.declared.Value.{Value}
+use Rattle.chains.specs.declared.DayStep.{DayStep}
+use Rattle.chains.specs.Book.{start}
+use Rattle.chains.specs.Step.{startValue, linked, linkedSlots, current, dayValues, Stepped}
+use Rattle.chains.proofs.Values.{closing-length}
+use Rattle.chains.proofs.Running.{Holds, holds-fresh, holds-next, names-right}
+use Rattle.chains.proofs.Puts.{lent-put, lent-length}
+use Rattle.checking.proofs.Compares.{to-end}
+use Rattle.checking.specs.Calls.{digestsOf, outcomesOf, outcomeOf, compared, Ready}
+
+-- ---- digests and outcomes of one more day
+
+digests-append : (L : List (List ℕ)) (xs ys : List ℕ) → digests sha256 L (xs ++ ys) ≡ digests sha256 L xs ++ digests sha256 L ys
+digests-append L [] ys = refl
+digests-append L (x ∷ xs) ys = ap (λ (r : List ℕ). digest sha256 (dayOf L x) ++ r) (digests-append L xs ys) ∙ sym (append-assoc (digest sha256 (dayOf L x)) (digests sha256 L xs) (digests sha256 L ys))
+
+digests-same : (A B : List (List ℕ)) (xs : List ℕ) → ((g : ℕ) → g among xs → dayOf A g ≡ dayOf B g) → digests sha256 A xs ≡ digests sha256 B xs
+digests-same A B [] f = refl
+digests-same A B (x ∷ xs) f = ap₂ (λ (p q : List ℕ). digest sha256 p ++ q) (f x (List·Memᴰ·head refl)) (digests-same A B xs (λ g m. f g (List·Memᴰ·tail m)))
+
+digests-length : (L : List (List ℕ)) (xs : List ℕ) → length (digests sha256 L xs) ≡ 32 * length xs
+digests-length L [] = refl
+digests-length L (x ∷ xs) = omega (arith, length-append (digest sha256 (dayOf L x)) (digests sha256 L xs), sha256-length (0 ∷ dayOf L x), digests-length L xs)
+
+outcomes-append : (first : List ℕ) (L cs ds : List (List ℕ)) (book : List ℕ) →
+    outcomes sha256 first L (cs ++ ds) book ≡ outcomes sha256 first L cs book ++ outcomes sha256 first L ds (drop (32 * length cs) book)
+outcomes-append first L [] ds book = refl
+outcomes-append first L (c ∷ cs) ds book =
+    let e : 32 + 32 * length cs ≡ 32 * suc (length cs) = omega arith in
+    ap (λ (r : List ℕ). cond (same (take 32 book) (value sha256 first L c)) 1 0 ∷ r)
+    (outcomes-append first L cs ds (drop 32 book) ∙ ap (λ (r : List ℕ). outcomes sha256 first L cs (drop 32 book) ++ outcomes sha256 first L ds r) (drop-drop (32 * length cs) 32 book ∙ ap (λ (k : ℕ). drop k book) e))
+
+outcomes-same : (first : List ℕ) (A B cs : List (List ℕ)) (book : List ℕ) → ((c : List ℕ) → c among cs → value sha256 first A c ≡ value sha256 first B c) →
+    outcomes sha256 first A cs book ≡ outcomes sha256 first B cs book
+outcomes-same first A B [] book f = refl
+outcomes-same first A B (c ∷ cs) book f =
+    ap₂ (λ (v r : List ℕ). cond (same (take 32 book) v) 1 0 ∷ r) (f c (List·Memᴰ·head refl)) (outcomes-same first A B cs (drop 32 book) (λ d m. f d (List·Memᴰ·tail m)))
+
+pub outcomes-length : (first : List ℕ) (L cs : List (List ℕ)) (book : List ℕ) → length (outcomes sha256 first L cs book) ≡ length cs
+outcomes-length first L [] book = refl
+outcomes-length first L (c ∷ cs) book = ap suc (outcomes-length first L cs (drop 32 book))
+
+-- values of named chains, compared
+compared-names : (n : ℕ) (first : List ℕ) (F : List (List ℕ)) (b : Value) (l : List Value) (xs : List Name) (book : List ℕ) →
+    ((x : Name) → x among xs → bytesOf (current b l x .words) ≡ value sha256 first F (cover n x)) → compared (map (current b l) xs) book ≡ outcomes sha256 first F (map (cover n) xs) book
+unfolding compared
+compared-names n first F b l [] book f = refl
+compared-names n first F b l (x ∷ xs) book f =
+    ap₂ (λ (v r : List ℕ). cond (same (take 32 book) v) 1 0 ∷ r) (f x (List·Memᴰ·head refl)) (compared-names n first F b l xs (drop 32 book) (λ y m. f y (List·Memᴰ·tail m)))
+
+compared-day : (s n : ℕ) (E : List (List ℕ)) (day : List ℕ) (a : allowedN n ≡ true) (b : Value) (slots : List Value) (h : List ℕ) → Holds s n E b slots → bytesOf h ≡ digest sha256 day →
+    suc (length E) ≤ 65536 → (book : List ℕ) →
+    compared (dayValues s n (suc (length E)) (linked b h) (linkedSlots s n (suc (length E)) h slots)) book ≡ outcomes sha256 (start s n) (E ++ (day ∷ [])) (closing s n (suc (length E))) book
+unfolding dayValues closing
+compared-day s n E day a b slots h held hash few book =
+    compared-names n (start s n) (E ++ (day ∷ [])) (linked b h) (linkedSlots s n (suc (length E)) h slots) (names s n (suc (length E))) book (names-right s n E day a b slots h held hash few)
+
+-- ---- after i days
+
+pub record Through (s n : ℕ) (ledger ends book oldWork oldOutcomes : List ℕ) (i at : ℕ) (b : Value) (slots : List Value) (work outs : List ℕ) : Type 0 where
+  pub holds : Holds s n (daysOf ledger ends i) b slots
+  pub at-is : at ≡ length (chains s n i)
+  pub work-is : work ≡ digestsOf ledger ends i ++ drop (32 * i) oldWork
+  pub outcomes-are : outs ≡ outcomesOf s n i ledger ends book ++ drop at oldOutcomes
+  pub work-length : length work ≡ length oldWork
+  pub outcomes-length-is : length outs ≡ length oldOutcomes
+
+pub none : (s n : ℕ) (ledger ends book work outs : List ℕ) (v : Value) → allowedN n ≡ true → v ≡ startValue s n → Through s n ledger ends book work outs 0 0 v (replicate 17 v) work outs
+unfolding digestsOf outcomesOf chains named
+none s n ledger ends book work outs v a e =
+    record {
+      holds = rw (days-none ledger ends, e) (holds-fresh s n a);
+      at-is = refl;
+      work-is = refl;
+      outcomes-are = refl;
+      work-length = refl;
+      outcomes-length-is = refl;
+    }
+
+module _ (s n d : ℕ) (ledger ends book oldWork oldOutcomes : List ℕ) (ok : Ready s n d ends (length ledger) (length book) (length oldWork) (length oldOutcomes)) where
+  abbrev E : ℕ → List (List ℕ)
+  E i = daysOf ledger ends i
+
+  few-chains : (i : ℕ) → i ≤ d → length (chains s n i) ≤ length (chains s n d)
+  few-chains i h =
+      let r = chains-front s n i d h in
+      omega (arith, ap length (r .1), length-append (chains s n i) (r .0))
+
+  module _ (i at : ℕ) (b : Value) (slots : List Value) (work outs : List ℕ) (t : Through s n ledger ends book oldWork oldOutcomes i at b slots work outs) (h : i < d) where
+    days-are : length (E i) ≡ i
+    days-are = days-length ledger ends i
+
+    next-count : length (chains s n (suc i)) ≡ length (chains s n i) + length (names s n (suc i))
+    next-count = ap length (chains-suc s n i) ∙ length-append (chains s n i) (closing s n (suc i)) ∙ ap (λ (x : ℕ). length (chains s n i) + x) (closing-length s n (suc i))
+
+    -- what the day's call asks
+    pub asks : (1 ≤ i + 1) × (i + 1 ≤ 65536) × (32 ≤ length (midOf (32 * i) (length work - 32 * i) work)) ×
+        (32 * length (names s n (i + 1)) ≤ length (take (length book - 32 * at) (drop (32 * at) book))) × (length (names s n (i + 1)) ≤ length (midOf at (length outs - at) outs))
+    asks =
+        let f = few-chains (suc i) h in
+        let c = next-count in
+        let e : length (names s n (i + 1)) ≡ length (names s n (suc i)) = ap (λ (x : ℕ). length (names s n x)) (add-one i) in (
+          omega arith,
+          omega (arith, ok .days-most),
+          rw (length-part work (32 * i)) (omega (arith, t .work-length, ok .work-long)),
+          rw (length-part book (32 * at)) (omega (arith, t .at-is, ok .book-long)),
+          rw (length-part outs at) (omega (arith, t .at-is, ok .outcomes-long, t .outcomes-length-is)),
+        )
+      where
+        length-part : (xs : List ℕ) (k : ℕ) → length (take (length xs - k) (drop k xs)) ≡ length xs - k
+        length-part xs k = length-take-le (length xs - k) (drop k xs) (rw length-drop (omega arith))
+
+    -- the day
+    abbrev day : List ℕ
+    day = dayAt ledger ends i
+
+    snoc : E (suc i) ≡ E i ++ (day ∷ [])
+    snoc = days-snoc ledger ends i
+
+    old-days : (x : ℕ) → (1 ≤ x) × (x ≤ i) → dayOf (E (suc i)) x ≡ dayOf (E i) x
+    old-days x k = ap (λ (l : List (List ℕ)). dayOf l x) snoc ∙ List·getD-append (E i) (day ∷ []) [] (pred x) (omega (arith, k .0, k .1, days-are))
+
+    new-day : dayOf (E (suc i)) (suc i) ≡ day
+    new-day = ap (λ (l : List (List ℕ)). getD l i []) snoc ∙ getD-at (E i) day [] [] i days-are
+
+    digests-next : digestsOf ledger ends (suc i) ≡ digestsOf ledger ends i ++ digest sha256 day
+    unfolding digestsOf
+    digests-next =
+        ap (digests sha256 (E (suc i))) (upFrom-snoc 1 i ∙ ap (λ (x : ℕ). days i ++ (x ∷ [])) one-more) ∙ digests-append (E (suc i)) (days i) (suc i ∷ []) ∙
+        ap₂ (λ (p q : List ℕ). p ++ q) (digests-same (E (suc i)) (E i) (days i) (λ g m. let k = upFrom-bounds 1 i g m in old-days g (omega arith, omega arith)))
+        (ap (λ (p : List ℕ). digest sha256 p ++ []) new-day ∙ append-nil (digest sha256 day))
+      where
+        one-more : 1 + i ≡ suc i
+        one-more = omega arith
+
+    digests-size : length (digestsOf ledger ends i) ≡ 32 * i
+    unfolding digestsOf
+    digests-size = digests-length (E i) (days i) ∙ ap (λ (x : ℕ). 32 * x) (length-upFrom 1 i)
+
+    outcomes-next : outcomesOf s n (suc i) ledger ends book ≡ outcomesOf s n i ledger ends book ++ outcomes sha256 (start s n) (E i ++ (day ∷ [])) (closing s n (suc (length (E i)))) (drop (32 * at) book)
+    unfolding outcomesOf
+    outcomes-next =
+        ap (λ (cs : List (List ℕ)). outcomes sha256 (start s n) (E (suc i)) cs book) (chains-suc s n i) ∙
+        outcomes-append (start s n) (E (suc i)) (chains s n i) (closing s n (suc i)) book ∙
+        ap₂ (λ (p q : List ℕ). p ++ q) (outcomes-same (start s n) (E (suc i)) (E i) (chains s n i) book (λ c m. value-same sha256 (E (suc i)) (E i) c (start s n) (λ g k. old-days g (chains-within s n i c m g k))))
+        (ap₂ (λ (L : List (List ℕ)) (k : ℕ). outcomes sha256 (start s n) L (closing s n (suc k)) (drop (32 * length (chains s n i)) book)) snoc (sym days-are) ∙
+        ap (λ (k : ℕ). outcomes sha256 (start s n) (E i ++ (day ∷ [])) (closing s n (suc (length (E i)))) (drop (32 * k) book)) (sym (t .at-is)))
+
+    outcomes-size : length (outcomesOf s n i ledger ends book) ≡ at
+    unfolding outcomesOf
+    outcomes-size = outcomes-length (start s n) (E i) (chains s n i) book ∙ sym (t .at-is)
+
+    -- the day's call
+    module _ (bytes : List ℕ) (g : ℕ) (first : Value) (r : DayStep) (w o : List ℕ) (is-day : bytes ≡ day) (is-next : g ≡ i + 1) (is-first : first ≡ startValue s n)
+        (stepped : Stepped s n g first b slots (hashed (0 ∷ bytes)) r) (worked : w ≡ bytesOf (hashed (0 ∷ bytes)) ++ drop 32 (midOf (32 * i) (length work - 32 * i) work))
+        (found : o ≡ compared (take (r .count) (r .values)) (take (length book - 32 * at) (drop (32 * at) book)) ++ drop (r .count) (midOf at (length outs - at) outs)) where
+      hash : bytesOf (hashed (0 ∷ bytes)) ≡ digest sha256 day
+      unfolding sha256
+      hash = ap (λ (x : List ℕ). bytesOf (hashed (0 ∷ x))) is-day
+
+      day-is : g ≡ suc (length (E i))
+      day-is = omega (arith, days-are)
+
+      stepped′ : Stepped s n (suc (length (E i))) (startValue s n) b slots (hashed (0 ∷ bytes)) r
+      stepped′ = subst₂ (λ (x : ℕ) (v : Value). Stepped s n x v b slots (hashed (0 ∷ bytes)) r) day-is is-first stepped
+
+      room : suc (length (E i)) ≤ 65536
+      room = omega (arith, days-are, ok .days-most)
+
+      count-is : at + r .count ≡ length (chains s n (suc i))
+      count-is = omega (arith, t .at-is, next-count, stepped′ .count-is ∙ ap (λ (x : ℕ). length (names s n (suc x))) days-are)
+
+      found-is : compared (take (r .count) (r .values)) (take (length book - 32 * at) (drop (32 * at) book)) ≡ outcomes sha256 (start s n) (E i ++ (day ∷ [])) (closing s n (suc (length (E i)))) (drop (32 * at) book)
+      found-is =
+          ap₂ compared (stepped′ .values-are) (to-end book (32 * at)) ∙ compared-day s n (E i) day (ok .n-ok) b slots (hashed (0 ∷ bytes)) (t .holds) hash room (drop (32 * at) book)
+
+      work-put : putMid (32 * i) (length work - 32 * i) work w ≡ digestsOf ledger ends (suc i) ++ drop (32 * suc i) oldWork
+      work-put =
+          let k : 32 * i + 32 ≡ 32 * suc i = omega arith in
+          lent-put (digestsOf ledger ends i) oldWork work (32 * i) (t .work-is) digests-size (t .work-length) w (bytesOf (hashed (0 ∷ bytes))) 32 worked ∙
+          ap₂ (λ (p : List ℕ) (x : ℕ). p ++ drop x oldWork) (ap (λ (p : List ℕ). digestsOf ledger ends i ++ p) hash ∙ sym digests-next) k
+
+      outcomes-put : putMid at (length outs - at) outs o ≡ outcomesOf s n (suc i) ledger ends book ++ drop (at + r .count) oldOutcomes
+      outcomes-put =
+          lent-put (outcomesOf s n i ledger ends book) oldOutcomes outs at (t .outcomes-are) outcomes-size (t .outcomes-length-is) o
+          (compared (take (r .count) (r .values)) (take (length book - 32 * at) (drop (32 * at) book))) (r .count) found ∙
+          ap (λ (p : List ℕ). p ++ drop (at + r .count) oldOutcomes) (ap (λ (p : List ℕ). outcomesOf s n i ledger ends book ++ p) found-is ∙ sym outcomes-next)
+
+      values-length : length (compared (take (r .count) (r .values)) (take (length book - 32 * at) (drop (32 * at) book))) ≡ r .count
+      values-length =
+          ap length found-is ∙ outcomes-length (start s n) (E i ++ (day ∷ [])) (closing s n (suc (length (E i)))) (drop (32 * at) book) ∙
+          closing-length s n (suc (length (E i))) ∙ sym (stepped′ .count-is)
+
+      pub next : Through s n ledger ends book oldWork oldOutcomes (i + 1) (at + r .count) (r .black) (r .slots) (putMid (32 * i) (length work - 32 * i) work w) (putMid at (length outs - at) outs o)
+      next =
+          let f = few-chains (suc i) h in
+          rw (add-one i) (record {
+            holds = rw snoc (holds-next s n (E i) day (ok .n-ok) b slots (hashed (0 ∷ bytes)) (t .holds) hash (stepped′ .black-is) (stepped′ .slots-are));
+            at-is = count-is;
+            work-is = work-put;
+            outcomes-are = outcomes-put;
+            work-length =
+                lent-length (digestsOf ledger ends i) oldWork work (32 * i) (t .work-is) digests-size (t .work-length) w (bytesOf (hashed (0 ∷ bytes))) 32 worked
+                (ap length hash ∙ sha256-length (0 ∷ day)) (omega (arith, ok .work-long));
+            outcomes-length-is =
+                lent-length (outcomesOf s n i ledger ends book) oldOutcomes outs at (t .outcomes-are) outcomes-size (t .outcomes-length-is) o
+                (compared (take (r .count) (r .values)) (take (length book - 32 * at) (drop (32 * at) book))) (r .count) found values-length (omega (arith, count-is, ok .outcomes-long));
+          })
+
+      pub at-fits : at + r .count ≤ length oldOutcomes
+      at-fits = let f = few-chains (suc i) h in omega (arith, count-is, ok .outcomes-long)
+
+  -- where the parts that a turn lends begin
+  pub begins : (i at : ℕ) (b : Value) (slots : List Value) (work outs : List ℕ) → Through s n ledger ends book oldWork oldOutcomes i at b slots work outs → i ≤ d →
+      (32 * at ≤ length book) × (32 * i ≤ length work) × (at ≤ length outs)
+  begins i at b slots work outs t h =
+      let f = few-chains i h in (
+        omega (arith, t .at-is, ok .book-long),
+        omega (arith, t .work-length, ok .work-long),
+        omega (arith, t .at-is, ok .outcomes-long, t .outcomes-length-is),
+      )
+
+  pub done : (i at : ℕ) (b : Value) (slots : List Value) (work outs : List ℕ) → Through s n ledger ends book oldWork oldOutcomes i at b slots work outs → i ≡ d →
+      (work ≡ digestsOf ledger ends d ++ drop (32 * d) oldWork) × (outs ≡ outcomesOf s n d ledger ends book ++ drop (length (chains s n d)) oldOutcomes)
+  done i at b slots work outs t e =
+      (t .work-is ∙ rw e, t .outcomes-are ∙ ap₂ (λ (x y : ℕ). outcomesOf s n x ledger ends book ++ drop y oldOutcomes) e (t .at-is ∙ ap (λ (x : ℕ). length (chains s n x)) e))
+
+-- the lengths of what a whole check writes
+pub digests-whole : (ledger ends : List ℕ) (d : ℕ) → length (digestsOf ledger ends d) ≡ 32 * d
+unfolding digestsOf
+digests-whole ledger ends d = digests-length (daysOf ledger ends d) (days d) ∙ ap (λ (x : ℕ). 32 * x) (length-upFrom 1 d)
+
+pub outcomes-whole : (s n d : ℕ) (ledger ends book : List ℕ) → length (outcomesOf s n d ledger ends book) ≡ length (chains s n d)
+unfolding outcomesOf
+outcomes-whole s n d ledger ends book = outcomes-length (start s n) (daysOf ledger ends d) (chains s n d) book

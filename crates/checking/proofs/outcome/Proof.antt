@@ -1,0 +1,19 @@
+use mathlib.Core.Path.{sym, _∙_}
+use borrow.Author.Needs.{needs}
+use Rattle.checking.proofs.outcome.Statement.{statement}
+use Rattle.checking.proofs.outcome.Tie as tie
+
+bytes-requires : tie.Need-bytes-requires
+bytes-requires c κs = search needs
+
+same-requires : tie.Need-same-requires
+same-requires c κs = search needs
+
+returns : tie.Need-returns
+returns c = rw (← (c .before .before .bytes .ensures), ← (c .before .same .ensures), c .if1 .taken)
+
+returns-2 : tie.Need-returns-2
+returns-2 c = rw (← (c .before .before .bytes .ensures), ← (c .before .same .ensures), c .if1 .left)
+
+pub outcome-spec : {M : Type 1} → statement M
+outcome-spec = tie.close (tie.spec bytes-requires same-requires returns returns-2)
