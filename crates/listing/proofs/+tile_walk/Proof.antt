@@ -1,0 +1,224 @@
+use Rattle.listing.proofs.Writes.{wrote-one, wrote-as, tile-day, tile-upper, level-less, level-some, place-one, left-place, lower-tile, upper-tile, tile-sum, tile-small, tile-level, tile-right-place, tile-join}
+use Rattle.rules.specs.Rules.{tileBit}
+use borrow.Author.Needs.{needs}
+use lib.ListN.{length-set}
+use Prim.Native.Nat.{ℕ, _<_}
+use mathlib.Core.Path.{_∙_}
+use borrow.Fn.Kinds.{In}
+use borrow.Fn.PlainCycle.{Measures, is, falls, and}
+use Rattle.listing.proofs.tile_walk.Reads as tile-walk
+use Rattle.listing.proofs.tile_walk.Kinds as tile-walk-kinds
+use Rattle.listing.proofs.+tile_walk.Lts-tile_walk as tile-walk-lts
+use Rattle.rules.proofs.size.Reads as size-reads
+use Rattle.rules.proofs.tile_bit.Reads as tile-bit-reads
+use Rattle.listing.proofs.+tile_walk.{statement}
+use Rattle.listing.proofs.+tile_walk.Tie.{close}
+
+abbrev μ-tile-walk : Measures 2 tile-walk-kinds.ps ℕ
+μ-tile-walk κs a = a .1 .1 .0
+
+abbrev tile-walk-at : ℕ → In 2 tile-walk-kinds.ps
+tile-walk-at t = and 2 tile-walk-kinds.ps (is 2 tile-walk-kinds.ps μ-tile-walk t) tile-walk.Pre
+
+abbrev tile-walk-below : ℕ → In 2 tile-walk-kinds.ps
+tile-walk-below t =
+    and 2 tile-walk-kinds.ps (falls 2 tile-walk-kinds.ps _<_ μ-tile-walk t) tile-walk.Pre
+
+tile-walk-mul-list : (t : ℕ) → tile-walk-lts.Need-mul-list (
+  size-reads.Asked,
+  size-reads.Learnt,
+  tile-bit-reads.Asked,
+  tile-bit-reads.Learnt,
+  tile-walk-below t,
+  tile-walk.Post,
+) (tile-walk-at t) tile-walk.Post
+tile-walk-mul-list t c = search needs
+
+tile-walk-slice-write-list : (t : ℕ) → tile-walk-lts.Need-slice-write-list (
+  size-reads.Asked,
+  size-reads.Learnt,
+  tile-bit-reads.Asked,
+  tile-bit-reads.Learnt,
+  tile-walk-below t,
+  tile-walk.Post,
+) (tile-walk-at t) tile-walk.Post
+tile-walk-slice-write-list t c = place-one _ _ _ (c .before .before .before .pre .1 .1)
+
+tile-walk-add-result : (t : ℕ) → tile-walk-lts.Need-add-result (
+  size-reads.Asked,
+  size-reads.Learnt,
+  tile-bit-reads.Asked,
+  tile-bit-reads.Learnt,
+  tile-walk-below t,
+  tile-walk.Post,
+) (tile-walk-at t) tile-walk.Post
+tile-walk-add-result t c = search needs
+
+tile-walk-same-length : (t : ℕ) → tile-walk-lts.Need-same-length (
+  size-reads.Asked,
+  size-reads.Learnt,
+  tile-bit-reads.Asked,
+  tile-bit-reads.Learnt,
+  tile-walk-below t,
+  tile-walk.Post,
+) (tile-walk-at t) tile-walk.Post
+tile-walk-same-length t c = length-set (c .before .before .before .args .list .now) (c .before .before .before .args .at) (c .before .before .before .args .day)
+
+tile-walk-returns : (t : ℕ) → tile-walk-lts.Need-returns (
+  size-reads.Asked,
+  size-reads.Learnt,
+  tile-bit-reads.Asked,
+  tile-bit-reads.Learnt,
+  tile-walk-below t,
+  tile-walk.Post,
+) (tile-walk-at t) tile-walk.Post
+tile-walk-returns t c = wrote-one _ _ _ _ (tile-day _ _ _ (c .if1 .taken)) (place-one _ _ _ (c .before .before .before .pre .1 .1))
+
+tile-walk-sub-l : (t : ℕ) → tile-walk-lts.Need-sub-l (
+  size-reads.Asked,
+  size-reads.Learnt,
+  tile-bit-reads.Asked,
+  tile-bit-reads.Learnt,
+  tile-walk-below t,
+  tile-walk.Post,
+) (tile-walk-at t) tile-walk.Post
+tile-walk-sub-l t c = level-some _ (c .if1 .left)
+
+tile-walk-size-requires : (t : ℕ) → tile-walk-lts.Need-size-requires (
+  size-reads.Asked,
+  size-reads.Learnt,
+  tile-bit-reads.Asked,
+  tile-bit-reads.Learnt,
+  tile-walk-below t,
+  tile-walk.Post,
+) (tile-walk-at t) tile-walk.Post
+tile-walk-size-requires t c κs = tile-small (c .before .before .before .pre .1 .0)
+
+tile-walk-tile-bit-requires : (t : ℕ) → tile-walk-lts.Need-tile-bit-requires (
+  size-reads.Asked,
+  size-reads.Learnt,
+  tile-bit-reads.Asked,
+  tile-bit-reads.Learnt,
+  tile-walk-below t,
+  tile-walk.Post,
+) (tile-walk-at t) tile-walk.Post
+tile-walk-tile-bit-requires t c κs = (c .before .before .before .before .pre .1 .0 .at, tile-level (c .before .before .before .before .pre .1 .0))
+
+tile-walk-add-tile-walk : (t : ℕ) → tile-walk-lts.Need-add-tile-walk (
+  size-reads.Asked,
+  size-reads.Learnt,
+  tile-bit-reads.Asked,
+  tile-bit-reads.Learnt,
+  tile-walk-below t,
+  tile-walk.Post,
+) (tile-walk-at t) tile-walk.Post
+tile-walk-add-tile-walk t c = record { fits = tile-sum (c .before .before .before .before .before .before .pre .1 .0) (c .before .before .before .if1 .left) (c .before .before .size .ensures) }
+
+tile-walk-tile-walk-requires : (t : ℕ) → tile-walk-lts.Need-tile-walk-requires (
+  size-reads.Asked,
+  size-reads.Learnt,
+  tile-bit-reads.Asked,
+  tile-bit-reads.Learnt,
+  tile-walk-below t,
+  tile-walk.Post,
+) (tile-walk-at t) tile-walk.Post
+tile-walk-tile-walk-requires t c κs = (level-less _ _ (c .before .before .before .before .before .before .before .pre .0) (c .before .before .before .before .if1 .left), (upper-tile (c .before .before .before .before .before .before .before .pre .1 .0) (c .before .before .before .before .if1 .left) (c .before .before .before .size .ensures), left-place _ _ _ (c .before .before .before .before .if1 .left) (c .before .before .before .before .before .before .before .pre .1 .1)))
+
+tile-walk-same-length-2 : (t : ℕ) → tile-walk-lts.Need-same-length-2 (
+  size-reads.Asked,
+  size-reads.Learnt,
+  tile-bit-reads.Asked,
+  tile-bit-reads.Learnt,
+  tile-walk-below t,
+  tile-walk.Post,
+) (tile-walk-at t) tile-walk.Post
+tile-walk-same-length-2 t c = c .before .before .tile-walk .kept .1 .1 .1 .1 .1 .0
+
+tile-walk-returns-2 : (t : ℕ) → tile-walk-lts.Need-returns-2 (
+  size-reads.Asked,
+  size-reads.Learnt,
+  tile-bit-reads.Asked,
+  tile-bit-reads.Learnt,
+  tile-walk-below t,
+  tile-walk.Post,
+) (tile-walk-at t) tile-walk.Post
+tile-walk-returns-2 t c = wrote-as _ (tile-upper (tileBit (c .before .before .before .before .before .before .before .before .before .before .args .n) (c .before .before .before .before .before .before .before .before .before .before .args .t .now) (c .before .before .before .before .before .before .before .before .before .before .args .g)) (c .before .before .before .before .before .before .before .before .before .before .args .level) (c .before .before .before .before .before .before .before .before .before .before .args .day) (c .before .before .before .before .before .before .size .result) (c .before .before .before .before .before .tile-bit .ensures) (c .before .before .before .before .if2 .taken) (c .before .before .before .before .before .before .before .if1 .left) (c .before .before .before .before .before .before .size .ensures)) (c .before .before .tile-walk .ensures)
+
+tile-walk-tile-walk-requires-2 : (t : ℕ) → tile-walk-lts.Need-tile-walk-requires-2 (
+  size-reads.Asked,
+  size-reads.Learnt,
+  tile-bit-reads.Asked,
+  tile-bit-reads.Learnt,
+  tile-walk-below t,
+  tile-walk.Post,
+) (tile-walk-at t) tile-walk.Post
+tile-walk-tile-walk-requires-2 t c κs = (level-less _ _ (c .before .before .before .before .before .before .before .pre .0) (c .before .before .before .before .if1 .left), (lower-tile (c .before .before .before .before .before .before .before .pre .1 .0) (c .before .before .before .before .if1 .left) (c .before .before .before .size .ensures), left-place _ _ _ (c .before .before .before .before .if1 .left) (c .before .before .before .before .before .before .before .pre .1 .1)))
+
+tile-walk-add-tile-walk-2 : (t : ℕ) → tile-walk-lts.Need-add-tile-walk-2 (
+  size-reads.Asked,
+  size-reads.Learnt,
+  tile-bit-reads.Asked,
+  tile-bit-reads.Learnt,
+  tile-walk-below t,
+  tile-walk.Post,
+) (tile-walk-at t) tile-walk.Post
+tile-walk-add-tile-walk-2 t c = record { fits = tile-sum (c .before .before .before .before .before .before .before .before .before .before .pre .1 .0) (c .before .before .before .before .before .before .before .if1 .left) (c .before .before .before .before .before .before .size .ensures) }
+
+tile-walk-tile-walk-requires-3 : (t : ℕ) → tile-walk-lts.Need-tile-walk-requires-3 (
+  size-reads.Asked,
+  size-reads.Learnt,
+  tile-bit-reads.Asked,
+  tile-bit-reads.Learnt,
+  tile-walk-below t,
+  tile-walk.Post,
+) (tile-walk-at t) tile-walk.Post
+tile-walk-tile-walk-requires-3 t c κs = (level-less _ _ (c .before .before .before .before .before .before .before .before .before .before .before .pre .0) (c .before .before .before .before .before .before .before .before .if1 .left), (upper-tile (c .before .before .before .before .before .before .before .before .before .before .before .pre .1 .0) (c .before .before .before .before .before .before .before .before .if1 .left) (c .before .before .before .before .before .before .before .size .ensures), tile-right-place (tileBit (c .before .before .before .before .before .before .before .before .before .before .before .args .n) (c .before .before .before .before .before .before .before .before .before .before .before .args .t .now) (c .before .before .before .before .before .before .before .before .before .before .before .args .g)) (c .before .before .before .before .before .before .before .before .before .before .before .args .level) (c .before .before .before .before .before .before .before .before .before .before .before .args .day) (c .before .before .before .before .before .before .before .before .before .before .before .args .at) (c .before .before .before .tile-walk2 .result) _ (c .before .before .before .before .before .before .before .before .before .before .before .args .list .now) _ (c .before .before .before .before .before .before .before .before .if1 .left) (c .before .before .before .before .before .before .before .before .before .before .before .pre .1 .1) (c .before .before .before .tile-walk2 .ensures) (c .before .before .before .tile-walk2 .kept .1 .1 .1 .1 .1 .0)))
+
+tile-walk-same-length-3 : (t : ℕ) → tile-walk-lts.Need-same-length-3 (
+  size-reads.Asked,
+  size-reads.Learnt,
+  tile-bit-reads.Asked,
+  tile-bit-reads.Learnt,
+  tile-walk-below t,
+  tile-walk.Post,
+) (tile-walk-at t) tile-walk.Post
+tile-walk-same-length-3 t c = c .before .before .tile-walk3 .kept .1 .1 .1 .1 .1 .0 ∙ c .before .before .before .before .before .before .tile-walk2 .kept .1 .1 .1 .1 .1 .0
+
+tile-walk-returns-3 : (t : ℕ) → tile-walk-lts.Need-returns-3 (
+  size-reads.Asked,
+  size-reads.Learnt,
+  tile-bit-reads.Asked,
+  tile-bit-reads.Learnt,
+  tile-walk-below t,
+  tile-walk.Post,
+) (tile-walk-at t) tile-walk.Post
+tile-walk-returns-3 t c = tile-join (tileBit (c .before .before .before .before .before .before .before .before .before .before .before .before .before .before .args .n) (c .before .before .before .before .before .before .before .before .before .before .before .before .before .before .args .t .now) (c .before .before .before .before .before .before .before .before .before .before .before .before .before .before .args .g)) (c .before .before .before .before .before .before .before .before .before .before .before .before .before .before .args .level) (c .before .before .before .before .before .before .before .before .before .before .before .before .before .before .args .day) (c .before .before .before .before .before .before .before .before .before .before .size .result) (c .before .before .before .before .before .before .before .before .before .before .before .before .before .before .args .at) (c .before .before .before .before .before .before .tile-walk2 .result) (c .before .before .tile-walk3 .result) (c .before .before .before .before .before .before .before .before .before .before .before .before .before .before .args .list .now) _ _ (c .before .before .before .before .before .before .before .before .before .tile-bit .ensures) (c .before .before .before .before .before .before .before .before .if2 .left) (c .before .before .before .before .before .before .before .before .before .before .before .if1 .left) (c .before .before .before .before .before .before .before .before .before .before .size .ensures) (c .before .before .before .before .before .before .before .before .before .before .before .before .before .before .pre .1 .1) (c .before .before .before .before .before .before .tile-walk2 .ensures) (c .before .before .tile-walk3 .ensures)
+
+pub +tile-walk-spec : {M : Type 1} → statement M
++tile-walk-spec = close μ-tile-walk λ t. tile-walk-lts.spec (
+  size-reads.Asked,
+  size-reads.Learnt,
+  tile-bit-reads.Asked,
+  tile-bit-reads.Learnt,
+  tile-walk-below t,
+  tile-walk.Post,
+)
+    (tile-walk-at t)
+    tile-walk.Post
+    (tile-walk-mul-list t)
+    (tile-walk-slice-write-list t)
+    (tile-walk-add-result t)
+    (tile-walk-same-length t)
+    (tile-walk-returns t)
+    (tile-walk-sub-l t)
+    (tile-walk-size-requires t)
+    (tile-walk-tile-bit-requires t)
+    (tile-walk-add-tile-walk t)
+    (tile-walk-tile-walk-requires t)
+    (tile-walk-same-length-2 t)
+    (tile-walk-returns-2 t)
+    (tile-walk-tile-walk-requires-2 t)
+    (tile-walk-add-tile-walk-2 t)
+    (tile-walk-tile-walk-requires-3 t)
+    (tile-walk-same-length-3 t)
+    (tile-walk-returns-3 t)

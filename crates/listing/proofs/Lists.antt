@@ -1,0 +1,237 @@
+-- The lists of an interval, of the intervals in turn and of the tree's maximal chains in turn are the days listed locally.
+use mathlib.Core.Path.{_≡_, refl, sym, ap, _∙_}
+use mathlib.Core.Bool.{Bool, true, false}
+use mathlib.Core.List.{List, [], _++_, append-nil}
+use Prim.Native.Nat.{ℕ, zero, suc, pred, _+_, _-_, _*_, _/_, _%_, _^_, _≤_, _<_}
+use native.Mathlib.Nat.{pow-succ', suc-mul, mul-assoc, div-one, div-eq-of-lt, div-mul-le-self}
+use native.Mathlib.Decide.{ℕ-discrete}
+use native.Mathlib.Omega.{arith}
+use lib.Dec.{eqb}
+use lib.ListN.{length}
+use lib.Pow.{shr-shr}
+use borrow.Author.Tests.{eq-eqb, ne-eqb}
+use Rattle.evidence.specs.Lists.{upFrom, keep}
+use Rattle.evidence.specs.Tables.{days}
+use Rattle.evidence.proofs.ListLaws.{and-both}
+use Rattle.layouts.specs.Allowed.{divides, allowedScheme}
+use Rattle.layouts.specs.Layouts.{lg, black, tile, ending}
+use Rattle.layouts.proofs.AllowedLaws.{allowed-n-is, allowed-scheme-is}
+use Rattle.layouts.proofs.Coverage.{divisor-le}
+use Rattle.layouts.proofs.Counts.{length-upFrom}
+use Rattle.rules.specs.Rules.{Table, Interval, Chain, passes, levelsRule, rules, blocksRule, tileBit, local}
+use Rattle.listing.specs.Walks.{Tile, Wrote, pick, tileDays, treeDays, topDays}
+use Rattle.rules.proofs.Runs.{keep-length, div-whole}
+use Rattle.listing.proofs.Walks.{run-none, run-all, tile-none, tile-days, tree-days, days-block}
+use Rattle.rules.proofs.Steps.{interval-number, interval-end, chain-of}
+use Rattle.listing.proofs.Writes.{wrote-none, wrote-length, wrote-join}
+
+-- ---- an interval
+
+pub interval-room : {s n g : ℕ} {t : List ℕ} → Interval s n g t → n ≤ g
+interval-room {s} {n} {g} h = divisor-le n g (h .has .some) (h .whole)
+
+pub black-none : (n g : ℕ) (t : List ℕ) {r : Bool} → Interval 1 n g t → r ≡ passes 1 n t (black g) → r ≡ true → keep (local 1 n t) (ending n g) ≡ []
+black-none n g t h e f =
+    let q = interval-number h in
+    rw q at (run-none n (pred (g / n)) t (rw q (sym e ∙ f)))
+
+pub black-all : (n g : ℕ) (t : List ℕ) {r : Bool} → Interval 1 n g t → r ≡ passes 1 n t (black g) → r ≡ false → keep (local 1 n t) (ending n g) ≡ upFrom (g - n + 1) (g + 1 - (g - n + 1))
+black-all n g t h e f =
+    let q = interval-number h in
+    let a : keep (local 1 n t) (ending n g) ≡ ending n g = rw q at (run-all n (pred (g / n)) t (rw q (sym e ∙ f))) in
+    let l = interval-room h in
+    let b : suc (g - n) ≡ g - n + 1 = omega arith in
+    let c : n ≡ g + 1 - (g - n + 1) = omega arith in
+    a ∙ ap (λ (x : ℕ). upFrom x n) b ∙ ap (upFrom (g - n + 1)) c
+
+pub tile-whole : (n g : ℕ) (t : List ℕ) {r : Bool} → Interval 2 n g t → r ≡ passes 2 n t (tile 0 g) → r ≡ true → keep (local 2 n t) (ending n g) ≡ []
+tile-whole n g t h e f =
+    let q = interval-number h in
+    rw q at (tile-none n (pred (g / n)) t (rw q (sym e ∙ f)))
+
+pub tile-failed : (n g : ℕ) (t : List ℕ) {k : ℕ} {r : Bool} → Interval 2 n g t → r ≡ passes 2 n t (tile 0 g) → r ≡ false → k ≡ lg n →
+    keep (local 2 n t) (ending n g) ≡ tileDays (tileBit n t g) k (g - n + 1)
+tile-failed n g t h e f z =
+    let q = interval-number h in
+    let w = allowed-n-is n (h .has .n-ok) in
+    let a : keep (local 2 n t) (ending n g) ≡ tileDays (tileBit n t g) (lg n) (suc (g - n)) = rw q at (tile-days n (pred (g / n)) t w (rw q (sym e ∙ f))) in
+    let b : suc (g - n) ≡ g - n + 1 = omega arith in
+    a ∙ ap (tileDays (tileBit n t g) (lg n)) b ∙ ap (λ (x : ℕ). tileDays (tileBit n t g) x (g - n + 1)) (sym z)
+
+pub tile-start : (n g k at m : ℕ) {t : List ℕ} → Interval 2 n g t → at + n ≤ m → k ≡ lg n → Tile n g k (g - n + 1) t × (at + 2 ^ k ≤ m)
+tile-start n g k at m h l e =
+    let w = allowed-n-is n (h .has .n-ok) in
+    let q = interval-room h in
+    let p : 2 ^ k ≡ n = ap (λ (x : ℕ). 2 ^ x) e ∙ sym (w .power) in
+    (record { at = h; level = omega arith; fits = omega arith }, omega arith)
+
+pub second : (s : ℕ) → allowedScheme s ≡ true → s ≤ 2 → (s ≡ 1 → ⊥) → s ≡ 2
+second s a l f = go s (allowed-scheme-is s a) l f
+  where
+    go : (x : ℕ) → (1 ≤ x) × (x ≤ 3) → x ≤ 2 → (x ≡ 1 → ⊥) → x ≡ 2
+    go zero b u v = absurd (omega (arith, b .0))
+    go (suc zero) b u v = absurd (v refl)
+    go (suc (suc zero)) b u v = refl
+    go (suc (suc (suc x))) b u v = absurd (omega arith)
+
+pub below-third : (s : ℕ) → allowedScheme s ≡ true → (s ≡ 3 → ⊥) → s ≤ 2
+below-third s a f = go s (allowed-scheme-is s a) f
+  where
+    go : (x : ℕ) → (1 ≤ x) × (x ≤ 3) → (x ≡ 3 → ⊥) → x ≤ 2
+    go zero b u = omega arith
+    go (suc zero) b u = omega arith
+    go (suc (suc zero)) b u = omega arith
+    go (suc (suc (suc zero))) b u = absurd (u refl)
+    go (suc (suc (suc (suc x)))) b u = absurd (omega (arith, b .1))
+
+pub local-as : (s n : ℕ) (t xs : List ℕ) (k : ℕ) → s ≡ k → keep (local s n t) xs ≡ keep (local k n t) xs
+local-as s n t xs k e = rw e
+
+-- ---- the intervals in turn
+
+few : (p : ℕ → Bool) (d : ℕ) → length (keep p (days d)) ≤ d
+few p d = let a = keep-length p (days d) in let b = length-upFrom 1 d in omega arith
+
+pub none-yet : (p : ℕ → Bool) (x : ℕ) (l : List ℕ) → x ≡ 0 → Wrote 0 (keep p (days x)) l 0 l
+none-yet p x l e = wrote-none 0 (keep p (days x)) l (ap (λ (y : ℕ). keep p (days y)) e)
+
+pub so-far-length : (p : ℕ → Bool) (x d r : ℕ) (l m : List ℕ) → x ≤ d → d ≤ length l → Wrote 0 (keep p (days x)) l r m → length m ≡ length l
+so-far-length p x d r l m a b u = let c = few p x in wrote-length 0 r (keep p (days x)) l m u (omega arith)
+
+pub so-far-place : (p : ℕ → Bool) (x r : ℕ) (l m : List ℕ) → Wrote 0 (keep p (days x)) l r m → r ≤ x
+so-far-place p x r l m u = let c = few p x in omega (arith, u .count)
+
+pub next-place : (p : ℕ → Bool) (n d k r : ℕ) (l m : List ℕ) → k < d / n → d ≤ length l → Wrote 0 (keep p (days (k * n))) l r m → r + n ≤ length m
+next-place p n d k r l m a b u =
+    let c = interval-end n d (suc k) a in
+    let e : suc k * n ≡ k * n + n = suc-mul k n in
+    let f = so-far-length p (k * n) d r l m (omega arith) b u in
+    let g = so-far-place p (k * n) r l m u in
+    omega arith
+
+pub next-interval : (p : ℕ → Bool) (n d k b r : ℕ) (l m y : List ℕ) → k < d / n → d ≤ length l → Wrote 0 (keep p (days (k * n))) l b m → Wrote b (keep p (ending n ((k + 1) * n))) m r y →
+    Wrote 0 (keep p (days ((k + 1) * n))) l r y
+next-interval p n d k b r l m y a h u v =
+    let e : k + 1 ≡ suc k = omega arith in
+    let c = interval-end n d (suc k) a in
+    let f = few p (suc k * n) in
+    let w : Wrote b (keep p (ending n (suc k * n))) m r y = rw e at v in
+    rw e (wrote-join 0 (keep p (days (suc k * n))) (keep p (days (k * n))) (keep p (ending n (suc k * n))) l m y b r (days-block p n k) (omega arith) u w)
+
+pub all-intervals : (p : ℕ → Bool) (n d k r : ℕ) (l m : List ℕ) → divides n d ≡ true → k ≤ d / n → d / n ≤ k → Wrote 0 (keep p (days (k * n))) l r m → Wrote 0 (keep p (days d)) l r m
+all-intervals p n d k r l m w a b u =
+    let e : k ≡ d / n = omega arith in
+    let f : k * n ≡ d = ap (λ (x : ℕ). x * n) e ∙ div-whole n d w in
+    rw f at u
+
+-- ---- the tree's maximal chains in turn
+
+-- the chains of level l and above make up the days through d / 2^l * 2^l
+odd-even : (d l : ℕ) → d / 2 ^ l ≡ d / 2 ^ suc l + d / 2 ^ suc l + d / 2 ^ l % 2
+odd-even d l =
+    let a : l + 1 ≡ suc l = omega arith in
+    let b : d / 2 ^ l / 2 ≡ d / 2 ^ suc l = shr-shr d l 1 ∙ ap (λ (x : ℕ). d / 2 ^ x) a in
+    omega arith
+
+twice : (q l : ℕ) → (q + q) * 2 ^ l ≡ q * 2 ^ suc l
+twice q l =
+    let a : q + q ≡ q * 2 = omega arith in
+    ap (λ (x : ℕ). x * 2 ^ l) a ∙ mul-assoc q 2 (2 ^ l) ∙ ap (λ (x : ℕ). q * x) (sym (pow-succ' 2 l))
+
+top-even : (d l : ℕ) → d / 2 ^ l % 2 ≡ 0 → d / 2 ^ l * 2 ^ l ≡ d / 2 ^ suc l * 2 ^ suc l
+top-even d l z =
+    let o = odd-even d l in
+    let e : d / 2 ^ l ≡ d / 2 ^ suc l + d / 2 ^ suc l = omega arith in
+    ap (λ (x : ℕ). x * 2 ^ l) e ∙ twice (d / 2 ^ suc l) l
+
+top-odd : (d l : ℕ) → (d / 2 ^ l % 2 ≡ 0 → ⊥) → d / 2 ^ l ≡ suc (d / 2 ^ suc l + d / 2 ^ suc l)
+top-odd d l z = go (d / 2 ^ l % 2) refl
+  where
+    go : (r : ℕ) → d / 2 ^ l % 2 ≡ r → d / 2 ^ l ≡ suc (d / 2 ^ suc l + d / 2 ^ suc l)
+    go zero e = absurd (z e)
+    go (suc r) e = let o = odd-even d l in omega arith
+
+top-end : (d l : ℕ) → (d / 2 ^ l % 2 ≡ 0 → ⊥) → d / 2 ^ l * 2 ^ l ≡ d / 2 ^ suc l * 2 ^ suc l + 2 ^ l
+top-end d l z =
+    ap (λ (x : ℕ). x * 2 ^ l) (top-odd d l z) ∙ suc-mul (d / 2 ^ suc l + d / 2 ^ suc l) (2 ^ l) ∙
+    ap (λ (x : ℕ). x + 2 ^ l) (twice (d / 2 ^ suc l) l)
+
+module _ (n d : ℕ) (t : List ℕ) (small : d ≤ 65536) (r : levelsRule n d t ≡ true) (l : ℕ) where
+  top-step : keep (local 3 n t) (days (d / 2 ^ l * 2 ^ l)) ≡ keep (local 3 n t) (days (d / 2 ^ suc l * 2 ^ suc l)) ++ topDays n d t l
+  unfolding topDays
+  top-step = go (ℕ-discrete (d / 2 ^ l % 2) 0)
+    where
+      p : ℕ → Bool
+      p = local 3 n t
+
+      q : ℕ
+      q = d / 2 ^ suc l
+
+      go : Dec (d / 2 ^ l % 2 ≡ 0) → keep p (days (d / 2 ^ l * 2 ^ l)) ≡ keep p (days (q * 2 ^ suc l)) ++ pick (eqb (d / 2 ^ l % 2) 0) [] (treeDays n t l (d / 2 ^ l * 2 ^ l))
+      go (yes z) = rw (eq-eqb (d / 2 ^ l % 2) 0 z) (ap (λ (x : ℕ). keep p (days x)) (top-even d l z) ∙ sym (append-nil (keep p (days (q * 2 ^ suc l)))))
+      go (no z) =
+          let o : d / 2 ^ l ≡ suc (q + q) = top-odd d l z in
+          let b : d / 2 ^ l * 2 ^ l ≤ d = div-mul-le-self d (2 ^ l) in
+          let c : suc (q + q) * 2 ^ l ≤ d = rw o at b in
+          rw (ne-eqb (d / 2 ^ l % 2) 0 z)
+          (ap (λ (x : ℕ). keep p (days (x * 2 ^ l))) o ∙ days-block p (2 ^ l) (q + q) ∙
+          ap (λ (x : ℕ). keep p (days x) ++ keep p (ending (2 ^ l) (suc (q + q) * 2 ^ l))) (twice q l) ∙
+          ap (λ (x : List ℕ). keep p (days (q * 2 ^ suc l)) ++ x) (tree-days n d t small r l (q + q) c ∙ ap (λ (x : ℕ). treeDays n t l (x * 2 ^ l)) (sym o)))
+
+-- one level
+pub top-none : (n d l w : ℕ) (t : List ℕ) → w ≡ 2 ^ l → d / w % 2 ≡ 0 → topDays n d t l ≡ []
+unfolding topDays
+top-none n d l w t e z = let f : d / 2 ^ l % 2 ≡ 0 = rw e at z in rw (eq-eqb (d / 2 ^ l % 2) 0 f)
+
+pub top-chain : (n d l w : ℕ) (t : List ℕ) → w ≡ 2 ^ l → (d / w % 2 ≡ 0 → ⊥) → topDays n d t l ≡ treeDays n t l (d / w * w)
+unfolding topDays
+top-chain n d l w t e z = rw e (let f : d / 2 ^ l % 2 ≡ 0 → ⊥ = rw e at z in rw (ne-eqb (d / 2 ^ l % 2) 0 f))
+
+pub top-walk : (n d l w at : ℕ) (t k : List ℕ) → Table 3 n d t → l ≤ 16 → w ≡ 2 ^ l → (d / w % 2 ≡ 0 → ⊥) → d ≤ length k → at ≤ d / 2 ^ suc l * 2 ^ suc l →
+    Chain n l (d / w * w) t × (at + 2 ^ l ≤ length k)
+top-walk n d l w at t k T h e z b c =
+    let f : d / 2 ^ l % 2 ≡ 0 → ⊥ = rw e at z in
+    let o = top-odd d l f in
+    let g = top-end d l f in
+    let u : d / 2 ^ l * 2 ^ l ≤ d = div-mul-le-self d (2 ^ l) in
+    let v : 1 ≤ d / w = rw e (omega arith) in
+    (chain-of (d / w) T e h v (omega arith), omega arith)
+
+pub top-fits : (d w : ℕ) → d ≤ 65536 → d / w * w < 2 ^ 32
+top-fits d w b = let u = div-mul-le-self d w in omega arith
+
+-- all levels
+pub no-level : (d : ℕ) → d ≤ 65536 → d / 2 ^ 17 * 2 ^ 17 ≡ 0
+no-level d b = let e : d / 2 ^ 17 ≡ 0 = div-eq-of-lt {n = d} {m = 2 ^ 17} (omega arith) in rw e
+
+pub level-place : (p : ℕ → Bool) (d l r : ℕ) (k m : List ℕ) → 0 < l → d ≤ length k → Wrote 0 (keep p (days (d / 2 ^ l * 2 ^ l))) k r m →
+    (d ≤ length m) × (r ≤ d / 2 ^ suc (l - 1) * 2 ^ suc (l - 1))
+level-place p d l r k m a b u =
+    let e : suc (l - 1) ≡ l = omega arith in
+    let c : d / 2 ^ l * 2 ^ l ≤ d = div-mul-le-self d (2 ^ l) in
+    let f = so-far-length p (d / 2 ^ l * 2 ^ l) d r k m c b u in
+    let g = so-far-place p (d / 2 ^ l * 2 ^ l) r k m u in
+    rw e (omega arith, omega arith)
+
+pub next-level : (n d : ℕ) (t : List ℕ) → d ≤ 65536 → levelsRule n d t ≡ true → (l b r : ℕ) (k m y : List ℕ) → 0 < l → d ≤ length k →
+    Wrote 0 (keep (local 3 n t) (days (d / 2 ^ l * 2 ^ l))) k b m → Wrote b (topDays n d t (l - 1)) m r y → Wrote 0 (keep (local 3 n t) (days (d / 2 ^ (l - 1) * 2 ^ (l - 1)))) k r y
+next-level n d t small h l b r k m y a c u v =
+    let e : suc (l - 1) ≡ l = omega arith in
+    let f : d / 2 ^ (l - 1) * 2 ^ (l - 1) ≤ d = div-mul-le-self d (2 ^ (l - 1)) in
+    let g = few (local 3 n t) (d / 2 ^ (l - 1) * 2 ^ (l - 1)) in
+    let q = top-step n d t small h (l - 1) in
+    wrote-join 0 (keep (local 3 n t) (days (d / 2 ^ (l - 1) * 2 ^ (l - 1)))) (keep (local 3 n t) (days (d / 2 ^ l * 2 ^ l))) (topDays n d t (l - 1)) k m y b r
+    (rw e at q) (omega arith) u v
+
+pub level-length : (p : ℕ → Bool) (d l r : ℕ) (k m : List ℕ) → d ≤ length k → Wrote 0 (keep p (days (d / 2 ^ l * 2 ^ l))) k r m → length m ≡ length k
+level-length p d l r k m b u = so-far-length p (d / 2 ^ l * 2 ^ l) d r k m (div-mul-le-self d (2 ^ l)) b u
+
+pub all-levels : (p : ℕ → Bool) (d l r : ℕ) (k m : List ℕ) → l ≤ 0 → Wrote 0 (keep p (days (d / 2 ^ l * 2 ^ l))) k r m → Wrote 0 (keep p (days d)) k r m
+all-levels p d l r k m a u =
+    let e : l ≡ 0 = omega arith in
+    let f : d / 2 ^ l * 2 ^ l ≡ d = ap (λ (x : ℕ). d / 2 ^ x * 2 ^ x) e ∙ (let g = div-one d in omega arith) in
+    rw f at u
+
+pub rules-levels : (s n d : ℕ) (t : List ℕ) → s ≡ 3 → rules s n d t ≡ true → levelsRule n d t ≡ true
+unfolding rules
+rules-levels s n d t e r = let q : rules 3 n d t ≡ true = rw e at r in and-both (blocksRule 3 n d t) (levelsRule n d t) q .1

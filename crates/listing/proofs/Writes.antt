@@ -1,0 +1,224 @@
+-- What the functions that write the list need: what was written after what, and the walks by their steps.
+use mathlib.Core.Path.{_≡_, refl, sym, ap, _∙_}
+use mathlib.Core.Bool.{Bool, true, false}
+use mathlib.Core.List.{List, [], _∷_, _++_, append-assoc}
+use Prim.Native.Nat.{ℕ, zero, suc, _+_, _-_, _^_, _≤_, _<_}
+use native.Mathlib.Nat.{pow-succ'}
+use native.Mathlib.Omega.{arith}
+use lib.ListN.{length, take, drop, set, length-append, length-drop, take-append-drop}
+use lib.Pow.{pow-pos}
+use lib.Seq.{length-take-le, take-at, drop-at, drop-drop, set-split}
+use Rattle.evidence.specs.Lists.{upFrom}
+use Rattle.layouts.specs.Layouts.{lg, tree}
+use Rattle.layouts.proofs.AllowedLaws.{allowed-n-is}
+use Rattle.layouts.proofs.Coverage.{upFrom-snoc}
+use Rattle.layouts.proofs.Counts.{length-upFrom}
+use Rattle.rules.specs.Rules.{Chain, passes}
+use Rattle.listing.specs.Walks.{Tile, Wrote, pick, tileDays, treeDays}
+use Rattle.rules.proofs.Steps.{chain-left, chain-right, chain-room}
+
+-- ---- written after
+
+pub wrote-none : (at : ℕ) (F l : List ℕ) → F ≡ [] → Wrote at F l at l
+wrote-none at F l e = rw e (record { count = omega arith; list = sym (take-append-drop at l) })
+
+pub wrote-one : (at g : ℕ) (F l : List ℕ) → F ≡ g ∷ [] → at < length l → Wrote at F l (at + 1) (set l at g)
+wrote-one at g F l e h = let p : at + 1 ≡ suc at = omega arith in rw (e, p) (record { count = omega arith; list = set-split l at g h })
+
+pub wrote-as : {at r : ℕ} {F l k : List ℕ} (G : List ℕ) → G ≡ F → Wrote at F l r k → Wrote at G l r k
+wrote-as G e h = rw e h
+
+pub wrote-length : (at r : ℕ) (F l k : List ℕ) → Wrote at F l r k → at + length F ≤ length l → length k ≡ length l
+wrote-length at r F l k h b =
+    let a = length-take-le at l (omega arith) in
+    let c = length-drop r l in
+    let e : length k ≡ length (take at l ++ (F ++ drop r l)) = ap length (h .list) in
+    let f = length-append (take at l) (F ++ drop r l) in
+    let g = length-append F (drop r l) in
+    omega (arith, h .count)
+
+pub wrote-join : (at : ℕ) (F A B l m k : List ℕ) (b r : ℕ) → F ≡ A ++ B → at + length F ≤ length l → Wrote at A l b m → Wrote b B m r k → Wrote at F l r k
+wrote-join at F A B l m k b r f h u v =
+    record { count = omega (arith, length-append A B, ap length f, u .count, v .count); list = v .list ∙ ap (λ (x : List ℕ). x ++ (B ++ drop r m)) front ∙ ap (λ (x : List ℕ). (take at l ++ A) ++ (B ++ x)) back ∙ whole }
+  where
+    n : at + (length A + length B) ≤ length l
+    n = omega (arith, length-append A B, ap length f)
+
+    size : length (take at l ++ A) ≡ b
+    size = length-append (take at l) A ∙ (let z = length-take-le at l (omega (arith, n)) in omega (arith, u .count))
+
+    m' : m ≡ (take at l ++ A) ++ drop b l
+    m' = u .list ∙ sym (append-assoc (take at l) A (drop b l))
+
+    front : take b m ≡ take at l ++ A
+    front = ap (take b) m' ∙ take-at (take at l ++ A) (drop b l) b size
+
+    back : drop r m ≡ drop r l
+    back =
+        ap (λ (x : ℕ). drop x m) (v .count) ∙ sym (drop-drop (length B) b m) ∙ ap (drop (length B)) (ap (drop b) m' ∙ drop-at (take at l ++ A) (drop b l) b size) ∙
+        drop-drop (length B) b l ∙ ap (λ (x : ℕ). drop x l) (sym (v .count))
+
+    whole : (take at l ++ A) ++ (B ++ drop r l) ≡ take at l ++ (F ++ drop r l)
+    whole = append-assoc (take at l) A (B ++ drop r l) ∙ ap (λ (x : List ℕ). take at l ++ x) (sym (append-assoc A B (drop r l)) ∙ ap (λ (x : List ℕ). x ++ drop r l) (sym f))
+
+-- ---- a run of days
+
+pub run-start : (first at : ℕ) (l : List ℕ) → Wrote at (upFrom first (first - first)) l at l
+run-start first at l = let e : first - first ≡ 0 = omega arith in wrote-none at (upFrom first (first - first)) l (ap (upFrom first) e)
+
+run-bound : (first day at : ℕ) (l : List ℕ) → at + (day - first) ≤ length l → at + length (upFrom first (day - first)) ≤ length l
+run-bound first day at l h = omega (arith, length-upFrom first (day - first))
+
+pub run-place : (first day end at p : ℕ) (l m : List ℕ) → first ≤ day → day < end → at + (end - first) ≤ length l → Wrote at (upFrom first (day - first)) l p m → (p < length m) × (length m ≡ length l)
+run-place first day end at p l m a b h u =
+    let c = run-bound first day at l (omega arith) in
+    let e = wrote-length at p (upFrom first (day - first)) l m u c in
+    (omega (arith, u .count, length-upFrom first (day - first)), e)
+
+pub run-next : (first day end at p : ℕ) (l m : List ℕ) → first ≤ day → day < end → at + (end - first) ≤ length l → Wrote at (upFrom first (day - first)) l p m →
+    Wrote at (upFrom first (day + 1 - first)) l (p + 1) (set m p day)
+run-next first day end at p l m a b h u =
+    let q = run-place first day end at p l m a b h u in
+    let e : day + 1 - first ≡ suc (day - first) = omega arith in
+    let f : first + (day - first) ≡ day = omega arith in
+    wrote-join at (upFrom first (day + 1 - first)) (upFrom first (day - first)) (day ∷ []) l m (set m p day) p (p + 1)
+    (ap (upFrom first) e ∙ upFrom-snoc first (day - first) ∙ ap (λ (x : ℕ). upFrom first (day - first) ++ (x ∷ [])) f)
+    (run-bound first (day + 1) at l (omega arith)) u (wrote-one p day (day ∷ []) m refl (q .0))
+
+pub run-length : (first day end at p : ℕ) (l m : List ℕ) → first ≤ day → day ≤ end → at + (end - first) ≤ length l → Wrote at (upFrom first (day - first)) l p m → length m ≡ length l
+run-length first day end at p l m a b h u = wrote-length at p (upFrom first (day - first)) l m u (run-bound first day at l (omega arith))
+
+pub run-end : (first day end at p : ℕ) (l m : List ℕ) → day ≤ end → end ≤ day → Wrote at (upFrom first (day - first)) l p m → Wrote at (upFrom first (end - first)) l p m
+run-end first day end at p l m a b u = let e : day ≡ end = omega arith in rw e at u
+
+-- ---- the walk of a tree's chain
+
+tree-size : (n : ℕ) (t : List ℕ) (l g : ℕ) → length (treeDays n t l g) ≤ 2 ^ l
+unfolding treeDays
+tree-size n t zero g = go (passes 3 n t (tree 0 g))
+  where
+    go : (b : Bool) → length (pick b [] (g ∷ [])) ≤ 2 ^ 0
+    go true = omega arith
+    go false = omega arith
+tree-size n t (suc l) g = go (passes 3 n t (tree (suc l) g)) (tree-size n t l (g - 2 ^ l)) (tree-size n t l g)
+  where
+    go : (b : Bool) → length (treeDays n t l (g - 2 ^ l)) ≤ 2 ^ l → length (treeDays n t l g) ≤ 2 ^ l → length (pick b [] (treeDays n t l (g - 2 ^ l) ++ treeDays n t l g)) ≤ 2 ^ suc l
+    go true x y = omega arith
+    go false x y = let e = pow-succ' 2 l in omega (arith, length-append (treeDays n t l (g - 2 ^ l)) (treeDays n t l g))
+
+pub tree-none : (n l g : ℕ) (t : List ℕ) {r : Bool} → r ≡ passes 3 n t (tree l g) → r ≡ true → treeDays n t l g ≡ []
+unfolding treeDays
+tree-none n zero g t e f = rw (← e, f)
+tree-none n (suc l) g t e f = rw (← e, f)
+
+pub tree-day : (n l g : ℕ) (t : List ℕ) {r : Bool} → r ≡ passes 3 n t (tree l g) → r ≡ false → l ≡ 0 → treeDays n t l g ≡ g ∷ []
+unfolding treeDays
+tree-day n zero g t e f z = rw (← e, f)
+tree-day n (suc l) g t e f z = absurd (omega arith)
+
+pub tree-halves : (n l g w : ℕ) (t : List ℕ) {r : Bool} → r ≡ passes 3 n t (tree l g) → r ≡ false → (l ≡ 0 → ⊥) → w ≡ 2 ^ (l - 1) →
+    treeDays n t l g ≡ treeDays n t (l - 1) (g - w) ++ treeDays n t (l - 1) g
+unfolding treeDays
+tree-halves n zero g w t e f z q = absurd (z refl)
+tree-halves n (suc l) g w t e f z q = let p : suc l - 1 ≡ l = omega arith in rw (q, p, ← e, f)
+
+level-suc : (l : ℕ) → (l ≡ 0 → ⊥) → l ≡ suc (l - 1)
+level-suc zero h = absurd (h refl)
+level-suc (suc l) h = omega arith
+
+pub level-less : (l t : ℕ) → l ≡ t → (l ≡ 0 → ⊥) → l - 1 < t
+level-less zero t e h = absurd (h refl)
+level-less (suc l) t e h = omega arith
+
+pub level-some : (l : ℕ) → (l ≡ 0 → ⊥) → 1 ≤ l
+level-some zero h = absurd (h refl)
+level-some (suc l) h = omega arith
+
+pow-half : (l : ℕ) → (l ≡ 0 → ⊥) → 2 ^ l ≡ 2 ^ (l - 1) + 2 ^ (l - 1)
+pow-half zero h = absurd (h refl)
+pow-half (suc l) h = let p : suc l - 1 ≡ l = omega arith in let e = pow-succ' 2 l in rw p (omega arith)
+
+pub place-one : (at l n : ℕ) → at + 2 ^ l ≤ n → at < n
+place-one at l n h = let p = pow-pos l in omega arith
+
+module _ {n l g w : ℕ} {t : List ℕ} (h : Chain n l g t) (z : l ≡ 0 → ⊥) (q : w ≡ 2 ^ (l - 1)) where
+  lower : Chain n (suc (l - 1)) g t
+  lower = rw (level-suc l z) at h
+
+  pub left-room : w ≤ g
+  left-room = chain-room w lower q
+
+  pub left-chain : Chain n (l - 1) (g - w) t
+  left-chain = chain-left w lower q
+
+  pub right-chain : Chain n (l - 1) g t
+  right-chain = chain-right lower
+
+pub left-place : (l at n : ℕ) → (l ≡ 0 → ⊥) → at + 2 ^ l ≤ n → at + 2 ^ (l - 1) ≤ n
+left-place l at n z h = let e = pow-half l z in omega arith
+
+pub tree-right-place : (n l g at b m : ℕ) (t k s : List ℕ) → (l ≡ 0 → ⊥) → at + 2 ^ l ≤ length k → Wrote at (treeDays n t (l - 1) g) k b s → m ≡ length k → b + 2 ^ (l - 1) ≤ m
+tree-right-place n l g at b m t k s z h u e =
+    let p = pow-half l z in
+    let q = tree-size n t (l - 1) g in
+    omega (arith, u .count)
+
+pub tree-join : (n l g w at b r : ℕ) (t k s y : List ℕ) {x : Bool} → x ≡ passes 3 n t (tree l g) → x ≡ false → (l ≡ 0 → ⊥) → w ≡ 2 ^ (l - 1) → at + 2 ^ l ≤ length k →
+    Wrote at (treeDays n t (l - 1) (g - w)) k b s → Wrote b (treeDays n t (l - 1) g) s r y → Wrote at (treeDays n t l g) k r y
+tree-join n l g w at b r t k s y e f z q h u v =
+    let c = tree-size n t l g in
+    wrote-join at (treeDays n t l g) (treeDays n t (l - 1) (g - w)) (treeDays n t (l - 1) g) k s y b r (tree-halves n l g w t e f z q) (omega arith) u v
+
+-- ---- the walk of a tile
+
+tile-size : (p : ℕ → Bool) (l day : ℕ) → length (tileDays p l day) ≤ 2 ^ l
+unfolding tileDays
+tile-size p zero day = omega arith
+tile-size p (suc l) day = go (p l) (tile-size p l day) (tile-size p l (day + 2 ^ l))
+  where
+    go : (b : Bool) → length (tileDays p l day) ≤ 2 ^ l → length (tileDays p l (day + 2 ^ l)) ≤ 2 ^ l → length (pick b [] (tileDays p l day) ++ tileDays p l (day + 2 ^ l)) ≤ 2 ^ suc l
+    go true x y = let e = pow-succ' 2 l in omega arith
+    go false x y = let e = pow-succ' 2 l in omega (arith, length-append (tileDays p l day) (tileDays p l (day + 2 ^ l)))
+
+pub tile-day : (p : ℕ → Bool) (l day : ℕ) → l ≡ 0 → tileDays p l day ≡ day ∷ []
+unfolding tileDays
+tile-day p zero day z = refl
+tile-day p (suc l) day z = absurd (omega arith)
+
+pub tile-upper : (p : ℕ → Bool) (l day w : ℕ) {r : Bool} → r ≡ p (l - 1) → r ≡ true → (l ≡ 0 → ⊥) → w ≡ 2 ^ (l - 1) → tileDays p l day ≡ tileDays p (l - 1) (day + w)
+unfolding tileDays
+tile-upper p zero day w e f z q = absurd (z refl)
+tile-upper p (suc l) day w e f z q = let s : suc l - 1 ≡ l = omega arith in let b : p l ≡ true = ap p (sym s) ∙ sym e ∙ f in rw (q, s, b)
+
+pub tile-halves : (p : ℕ → Bool) (l day w : ℕ) {r : Bool} → r ≡ p (l - 1) → r ≡ false → (l ≡ 0 → ⊥) → w ≡ 2 ^ (l - 1) → tileDays p l day ≡ tileDays p (l - 1) day ++ tileDays p (l - 1) (day + w)
+unfolding tileDays
+tile-halves p zero day w e f z q = absurd (z refl)
+tile-halves p (suc l) day w e f z q = let s : suc l - 1 ≡ l = omega arith in let b : p l ≡ false = ap p (sym s) ∙ sym e ∙ f in rw (q, s, b)
+
+module _ {n g l day w : ℕ} {t : List ℕ} (h : Tile n g l day t) (z : l ≡ 0 → ⊥) (q : w ≡ 2 ^ (l - 1)) where
+  pub lower-tile : Tile n g (l - 1) day t
+  lower-tile = let e = pow-half l z in record { at = h .at; level = omega (arith, h .level); fits = omega (arith, h .fits) }
+
+  pub upper-tile : Tile n g (l - 1) (day + w) t
+  upper-tile = let e = pow-half l z in record { at = h .at; level = omega (arith, h .level); fits = omega (arith, h .fits) }
+
+  pub tile-sum : day + w < 2 ^ 32
+  tile-sum = let e = pow-half l z in omega (arith, h .fits, h .at .has .most)
+
+pub tile-small : {n g l day : ℕ} {t : List ℕ} → Tile n g l day t → l - 1 ≤ 16
+tile-small {n} h = let w = allowed-n-is n (h .at .has .n-ok) in omega (arith, h .level, w .small)
+
+pub tile-level : {n g l day : ℕ} {t : List ℕ} → Tile n g l day t → l - 1 ≤ lg n
+tile-level h = omega (arith, h .level)
+
+pub tile-right-place : (p : ℕ → Bool) (l day at b m : ℕ) (k s : List ℕ) → (l ≡ 0 → ⊥) → at + 2 ^ l ≤ length k → Wrote at (tileDays p (l - 1) day) k b s → m ≡ length k → b + 2 ^ (l - 1) ≤ m
+tile-right-place p l day at b m k s z h u e =
+    let c = pow-half l z in
+    let q = tile-size p (l - 1) day in
+    omega (arith, u .count)
+
+pub tile-join : (p : ℕ → Bool) (l day w at b r : ℕ) (k s y : List ℕ) {x : Bool} → x ≡ p (l - 1) → x ≡ false → (l ≡ 0 → ⊥) → w ≡ 2 ^ (l - 1) → at + 2 ^ l ≤ length k →
+    Wrote at (tileDays p (l - 1) day) k b s → Wrote b (tileDays p (l - 1) (day + w)) s r y → Wrote at (tileDays p l day) k r y
+tile-join p l day w at b r k s y e f z q h u v =
+    let c = tile-size p l day in
+    wrote-join at (tileDays p l day) (tileDays p (l - 1) day) (tileDays p (l - 1) (day + w)) k s y b r (tile-halves p l day w e f z q) (omega arith) u v

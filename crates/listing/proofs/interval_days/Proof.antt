@@ -1,0 +1,30 @@
+use Rattle.layouts.specs.Layouts.{ending}
+use Rattle.listing.proofs.Lists.{second, local-as}
+use Rattle.listing.proofs.Writes.{wrote-as}
+use Rattle.rules.proofs.Steps.{interval-as}
+use borrow.Author.Needs.{needs}
+use Rattle.listing.proofs.interval_days.Statement.{statement}
+use Rattle.listing.proofs.interval_days.Tie as tie
+
+black-days-requires : tie.Need-black-days-requires
+black-days-requires c κs = (interval-as 1 (c .before .if1 .taken) (c .before .before .before .before .pre .0), c .before .before .before .before .pre .1)
+
+same-length : tie.Need-same-length
+same-length c = search needs
+
+returns : tie.Need-returns
+returns c = wrote-as _ (local-as _ (c .before .before .before .before .before .before .before .args .n) (c .before .before .before .before .before .before .before .args .t .now) (ending (c .before .before .before .before .before .before .before .args .n) (c .before .before .before .before .before .before .before .args .g)) 1 (c .before .before .before .before .if1 .taken)) (c .before .before .black-days .ensures)
+
+tile-days-requires : tie.Need-tile-days-requires
+tile-days-requires c κs = (interval-as 2 (second _ (c .before .before .before .before .pre .0 .has .scheme-ok) (c .before .before .before .before .pre .2) (c .before .if1 .left)) (c .before .before .before .before .pre .0), c .before .before .before .before .pre .1)
+
+same-length-2 : tie.Need-same-length-2
+same-length-2 c = search needs
+
+returns-2 : tie.Need-returns-2
+returns-2 c = wrote-as _ (local-as _ (c .before .before .before .before .before .before .before .args .n) (c .before .before .before .before .before .before .before .args .t .now) (ending (c .before .before .before .before .before .before .before .args .n) (c .before .before .before .before .before .before .before .args .g)) 2 (second _ (c .before .before .before .before .before .before .before .pre .0 .has .scheme-ok) (c .before .before .before .before .before .before .before .pre .2) (c .before .before .before .before .if1 .left))) (c .before .before .tile-days .ensures)
+
+pub interval-days-spec : {M : Type 1} → statement M
+interval-days-spec =
+    tie.close
+    (tie.spec black-days-requires same-length returns tile-days-requires same-length-2 returns-2)

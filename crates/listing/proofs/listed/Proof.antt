@@ -1,0 +1,36 @@
+use Rattle.listing.proofs.Lists.{local-as, below-third, rules-levels}
+use Rattle.listing.proofs.Writes.{wrote-as}
+use Rattle.rules.proofs.Steps.{table-as}
+use Rattle.evidence.specs.Tables.{days}
+use borrow.Author.Needs.{needs}
+use Rattle.listing.proofs.listed.Statement.{statement}
+use Rattle.listing.proofs.listed.Tie as tie
+
+tree-walk-requires : tie.Need-tree-walk-requires
+tree-walk-requires c κs = (table-as 3 (c .before .if1 .taken) (c .before .before .before .before .pre .0), c .before .before .before .before .pre .1, rules-levels _ _ _ _ (c .before .if1 .taken) (c .before .before .before .before .pre .2))
+
+same-length : tie.Need-same-length
+same-length c = search needs
+
+returns : tie.Need-returns
+returns c = wrote-as _ (local-as _ (c .before .before .before .before .before .before .before .args .n) (c .before .before .before .before .before .before .before .args .t .now) (days (c .before .before .before .before .before .before .before .args .d)) 3 (c .before .before .before .before .if1 .taken)) (c .before .before .tree-walk .ensures)
+
+interval-walk-requires : tie.Need-interval-walk-requires
+interval-walk-requires c κs = (c .before .before .before .before .pre .0, c .before .before .before .before .pre .1, below-third _ (c .before .before .before .before .pre .0 .scheme-ok) (c .before .if1 .left))
+
+same-length-2 : tie.Need-same-length-2
+same-length-2 c = search needs
+
+returns-2 : tie.Need-returns-2
+returns-2 c = search needs
+
+pub listed-spec : {M : Type 1} → statement M
+listed-spec =
+    tie.close
+    (tie.spec
+    tree-walk-requires
+    same-length
+    returns
+    interval-walk-requires
+    same-length-2
+    returns-2)

@@ -1,0 +1,57 @@
+use Rattle.listing.proofs.Writes.{run-start, run-place, run-next, run-length, run-end}
+use Rattle.listing.specs.Walks.{Wrote}
+use Rattle.evidence.specs.Lists.{upFrom}
+use borrow.Author.Needs.{needs}
+use native.Mathlib.Omega.{arith}
+use Prim.Native.Nat.{_-_, _≤_}
+use Rattle.listing.proofs.run.Statement.{statement}
+use Rattle.listing.proofs.run.Tie as tie
+
+abbrev Inv-loop : tie.InvT-loop
+Inv-loop first end list₀ at day₀ p₀ list day p = (first ≤ day) × (day ≤ end) × Wrote at (upFrom first (day - first)) list₀ p list
+
+abbrev μ-loop : tie.MeasureT-loop
+μ-loop first end list₀ at day₀ p₀ list day p = end - day
+
+loop-holds : tie.Need-loop-holds Inv-loop μ-loop
+loop-holds c = (omega arith, c .pre .0, run-start (c .args .first) (c .args .at) (c .args .list .now))
+
+mul-list : tie.Need-mul-list Inv-loop μ-loop
+mul-list c = let q = run-place (c .before .before .args .first) (c .before .loop .day) (c .before .before .args .end) (c .before .before .args .at) (c .before .loop .p) (c .before .before .args .list .now) (c .before .loop .list) (c .before .loop .inv .0) (c .loop-test .taken) (c .before .before .pre .1) (c .before .loop .inv .2) in omega (arith, q .0, q .1, c .before .before .good .1 .1 .0 .1)
+
+slice-write-list : tie.Need-slice-write-list Inv-loop μ-loop
+slice-write-list c = run-place (c .before .before .args .first) (c .before .loop .day) (c .before .before .args .end) (c .before .before .args .at) (c .before .loop .p) (c .before .before .args .list .now) (c .before .loop .list) (c .before .loop .inv .0) (c .loop-test .taken) (c .before .before .pre .1) (c .before .loop .inv .2) .0
+
+add-p : tie.Need-add-p Inv-loop μ-loop
+add-p c = let q = run-place (c .before .before .args .first) (c .before .loop .day) (c .before .before .args .end) (c .before .before .args .at) (c .before .loop .p) (c .before .before .args .list .now) (c .before .loop .list) (c .before .loop .inv .0) (c .loop-test .taken) (c .before .before .pre .1) (c .before .loop .inv .2) in omega (arith, q .0, q .1, c .before .before .good .1 .1 .0 .1)
+
+add-day : tie.Need-add-day Inv-loop μ-loop
+add-day c = search needs
+
+loop-less : tie.Need-loop-less Inv-loop μ-loop
+loop-less c = omega arith
+
+loop-again : tie.Need-loop-again Inv-loop μ-loop
+loop-again c = (omega arith, omega arith, run-next (c .before .before .args .first) (c .before .loop .day) (c .before .before .args .end) (c .before .before .args .at) (c .before .loop .p) (c .before .before .args .list .now) (c .before .loop .list) (c .before .loop .inv .0) (c .loop-test .taken) (c .before .before .pre .1) (c .before .loop .inv .2))
+
+same-length : tie.Need-same-length Inv-loop μ-loop
+same-length c = run-length (c .before .before .args .first) (c .before .loop .day) (c .before .before .args .end) (c .before .before .args .at) (c .before .loop .p) (c .before .before .args .list .now) (c .before .loop .list) (c .before .loop .inv .0) (c .before .loop .inv .1) (c .before .before .pre .1) (c .before .loop .inv .2)
+
+returns : tie.Need-returns Inv-loop μ-loop
+returns c = run-end (c .before .before .args .first) (c .before .loop .day) (c .before .before .args .end) (c .before .before .args .at) (c .before .loop .p) (c .before .before .args .list .now) (c .before .loop .list) (c .before .loop .inv .1) (c .loop-test .left) (c .before .loop .inv .2)
+
+pub run-spec : {M : Type 1} → statement M
+run-spec =
+    tie.close
+    (tie.spec
+    Inv-loop
+    μ-loop
+    loop-holds
+    mul-list
+    slice-write-list
+    add-p
+    add-day
+    loop-less
+    loop-again
+    same-length
+    returns)

@@ -1,0 +1,31 @@
+use Rattle.listing.proofs.Lists.{top-none, top-chain, top-walk, top-fits}
+use Rattle.listing.proofs.Writes.{wrote-none, wrote-as}
+use Rattle.rules.proofs.Steps.{weight-positive}
+use borrow.Author.Needs.{needs}
+use Rattle.listing.proofs.top_days.Statement.{statement}
+use Rattle.listing.proofs.top_days.Tie as tie
+
+size-requires : tie.Need-size-requires
+size-requires c κs = search needs
+
+div-k : tie.Need-div-k
+div-k c = weight-positive _ _ (c .size .ensures)
+
+returns : tie.Need-returns
+returns c = wrote-none _ _ _ (top-none _ _ _ _ _ (c .before .size .ensures) (c .if1 .taken))
+
+mul-walk : tie.Need-mul-walk
+mul-walk c = record { fits = top-fits (c .before .before .before .before .args .d) (c .before .size .result) (c .before .before .before .before .pre .0 .most) }
+
+walk-requires : tie.Need-walk-requires
+walk-requires c κs = top-walk _ _ _ _ _ _ (c .before .before .before .before .before .args .list .now) (c .before .before .before .before .before .pre .0) (c .before .before .before .before .before .pre .2) (c .before .before .size .ensures) (c .before .if1 .left) (c .before .before .before .before .before .pre .1) (c .before .before .before .before .before .pre .3)
+
+same-length : tie.Need-same-length
+same-length c = search needs
+
+returns-2 : tie.Need-returns-2
+returns-2 c = wrote-as _ (top-chain _ _ _ _ _ (c .before .before .before .before .before .size .ensures) (c .before .before .before .before .if1 .left)) (c .before .before .walk .ensures)
+
+pub top-days-spec : {M : Type 1} → statement M
+top-days-spec =
+    tie.close (tie.spec size-requires div-k returns mul-walk walk-requires same-length returns-2)

@@ -1,0 +1,50 @@
+use Rattle.listing.proofs.Lists.{none-yet, no-level, level-place, next-level, level-length, all-levels}
+use Rattle.rules.specs.Rules.{local}
+use Rattle.listing.specs.Walks.{Wrote}
+use Rattle.evidence.specs.Tables.{days}
+use Rattle.evidence.specs.Lists.{keep}
+use native.Mathlib.Omega.{arith}
+use Prim.Native.Nat.{_*_, _/_, _^_, _≤_}
+use Rattle.listing.proofs.tree_walk.Statement.{statement}
+use Rattle.listing.proofs.tree_walk.Tie as tie
+
+abbrev Inv-loop : tie.InvT-loop
+Inv-loop n d t list₀ level₀ at₀ list level at = (level ≤ 17) × Wrote 0 (keep (local 3 n t) (days (d / 2 ^ level * 2 ^ level))) list₀ at list
+
+abbrev μ-loop : tie.MeasureT-loop
+μ-loop n d t list₀ level₀ at₀ list level at = level
+
+loop-holds : tie.Need-loop-holds Inv-loop μ-loop
+loop-holds c = (omega arith, none-yet _ _ _ (no-level _ (c .before .before .pre .0 .most)))
+
+sub-level : tie.Need-sub-level Inv-loop μ-loop
+sub-level c = omega arith
+
+top-days-requires : tie.Need-top-days-requires Inv-loop μ-loop
+top-days-requires c κs = (c .before .before .before .before .before .pre .0, level-place (local 3 (c .before .before .before .before .before .args .n) (c .before .before .before .before .before .args .t .now)) (c .before .before .before .before .before .args .d) (c .before .before .loop .level) (c .before .before .loop .at) (c .before .before .before .before .before .args .list .now) (c .before .before .loop .list) (c .before .loop-test .taken) (c .before .before .before .before .before .pre .1) (c .before .before .loop .inv .1) .0, omega arith, level-place (local 3 (c .before .before .before .before .before .args .n) (c .before .before .before .before .before .args .t .now)) (c .before .before .before .before .before .args .d) (c .before .before .loop .level) (c .before .before .loop .at) (c .before .before .before .before .before .args .list .now) (c .before .before .loop .list) (c .before .loop-test .taken) (c .before .before .before .before .before .pre .1) (c .before .before .loop .inv .1) .1)
+
+loop-less : tie.Need-loop-less Inv-loop μ-loop
+loop-less c = omega arith
+
+loop-again : tie.Need-loop-again Inv-loop μ-loop
+loop-again c = (omega arith, next-level (c .before .before .before .before .before .before .before .before .args .n) (c .before .before .before .before .before .before .before .before .args .d) (c .before .before .before .before .before .before .before .before .args .t .now) (c .before .before .before .before .before .before .before .before .pre .0 .most) (c .before .before .before .before .before .before .before .before .pre .2) (c .before .before .before .before .before .loop .level) (c .before .before .before .before .before .loop .at) (c .before .before .top-days .result) (c .before .before .before .before .before .before .before .before .args .list .now) (c .before .before .before .before .before .loop .list) _ (c .before .before .before .before .loop-test .taken) (c .before .before .before .before .before .before .before .before .pre .1) (c .before .before .before .before .before .loop .inv .1) (c .before .before .top-days .ensures))
+
+same-length : tie.Need-same-length Inv-loop μ-loop
+same-length c = level-length (local 3 (c .before .before .before .before .args .n) (c .before .before .before .before .args .t .now)) (c .before .before .before .before .args .d) (c .before .loop .level) (c .before .loop .at) (c .before .before .before .before .args .list .now) (c .before .loop .list) (c .before .before .before .before .pre .1) (c .before .loop .inv .1)
+
+returns : tie.Need-returns Inv-loop μ-loop
+returns c = all-levels (local 3 (c .before .before .before .before .args .n) (c .before .before .before .before .args .t .now)) (c .before .before .before .before .args .d) (c .before .loop .level) (c .before .loop .at) (c .before .before .before .before .args .list .now) (c .before .loop .list) (c .loop-test .left) (c .before .loop .inv .1)
+
+pub tree-walk-spec : {M : Type 1} → statement M
+tree-walk-spec =
+    tie.close
+    (tie.spec
+    Inv-loop
+    μ-loop
+    loop-holds
+    sub-level
+    top-days-requires
+    loop-less
+    loop-again
+    same-length
+    returns)

@@ -1,0 +1,147 @@
+// The listed days of an accepted table. Each function writes days to the list from a place on and gives the place behind
+// the last of them.
+ghost use mathlib.Core.Path.{_≡_};
+ghost use mathlib.Core.Bool.{true};
+ghost use Prim.Native.Nat.{suc, _+_, _-_, _*_, _/_, _^_, _≤_};
+ghost use lib.ListN.{length};
+ghost use Rattle.evidence.specs.Lists.{upFrom, keep};
+ghost use Rattle.evidence.specs.Tables.{days};
+ghost use Rattle.layouts.specs.Layouts.{ending};
+ghost use Rattle.rules.specs.Rules as rule;
+ghost use Rattle.rules.specs.Rules.{Table, Interval, Chain, levelsRule, tileBit, local};
+ghost use Rattle.listing.specs.Walks.{Tile, Wrote, tileDays, treeDays, topDays};
+
+// The days from first to before end.
+fn run(first: u32, end: u32, list: &mut [u32], at: usize) -> usize
+    requires { ⌜ (first ≤ end) × (at + (end - first) ≤ length (now list)) ⌝ }
+    ensures { λ r. ⌜ Wrote at (upFrom first (end - first)) (now (list .entry)) r (now (list .exit)) ⌝ }
+{
+    let mut day = first;
+    let mut p = at;
+    while day < end {
+        list[p] = day;
+        p += 1;
+        day += 1;
+    }
+    p
+}
+
+// The interval that ends at g, under scheme 1: all its days, if black fails.
+fn black_days(n: u32, g: u32, t: &[u8], list: &mut [u32], at: usize) -> usize
+    requires { ⌜ Interval 1 n g (now t) × (at + n ≤ length (now list)) ⌝ }
+    ensures { λ r. ⌜ Wrote at (keep (local 1 n (now (t .entry))) (ending n g)) (now (list .entry)) r (now (list .exit)) ⌝ }
+{
+    if rules::black_passes(1, n, g, t) {
+        return at;
+    }
+    run(g - n + 1, g + 1, list, at)
+}
+
+// The 2^level days of a failed tile from a day on: where the chain over the lower half passes, only the upper half is gone into.
+fn tile_walk(n: u32, g: u32, level: u32, day: u32, t: &[u8], list: &mut [u32], at: usize) -> usize
+    requires { ⌜ Tile n g level day (now t) × (at + 2 ^ level ≤ length (now list)) ⌝ }
+    ensures { λ r. ⌜ Wrote at (tileDays (tileBit n (now (t .entry)) g) level day) (now (list .entry)) r (now (list .exit)) ⌝ }
+{
+    if level == 0 {
+        list[at] = day;
+        return at + 1;
+    }
+    let l = level - 1;
+    let w = rules::size(l);
+    if rules::tile_bit(n, l, g, t) {
+        return tile_walk(n, g, l, day + w, t, list, at);
+    }
+    let b = tile_walk(n, g, l, day, t, list, at);
+    tile_walk(n, g, l, day + w, t, list, b)
+}
+
+// The interval that ends at g, under scheme 2.
+fn tile_days(n: u32, g: u32, t: &[u8], list: &mut [u32], at: usize) -> usize
+    requires { ⌜ Interval 2 n g (now t) × (at + n ≤ length (now list)) ⌝ }
+    ensures { λ r. ⌜ Wrote at (keep (local 2 n (now (t .entry))) (ending n g)) (now (list .entry)) r (now (list .exit)) ⌝ }
+{
+    if rules::tile_passes(n, 0, g, t) {
+        return at;
+    }
+    tile_walk(n, g, layouts::lg(n), g - n + 1, t, list, at)
+}
+
+fn interval_days(scheme: u32, n: u32, g: u32, t: &[u8], list: &mut [u32], at: usize) -> usize
+    requires { ⌜ Interval scheme n g (now t) × (at + n ≤ length (now list)) × (scheme ≤ 2) ⌝ }
+    ensures { λ r. ⌜ Wrote at (keep (local scheme n (now (t .entry))) (ending n g)) (now (list .entry)) r (now (list .exit)) ⌝ }
+{
+    if scheme == 1 {
+        return black_days(n, g, t, list, at);
+    }
+    tile_days(n, g, t, list, at)
+}
+
+fn interval_walk(scheme: u32, n: u32, d: u32, t: &[u8], list: &mut [u32]) -> usize
+    requires { ⌜ Table scheme n d (now t) × (d ≤ length (now list)) × (scheme ≤ 2) ⌝ }
+    ensures { λ r. ⌜ Wrote 0 (keep (local scheme n (now (t .entry))) (days d)) (now (list .entry)) r (now (list .exit)) ⌝ }
+{
+    let m = d / n;
+    let mut k = 0;
+    let mut at = 0;
+    while k < m {
+        k += 1;
+        at = interval_days(scheme, n, k * n, t, list, at);
+    }
+    at
+}
+
+// The tree's chain of a level that ends at g: nothing if it passes; its day; else its left half, then its right.
+fn walk(n: u32, level: u32, g: u32, t: &[u8], list: &mut [u32], at: usize) -> usize
+    requires { ⌜ Chain n level g (now t) × (at + 2 ^ level ≤ length (now list)) ⌝ }
+    ensures { λ r. ⌜ Wrote at (treeDays n (now (t .entry)) level g) (now (list .entry)) r (now (list .exit)) ⌝ }
+{
+    if rules::tree_passes(n, level, g, t) {
+        return at;
+    }
+    if level == 0 {
+        list[at] = g;
+        return at + 1;
+    }
+    let l = level - 1;
+    let w = rules::size(l);
+    let b = walk(n, l, g - w, t, list, at);
+    walk(n, l, g, t, list, b)
+}
+
+// Of the maximal chains that make up the days 1 to d, the one of a level, if there is one.
+fn top_days(n: u32, d: u32, level: u32, t: &[u8], list: &mut [u32], at: usize) -> usize
+    requires { ⌜ Table 3 n d (now t) × (d ≤ length (now list)) × (level ≤ 16) × (at ≤ d / 2 ^ suc level * 2 ^ suc level) ⌝ }
+    ensures { λ r. ⌜ Wrote at (topDays n d (now (t .entry)) level) (now (list .entry)) r (now (list .exit)) ⌝ }
+{
+    let w = rules::size(level);
+    let k = d / w;
+    if k % 2 == 0 {
+        return at;
+    }
+    walk(n, level, k * w, t, list, at)
+}
+
+// The maximal chains from left to right.
+fn tree_walk(n: u32, d: u32, t: &[u8], list: &mut [u32]) -> usize
+    requires { ⌜ Table 3 n d (now t) × (d ≤ length (now list)) × (levelsRule n d (now t) ≡ true) ⌝ }
+    ensures { λ r. ⌜ Wrote 0 (keep (local 3 n (now (t .entry))) (days d)) (now (list .entry)) r (now (list .exit)) ⌝ }
+{
+    let mut level = 17;
+    let mut at = 0;
+    while 0 < level {
+        level -= 1;
+        at = top_days(n, d, level, t, list, at);
+    }
+    at
+}
+
+// The listed days of an accepted table.
+pub fn listed(scheme: u32, n: u32, d: u32, t: &[u8], list: &mut [u32]) -> usize
+    requires { ⌜ Table scheme n d (now t) × (d ≤ length (now list)) × (rule.rules scheme n d (now t) ≡ true) ⌝ }
+    ensures { λ r. ⌜ Wrote 0 (keep (local scheme n (now (t .entry))) (days d)) (now (list .entry)) r (now (list .exit)) ⌝ }
+{
+    if scheme == 3 {
+        return tree_walk(n, d, t, list);
+    }
+    interval_walk(scheme, n, d, t, list)
+}

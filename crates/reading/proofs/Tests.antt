@@ -1,0 +1,156 @@
+-- What the tests say: the refusal by its causes, and what holds of a call that is not refused.
+use mathlib.Core.Path.{_≡_, refl, sym, ap, _∙_}
+use mathlib.Core.Logic.{_⊎_, inl, inr}
+use mathlib.Core.Bool.{Bool, true, false, not, _&&_, _||_}
+use mathlib.Core.List.{List, [], _∷_, _++_}
+use Prim.Native.Nat.{ℕ, zero, suc, _+_, _≤_, _<_}
+use native.Mathlib.Omega.{arith}
+use lib.Dec.{eqb, leb}
+use lib.ListN.{length, getD, take}
+use lib.Seq.{length-take-le, take-suc, take-all}
+use borrow.Author.Tests.{eqb-true, le-leb, lt-leb, leb-true, not-true, not-false}
+use Rattle.evidence.specs.Tables.{accepted}
+use Rattle.evidence.proofs.ListLaws.{split, or-split, and-both}
+use Rattle.layouts.specs.Allowed.{allowedScheme, allowedN, orElse, unless, layoutRefusal}
+use Rattle.layouts.specs.Layouts.{chains}
+use Rattle.layouts.proofs.AllowedLaws.{allowed-n-is, allowed-d-is, divides-factor, layout-is}
+use Rattle.reading.specs.Answers.{tableIn, bits, readRefusal}
+use Rattle.rules.specs.Rules.{Table, Bits, rules}
+use Rattle.rules.proofs.Accepted.{accepted-rules}
+
+-- ---- bits
+
+pub bits-at : (t : List ℕ) → bits t ≡ true → Bits t
+bits-at [] e p = inl refl
+bits-at (o ∷ t) e zero = go (or-split (eqb o 0) (eqb o 1) (and-both (eqb o 0 || eqb o 1) (bits t) e .0))
+  where
+    go : (eqb o 0 ≡ true) ⊎ (eqb o 1 ≡ true) → (o ≡ 0) ⊎ (o ≡ 1)
+    go (inl h) = inl (eqb-true o 0 h)
+    go (inr h) = inr (eqb-true o 1 h)
+bits-at (o ∷ t) e (suc p) = bits-at t (and-both (eqb o 0 || eqb o 1) (bits t) e .1) p
+
+bits-append : (xs ys : List ℕ) → bits (xs ++ ys) ≡ bits xs && bits ys
+bits-append [] ys = refl
+bits-append (x ∷ xs) ys = rw (bits-append xs ys) (assoc (eqb x 0 || eqb x 1))
+  where
+    assoc : (b : Bool) → b && (bits xs && bits ys) ≡ (b && bits xs) && bits ys
+    assoc true = refl
+    assoc false = refl
+
+is-bit : (x : ℕ) → x ≤ 1 → eqb x 0 || eqb x 1 ≡ true
+is-bit zero l = refl
+is-bit (suc zero) l = refl
+is-bit (suc (suc x)) l = absurd (omega arith)
+
+pub bits-next : (t : List ℕ) (i : ℕ) → i < length t → bits (take i t) ≡ true → getD t i 0 ≤ 1 → bits (take (i + 1) t) ≡ true
+bits-next t i l h b =
+    let e : i + 1 ≡ suc i = omega arith in
+    rw e (ap bits (take-suc t i 0 l) ∙ bits-append (take i t) (getD t i 0 ∷ []) ∙ rw (h, is-bit (getD t i 0) b))
+
+pub bits-stop : (t : List ℕ) (i : ℕ) → 1 < getD t i 0 → false ≡ bits t
+bits-stop t i b = go (split (bits t))
+  where
+    refute : (getD t i 0 ≡ 0) ⊎ (getD t i 0 ≡ 1) → ⊥
+    refute (inl e) = omega arith
+    refute (inr e) = omega arith
+
+    go : (bits t ≡ true) ⊎ (bits t ≡ false) → false ≡ bits t
+    go (inl e) = absurd (refute (bits-at t e i))
+    go (inr e) = sym e
+
+pub bits-done : (t : List ℕ) (i : ℕ) → length t ≤ i → bits (take i t) ≡ true → true ≡ bits t
+bits-done t i l h = sym (rw (take-all i t l) at h)
+
+-- ---- tests 13 14
+
+pub refuse-13 : (s n d : ℕ) (t : List ℕ) {b : Bool} → b ≡ bits t → not b ≡ true → 13 ≡ orElse (unless (bits t) 13) (unless (accepted (chains s n d) d t) 14)
+refuse-13 s n d t {b} e f = rw (← e, not-true b f)
+
+pub refuse-14 : (s n d : ℕ) (t : List ℕ) {b r : Bool} → Table s n d t → b ≡ bits t → not b ≡ false → r ≡ rules s n d t → not r ≡ true →
+    14 ≡ orElse (unless (bits t) 13) (unless (accepted (chains s n d) d t) 14)
+refuse-14 s n d t {b} {r} T e f h k =
+    let q : bits t ≡ true = sym e ∙ not-false b f in
+    rw (q, accepted-rules s n d t T (bits-at t q), ← h, not-true r k)
+
+pub refuse-0 : (s n d : ℕ) (t : List ℕ) {b r : Bool} → Table s n d t → b ≡ bits t → not b ≡ false → r ≡ rules s n d t → not r ≡ false →
+    0 ≡ orElse (unless (bits t) 13) (unless (accepted (chains s n d) d t) 14)
+refuse-0 s n d t {b} {r} T e f h k =
+    let q : bits t ≡ true = sym e ∙ not-false b f in
+    rw (q, accepted-rules s n d t T (bits-at t q), ← h, not-false r k)
+
+-- what holds where no test of 1 2 3 7 finds its cause
+pub layout-ok : (s n f d : ℕ) {r : ℕ} → r ≡ layoutRefusal s n f d → r ≡ 0 → (allowedScheme s ≡ true) × (allowedN n ≡ true) × (d ≤ 65536)
+layout-ok s n f d e z =
+    let u = layout-is s n f d (sym e ∙ z) in
+    (u .0 .scheme-ok, u .0 .n-ok, allowed-d-is n f d (u .1) .most)
+
+pub table-of : (s n f d : ℕ) (t : List ℕ) → layoutRefusal s n f d ≡ 0 → length t ≡ length (chains s n d) → Table s n d t
+table-of s n f d t e h =
+    let u = layout-is s n f d e in
+    let w = allowed-n-is n (u .0 .n-ok) in
+    let v = allowed-d-is n f d (u .1) in
+    record { scheme-ok = u .0 .scheme-ok; n-ok = u .0 .n-ok; some = v .some; most = v .most; whole = divides-factor n f d (w .some) (v .whole); size = h }
+
+-- ---- the refusals, by the tests
+
+module _ (s n f d : ℕ) (o : List ℕ) (places : ℕ) where
+  pub read-early : (r : ℕ) → r ≡ layoutRefusal s n f d → (r ≡ 0 → ⊥) → r ≡ readRefusal s n f d o places
+  unfolding readRefusal
+  read-early zero e h = absurd (h refl)
+  read-early (suc r) e h = rw (← e)
+
+  pub read-8 : {r w : ℕ} → r ≡ layoutRefusal s n f d → r ≡ 0 → w ≡ d → places < w → 8 ≡ readRefusal s n f d o places
+  unfolding readRefusal
+  read-8 {r} {w} e z h l = rw (← e, z, lt-leb d places (omega arith))
+
+  pub read-12 : {r w v x : ℕ} → r ≡ layoutRefusal s n f d → r ≡ 0 → w ≡ d → w ≤ places → v ≡ length (chains s n d) → x ≡ v → length o < x → 12 ≡ readRefusal s n f d o places
+  unfolding readRefusal
+  read-12 {r} {w} {v} {x} e z h l q k m = rw (← e, z, le-leb d places (omega arith), lt-leb (length (chains s n d)) (length o) (omega arith))
+
+  pub read-table : {r w v x p : ℕ} → r ≡ layoutRefusal s n f d → r ≡ 0 → w ≡ d → w ≤ places → v ≡ length (chains s n d) → x ≡ v → x ≤ length o →
+      p ≡ orElse (unless (bits (take x o)) 13) (unless (accepted (chains s n d) d (take x o)) 14) → p ≡ readRefusal s n f d o places
+  unfolding readRefusal
+  read-table {r} {w} {v} {x} e z h l q k m y =
+      rw (← e, z, le-leb d places (omega arith), le-leb (length (chains s n d)) (length o) (omega arith))
+      (y ∙ ap (λ (i : ℕ). orElse (unless (bits (take i o)) 13) (unless (accepted (chains s n d) d (take i o)) 14)) (k ∙ q))
+
+pub table-part : (s n f d : ℕ) (o : List ℕ) {r v x : ℕ} → r ≡ layoutRefusal s n f d → r ≡ 0 → v ≡ length (chains s n d) → x ≡ v → x ≤ length o → Table s n d (take x o)
+table-part s n f d o {r} {v} {x} e z q k m = table-of s n f d (take x o) (sym e ∙ z) (length-take-le x o m ∙ k ∙ q)
+
+pub part-length : (x : ℕ) (o : List ℕ) → x ≤ length o → x ≡ length (take x o)
+part-length x o m = sym (length-take-le x o m)
+
+-- ---- a call that is not refused
+
+unless-zero : (b : Bool) (x : ℕ) → unless b (suc x) ≡ 0 → b ≡ true
+unless-zero true x e = refl
+unless-zero false x e = absurd (omega arith)
+
+or-else-zero : (x y : ℕ) → orElse x y ≡ 0 → (x ≡ 0) × (y ≡ 0)
+or-else-zero zero y e = (refl, e)
+or-else-zero (suc x) y e = absurd (omega arith)
+
+pub record Readable (scheme n f d : ℕ) (outcomes : List ℕ) (places : ℕ) : Type 0 where
+  pub layout : layoutRefusal scheme n f d ≡ 0
+  pub room : d ≤ places
+  pub enough : length (chains scheme n d) ≤ length outcomes
+  pub table : Table scheme n d (tableIn scheme n d outcomes)
+  pub bits-ok : bits (tableIn scheme n d outcomes) ≡ true
+  pub accepted-ok : accepted (chains scheme n d) d (tableIn scheme n d outcomes) ≡ true
+
+pub read-is : (s n f d : ℕ) (o : List ℕ) (places : ℕ) → readRefusal s n f d o places ≡ 0 → Readable s n f d o places
+unfolding readRefusal
+read-is s n f d o places e =
+    let a = or-else-zero (layoutRefusal s n f d) (orElse (unless (leb d places) 8) (orElse (unless (leb (length (chains s n d)) (length o)) 12) (orElse (unless (bits (tableIn s n d o)) 13) (unless (accepted (chains s n d) d (tableIn s n d o)) 14)))) e in
+    let b = or-else-zero (unless (leb d places) 8) (orElse (unless (leb (length (chains s n d)) (length o)) 12) (orElse (unless (bits (tableIn s n d o)) 13) (unless (accepted (chains s n d) d (tableIn s n d o)) 14))) (a .1) in
+    let c = or-else-zero (unless (leb (length (chains s n d)) (length o)) 12) (orElse (unless (bits (tableIn s n d o)) 13) (unless (accepted (chains s n d) d (tableIn s n d o)) 14)) (b .1) in
+    let h = or-else-zero (unless (bits (tableIn s n d o)) 13) (unless (accepted (chains s n d) d (tableIn s n d o)) 14) (c .1) in
+    let m : length (chains s n d) ≤ length o = leb-true (length (chains s n d)) (length o) (unless-zero (leb (length (chains s n d)) (length o)) 11 (c .0)) in
+    record {
+      layout = a .0;
+      room = leb-true d places (unless-zero (leb d places) 7 (b .0));
+      enough = m;
+      table = table-of s n f d (tableIn s n d o) (a .0) (length-take-le (length (chains s n d)) o m);
+      bits-ok = unless-zero (bits (tableIn s n d o)) 12 (h .0);
+      accepted-ok = unless-zero (accepted (chains s n d) d (tableIn s n d o)) 13 (h .1);
+    }

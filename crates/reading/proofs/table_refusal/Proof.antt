@@ -1,0 +1,22 @@
+use Rattle.reading.proofs.Tests.{refuse-13, refuse-14, refuse-0}
+use borrow.Author.Needs.{needs}
+use Rattle.reading.proofs.table_refusal.Statement.{statement}
+use Rattle.reading.proofs.table_refusal.Tie as tie
+
+bits-requires : tie.Need-bits-requires
+bits-requires c κs = search needs
+
+returns : tie.Need-returns
+returns c = refuse-13 (c .before .before .before .args .scheme) (c .before .before .before .args .n) (c .before .before .before .args .d) (c .before .before .before .args .t .now) (c .before .bits .ensures) (c .if1 .taken)
+
+hold-requires : tie.Need-hold-requires
+hold-requires c κs = search needs
+
+returns-2 : tie.Need-returns-2
+returns-2 c = refuse-14 _ _ _ _ (c .before .before .before .before .before .pre) (c .before .before .before .bits .ensures) (c .before .before .if1 .left) (c .before .hold .ensures) (c .if2 .taken)
+
+returns-3 : tie.Need-returns-3
+returns-3 c = refuse-0 _ _ _ _ (c .before .before .before .before .before .pre) (c .before .before .before .bits .ensures) (c .before .before .if1 .left) (c .before .hold .ensures) (c .if2 .left)
+
+pub table-refusal-spec : {M : Type 1} → statement M
+table-refusal-spec = tie.close (tie.spec bits-requires returns hold-requires returns-2 returns-3)

@@ -1,0 +1,135 @@
+// Reading: from a table of outcomes to the days that may have been changed.
+ghost use mathlib.Core.Path.{_≡_};
+ghost use Prim.Native.Nat.{_*_, _≤_};
+ghost use lib.ListN.{length};
+ghost use Rattle.evidence.specs.Tables.{accepted};
+ghost use Rattle.layouts.specs.Allowed.{orElse, unless};
+ghost use Rattle.layouts.specs.Layouts.{chains};
+ghost use Rattle.layouts.specs.Reading.{lowOf};
+ghost use Rattle.rules.specs.Rules.{Table};
+ghost use Rattle.reading.specs.Answers as answer;
+ghost use Rattle.reading.specs.Answers.{saidOf, readRefusal, says, listAfter};
+ghost use Rattle.reading.specs.Changed.{numbersOf};
+
+// 01's numbers of a changed table.
+pub struct Numbers {
+    pub listed: u32,
+    pub first: u32,
+    pub low: u32,
+    pub high: u32,
+    pub good: u32,
+}
+
+pub enum Reading {
+    Clean,
+    Changed(Numbers),
+    Refused(u32),
+}
+
+// ---- the tests
+
+fn bits(t: &[u8]) -> bool
+    ensures { λ r. ⌜ r ≡ answer.bits (now (t .entry)) ⌝ }
+{
+    let mut i = 0;
+    while i < t.len() {
+        if 1 < t[i] {
+            return false;
+        }
+        i += 1;
+    }
+    true
+}
+
+// Tests 13 14.
+fn table_refusal(scheme: u32, n: u32, d: u32, t: &[u8]) -> u32
+    requires { ⌜ Table scheme n d (now t) ⌝ }
+    ensures { λ r. ⌜ r ≡ orElse (unless (answer.bits (now (t .entry))) 13) (unless (accepted (chains scheme n d) d (now (t .entry))) 14) ⌝ }
+{
+    if !bits(t) {
+        return 13;
+    }
+    if !rules::hold(scheme, n, d, t) {
+        return 14;
+    }
+    0
+}
+
+fn wide(x: u32) -> usize
+    ensures { λ r. ⌜ r ≡ x ⌝ }
+{
+    x as usize
+}
+
+// Tests 1 2 3 7 8 12 13 14: the number of the first that finds its cause, or 0.
+fn refusal(scheme: u32, n: u32, f: u32, d: u32, outcomes: &[u8], places: usize) -> u32
+    ensures { λ r. ⌜ r ≡ readRefusal scheme n f d (now (outcomes .entry)) places ⌝ }
+{
+    let r = layouts::layout_refusal(scheme, n, f, d);
+    if r != 0 {
+        return r;
+    }
+    if places < wide(d) {
+        return 8;
+    }
+    let values = wide(layouts::values_through(scheme, n, d));
+    if outcomes.len() < values {
+        return 12;
+    }
+    table_refusal(scheme, n, d, &outcomes[..values])
+}
+
+// ---- the answer
+
+fn low(n: u32, f: u32, d: u32, first: u32) -> u32
+    requires { ⌜ (f * n ≤ d) × (1 ≤ first) ⌝ }
+    ensures { λ r. ⌜ r ≡ lowOf n f d first ⌝ }
+{
+    let a = d - f * n;
+    let b = first - 1;
+    if a < b {
+        return b;
+    }
+    a
+}
+
+fn changed(n: u32, f: u32, d: u32, count: u32, first: u32) -> Numbers
+    requires { ⌜ (1 ≤ n) × (f * n ≤ d) × (1 ≤ first) ⌝ }
+    ensures { λ r. ⌜ r ≡ numbersOf n f d count first ⌝ }
+{
+    let below = low(n, f, d, first);
+    let good = (first - 1) / n * n;
+    Numbers {
+        listed: count,
+        first: first,
+        low: below,
+        high: d,
+        good: good,
+    }
+}
+
+fn narrow(x: usize) -> u32
+    requires { ⌜ x ≤ 65536 ⌝ }
+    ensures { λ r. ⌜ r ≡ x ⌝ }
+{
+    x as u32
+}
+
+// Reads the outcomes needed, in book order: writes the listed days to the front of the list and gives the numbers, or
+// refuses and writes nothing.
+pub fn read(scheme: u32, n: u32, f: u32, d: u32, outcomes: &[u8], list: &mut [u32]) -> Reading
+    ensures { λ r. ⌜ saidOf d r ≡ says scheme n f d (now (outcomes .entry)) (length (now (list .entry))) ⌝ }
+    ensures { λ r. ⌜ now (list .exit) ≡ listAfter scheme n f d (now (outcomes .entry)) (now (list .entry)) ⌝ }
+{
+    let r = refusal(scheme, n, f, d, outcomes, list.len());
+    if r != 0 {
+        return Reading::Refused(r);
+    }
+    let values = wide(layouts::values_through(scheme, n, d));
+    let k = listing::listed(scheme, n, d, &outcomes[..values], list);
+    if k == 0 {
+        return Reading::Clean;
+    }
+    let first = list[0];
+    Reading::Changed(changed(n, f, d, narrow(k), first))
+}

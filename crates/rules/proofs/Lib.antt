@@ -1,0 +1,6 @@
+pub mod Runs
+pub mod Lookup
+pub mod Given
+pub mod Local
+pub mod Accepted
+pub mod Steps

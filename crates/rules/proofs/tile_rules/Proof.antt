@@ -1,0 +1,56 @@
+use Rattle.rules.proofs.Steps.{every-next, every-stop, every-done}
+use Rattle.rules.specs.Rules.{every, tileRule}
+use Rattle.layouts.proofs.AllowedLaws.{allowed-n-is}
+use Rattle.layouts.specs.Layouts.{lg}
+use Rattle.evidence.specs.Lists.{upFrom}
+use native.Mathlib.Omega.{arith}
+use Prim.Native.Nat.{_+_, _-_, _≤_}
+use mathlib.Core.Bool.{true}
+use mathlib.Core.Path.{_≡_, refl}
+use Rattle.rules.proofs.tile_rules.Statement.{statement}
+use Rattle.rules.proofs.tile_rules.Tie as tie
+
+abbrev Inv-loop : tie.InvT-loop
+Inv-loop n g t k i₀ i = (i ≤ k) × (every (tileRule n t g) (upFrom 1 i) ≡ true)
+
+abbrev μ-loop : tie.MeasureT-loop
+μ-loop n g t k i₀ i = k - i
+
+lg-requires : tie.Need-lg-requires Inv-loop μ-loop
+lg-requires c κs = allowed-n-is _ (c .before .pre .has .n-ok) .some
+
+loop-holds : tie.Need-loop-holds Inv-loop μ-loop
+loop-holds c = (omega arith, refl)
+
+add-i : tie.Need-add-i Inv-loop μ-loop
+add-i c = omega arith
+
+tile-rule-requires : tie.Need-tile-rule-requires Inv-loop μ-loop
+tile-rule-requires c κs = (c .before .before .before .before .pre, omega (arith, c .before .before .lg .ensures))
+
+returns : tie.Need-returns Inv-loop μ-loop
+returns c = every-stop (tileRule (c .before .before .before .before .before .before .args .n) (c .before .before .before .before .before .before .args .t .now) (c .before .before .before .before .before .before .args .g)) 1 (lg (c .before .before .before .before .before .before .args .n)) (c .before .before .before .loop .i + 1) (omega arith) (omega (arith, c .before .before .before .before .lg .ensures)) (c .before .tile-rule .ensures) (c .if1 .taken)
+
+loop-less : tie.Need-loop-less Inv-loop μ-loop
+loop-less c = omega arith
+
+loop-again : tie.Need-loop-again Inv-loop μ-loop
+loop-again c = (omega arith, every-next (tileRule (c .before .before .before .before .before .before .args .n) (c .before .before .before .before .before .before .args .t .now) (c .before .before .before .before .before .before .args .g)) 1 (c .before .before .before .loop .i) (c .before .before .before .loop .i + 1) (omega arith) (c .before .before .before .loop .inv .1) (c .before .tile-rule .ensures) (c .if1 .left))
+
+returns-2 : tie.Need-returns-2 Inv-loop μ-loop
+returns-2 c = every-done (tileRule (c .before .before .before .before .args .n) (c .before .before .before .before .args .t .now) (c .before .before .before .before .args .g)) 1 (c .before .loop .i) (lg (c .before .before .before .before .args .n)) (omega (arith, c .before .before .lg .ensures)) (omega (arith, c .before .before .lg .ensures)) (c .before .loop .inv .1)
+
+pub tile-rules-spec : {M : Type 1} → statement M
+tile-rules-spec =
+    tie.close
+    (tie.spec
+    Inv-loop
+    μ-loop
+    lg-requires
+    loop-holds
+    add-i
+    tile-rule-requires
+    returns
+    loop-less
+    loop-again
+    returns-2)
