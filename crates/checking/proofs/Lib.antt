@@ -1,3 +1,4 @@
 pub mod Compares
 pub mod Tests
 pub mod Through
+pub mod CheckLaws

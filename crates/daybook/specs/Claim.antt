@@ -137,3 +137,14 @@ Unaltered =
     (scheme n f : ℕ) → numberOf (opened scheme n f .answer) ≡ 0 → (cs : List Call) (d : ℕ) (x : Given) → Fit scheme n f cs d x →
     ((g : ℕ) → g among days d → dayOf (sealed scheme n cs) g ≡ dayOf (daysOf (x .ledger) (x .ends) d) g) →
     (checkedBy (refusalOf scheme n f d x) ≡ Done) × (said scheme n f d x .refusal ≡ 0) × (said scheme n f d x .clean ≡ true) × (listLeft scheme n f d x ≡ x .list)
+
+-- ---- and the premises can be met: whatever was sealed, if 01 allows the number of days, there is a ledger of the same days
+
+pub record Same (scheme n f : ℕ) (cs : List Call) (x : Given) : Type 0 where
+  pub fit : Fit scheme n f cs (length (sealed scheme n cs)) x
+  pub same-days : daysOf (x .ledger) (x .ends) (length (sealed scheme n cs)) ≡ sealed scheme n cs
+  pub clean : said scheme n f (length (sealed scheme n cs)) x .clean ≡ true
+
+abbrev pub Met : Type 0
+Met =
+    (scheme n f : ℕ) → numberOf (opened scheme n f .answer) ≡ 0 → (cs : List Call) → allowedD n f (length (sealed scheme n cs)) ≡ true → (x : Given) × Same scheme n f cs x
