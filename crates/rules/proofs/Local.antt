@@ -1,4 +1,4 @@
--- A table that meets the rules is given by the days that are listed locally, and these are the listing.
+-- Under the rules each value passes exactly if no day of its chain is listed locally: what this takes, by scheme.
 use mathlib.Core.Path.{_≡_, refl, sym, ap, _∙_}
 use mathlib.Core.Bool.{Bool, true, false, not, _&&_, _||_, cond}
 use mathlib.Core.List.{List}
@@ -165,10 +165,6 @@ one b = cond b 1 0
 number : (ℕ → Bool) → ℕ → ℕ
 number p zero = 0
 number p (suc k) = one (p k) * 2 ^ k + number p k
-
-one-small : (b : Bool) → one b < 2
-one-small true = omega arith
-one-small false = omega arith
 
 number-small : (p : ℕ → Bool) (k : ℕ) → number p k < 2 ^ k
 unfolding number

@@ -157,9 +157,6 @@ ending-bounds k g x l m = let b = upFrom-bounds (suc (g - k)) k x m in (omega ar
 pub ending-mem : (k g x : ℕ) → k ≤ g → g - k < x → x ≤ g → x among ending k g
 ending-mem k g x l a b = upFrom-mem (suc (g - k)) k x a (omega arith)
 
-pub days-mem : (d g : ℕ) → 1 ≤ g → g ≤ d → g among days d
-days-mem d g a b = upFrom-mem 1 d g a (omega arith)
-
 pub days-bounds : (d g : ℕ) → g among days d → (1 ≤ g) × (g ≤ d)
 days-bounds d g m = let b = upFrom-bounds 1 d g m in (omega arith, omega arith)
 

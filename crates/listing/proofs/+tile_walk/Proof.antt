@@ -122,7 +122,9 @@ tile-walk-tile-walk-requires : (t : ℕ) → tile-walk-lts.Need-tile-walk-requir
   tile-walk-below t,
   tile-walk.Post,
 ) (tile-walk-at t) tile-walk.Post
-tile-walk-tile-walk-requires t c κs = (level-less _ _ (c .before .before .before .before .before .before .before .pre .0) (c .before .before .before .before .if1 .left), (upper-tile (c .before .before .before .before .before .before .before .pre .1 .0) (c .before .before .before .before .if1 .left) (c .before .before .before .size .ensures), left-place _ _ _ (c .before .before .before .before .if1 .left) (c .before .before .before .before .before .before .before .pre .1 .1)))
+tile-walk-tile-walk-requires t c κs =
+    let pre = c .before .before .before .before .before .before .before .pre in
+    (level-less _ _ (pre .0) (c .before .before .before .before .if1 .left), (upper-tile (pre .1 .0) (c .before .before .before .before .if1 .left) (c .before .before .before .size .ensures), left-place _ _ _ (c .before .before .before .before .if1 .left) (pre .1 .1)))
 
 tile-walk-same-length-2 : (t : ℕ) → tile-walk-lts.Need-same-length-2 (
   size-reads.Asked,
@@ -142,7 +144,9 @@ tile-walk-returns-2 : (t : ℕ) → tile-walk-lts.Need-returns-2 (
   tile-walk-below t,
   tile-walk.Post,
 ) (tile-walk-at t) tile-walk.Post
-tile-walk-returns-2 t c = wrote-as _ (tile-upper (tileBit (c .before .before .before .before .before .before .before .before .before .before .args .n) (c .before .before .before .before .before .before .before .before .before .before .args .t .now) (c .before .before .before .before .before .before .before .before .before .before .args .g)) (c .before .before .before .before .before .before .before .before .before .before .args .level) (c .before .before .before .before .before .before .before .before .before .before .args .day) (c .before .before .before .before .before .before .size .result) (c .before .before .before .before .before .tile-bit .ensures) (c .before .before .before .before .if2 .taken) (c .before .before .before .before .before .before .before .if1 .left) (c .before .before .before .before .before .before .size .ensures)) (c .before .before .tile-walk .ensures)
+tile-walk-returns-2 t c =
+    let args = c .before .before .before .before .before .before .before .before .before .before .args in
+    wrote-as _ (tile-upper (tileBit (args .n) (args .t .now) (args .g)) (args .level) (args .day) (c .before .before .before .before .before .before .size .result) (c .before .before .before .before .before .tile-bit .ensures) (c .before .before .before .before .if2 .taken) (c .before .before .before .before .before .before .before .if1 .left) (c .before .before .before .before .before .before .size .ensures)) (c .before .before .tile-walk .ensures)
 
 tile-walk-tile-walk-requires-2 : (t : ℕ) → tile-walk-lts.Need-tile-walk-requires-2 (
   size-reads.Asked,
@@ -152,7 +156,9 @@ tile-walk-tile-walk-requires-2 : (t : ℕ) → tile-walk-lts.Need-tile-walk-requ
   tile-walk-below t,
   tile-walk.Post,
 ) (tile-walk-at t) tile-walk.Post
-tile-walk-tile-walk-requires-2 t c κs = (level-less _ _ (c .before .before .before .before .before .before .before .pre .0) (c .before .before .before .before .if1 .left), (lower-tile (c .before .before .before .before .before .before .before .pre .1 .0) (c .before .before .before .before .if1 .left) (c .before .before .before .size .ensures), left-place _ _ _ (c .before .before .before .before .if1 .left) (c .before .before .before .before .before .before .before .pre .1 .1)))
+tile-walk-tile-walk-requires-2 t c κs =
+    let pre = c .before .before .before .before .before .before .before .pre in
+    (level-less _ _ (pre .0) (c .before .before .before .before .if1 .left), (lower-tile (pre .1 .0) (c .before .before .before .before .if1 .left) (c .before .before .before .size .ensures), left-place _ _ _ (c .before .before .before .before .if1 .left) (pre .1 .1)))
 
 tile-walk-add-tile-walk-2 : (t : ℕ) → tile-walk-lts.Need-add-tile-walk-2 (
   size-reads.Asked,
@@ -172,7 +178,10 @@ tile-walk-tile-walk-requires-3 : (t : ℕ) → tile-walk-lts.Need-tile-walk-requ
   tile-walk-below t,
   tile-walk.Post,
 ) (tile-walk-at t) tile-walk.Post
-tile-walk-tile-walk-requires-3 t c κs = (level-less _ _ (c .before .before .before .before .before .before .before .before .before .before .before .pre .0) (c .before .before .before .before .before .before .before .before .if1 .left), (upper-tile (c .before .before .before .before .before .before .before .before .before .before .before .pre .1 .0) (c .before .before .before .before .before .before .before .before .if1 .left) (c .before .before .before .before .before .before .before .size .ensures), tile-right-place (tileBit (c .before .before .before .before .before .before .before .before .before .before .before .args .n) (c .before .before .before .before .before .before .before .before .before .before .before .args .t .now) (c .before .before .before .before .before .before .before .before .before .before .before .args .g)) (c .before .before .before .before .before .before .before .before .before .before .before .args .level) (c .before .before .before .before .before .before .before .before .before .before .before .args .day) (c .before .before .before .before .before .before .before .before .before .before .before .args .at) (c .before .before .before .tile-walk2 .result) _ (c .before .before .before .before .before .before .before .before .before .before .before .args .list .now) _ (c .before .before .before .before .before .before .before .before .if1 .left) (c .before .before .before .before .before .before .before .before .before .before .before .pre .1 .1) (c .before .before .before .tile-walk2 .ensures) (c .before .before .before .tile-walk2 .kept .1 .1 .1 .1 .1 .0)))
+tile-walk-tile-walk-requires-3 t c κs =
+    let args = c .before .before .before .before .before .before .before .before .before .before .before .args in
+    let pre = c .before .before .before .before .before .before .before .before .before .before .before .pre in
+    (level-less _ _ (pre .0) (c .before .before .before .before .before .before .before .before .if1 .left), (upper-tile (pre .1 .0) (c .before .before .before .before .before .before .before .before .if1 .left) (c .before .before .before .before .before .before .before .size .ensures), tile-right-place (tileBit (args .n) (args .t .now) (args .g)) (args .level) (args .day) (args .at) (c .before .before .before .tile-walk2 .result) _ (args .list .now) _ (c .before .before .before .before .before .before .before .before .if1 .left) (pre .1 .1) (c .before .before .before .tile-walk2 .ensures) (c .before .before .before .tile-walk2 .kept .1 .1 .1 .1 .1 .0)))
 
 tile-walk-same-length-3 : (t : ℕ) → tile-walk-lts.Need-same-length-3 (
   size-reads.Asked,
@@ -192,7 +201,9 @@ tile-walk-returns-3 : (t : ℕ) → tile-walk-lts.Need-returns-3 (
   tile-walk-below t,
   tile-walk.Post,
 ) (tile-walk-at t) tile-walk.Post
-tile-walk-returns-3 t c = tile-join (tileBit (c .before .before .before .before .before .before .before .before .before .before .before .before .before .before .args .n) (c .before .before .before .before .before .before .before .before .before .before .before .before .before .before .args .t .now) (c .before .before .before .before .before .before .before .before .before .before .before .before .before .before .args .g)) (c .before .before .before .before .before .before .before .before .before .before .before .before .before .before .args .level) (c .before .before .before .before .before .before .before .before .before .before .before .before .before .before .args .day) (c .before .before .before .before .before .before .before .before .before .before .size .result) (c .before .before .before .before .before .before .before .before .before .before .before .before .before .before .args .at) (c .before .before .before .before .before .before .tile-walk2 .result) (c .before .before .tile-walk3 .result) (c .before .before .before .before .before .before .before .before .before .before .before .before .before .before .args .list .now) _ _ (c .before .before .before .before .before .before .before .before .before .tile-bit .ensures) (c .before .before .before .before .before .before .before .before .if2 .left) (c .before .before .before .before .before .before .before .before .before .before .before .if1 .left) (c .before .before .before .before .before .before .before .before .before .before .size .ensures) (c .before .before .before .before .before .before .before .before .before .before .before .before .before .before .pre .1 .1) (c .before .before .before .before .before .before .tile-walk2 .ensures) (c .before .before .tile-walk3 .ensures)
+tile-walk-returns-3 t c =
+    let args = c .before .before .before .before .before .before .before .before .before .before .before .before .before .before .args in
+    tile-join (tileBit (args .n) (args .t .now) (args .g)) (args .level) (args .day) (c .before .before .before .before .before .before .before .before .before .before .size .result) (args .at) (c .before .before .before .before .before .before .tile-walk2 .result) (c .before .before .tile-walk3 .result) (args .list .now) _ _ (c .before .before .before .before .before .before .before .before .before .tile-bit .ensures) (c .before .before .before .before .before .before .before .before .if2 .left) (c .before .before .before .before .before .before .before .before .before .before .before .if1 .left) (c .before .before .before .before .before .before .before .before .before .before .size .ensures) (c .before .before .before .before .before .before .before .before .before .before .before .before .before .before .pre .1 .1) (c .before .before .before .before .before .before .tile-walk2 .ensures) (c .before .before .tile-walk3 .ensures)
 
 pub +tile-walk-spec : {M : Type 1} → statement M
 +tile-walk-spec = close μ-tile-walk λ t. tile-walk-lts.spec (

@@ -81,7 +81,9 @@ walk-same-length : (t : ℕ) → walk-lts.Need-same-length (
   walk-below t,
   walk.Post,
 ) (walk-at t) walk.Post
-walk-same-length t c = length-set (c .before .before .before .before .before .args .list .now) (c .before .before .before .before .before .args .at) (c .before .before .before .before .before .args .g)
+walk-same-length t c =
+    let args = c .before .before .before .before .before .args in
+    length-set (args .list .now) (args .at) (args .g)
 
 walk-returns-2 : (t : ℕ) → walk-lts.Need-returns-2 (
   tree-passes-reads.Asked,
@@ -131,7 +133,9 @@ walk-walk-requires : (t : ℕ) → walk-lts.Need-walk-requires (
   walk-below t,
   walk.Post,
 ) (walk-at t) walk.Post
-walk-walk-requires t c κs = (level-less _ _ (c .before .before .before .before .before .before .before .pre .0) (c .before .before .if2 .left), (left-chain (c .before .before .before .before .before .before .before .pre .1 .0) (c .before .before .if2 .left) (c .before .size .ensures), left-place _ _ _ (c .before .before .if2 .left) (c .before .before .before .before .before .before .before .pre .1 .1)))
+walk-walk-requires t c κs =
+    let pre = c .before .before .before .before .before .before .before .pre in
+    (level-less _ _ (pre .0) (c .before .before .if2 .left), (left-chain (pre .1 .0) (c .before .before .if2 .left) (c .before .size .ensures), left-place _ _ _ (c .before .before .if2 .left) (pre .1 .1)))
 
 walk-walk-requires-2 : (t : ℕ) → walk-lts.Need-walk-requires-2 (
   tree-passes-reads.Asked,
@@ -141,7 +145,10 @@ walk-walk-requires-2 : (t : ℕ) → walk-lts.Need-walk-requires-2 (
   walk-below t,
   walk.Post,
 ) (walk-at t) walk.Post
-walk-walk-requires-2 t c κs = (level-less _ _ (c .before .before .before .before .before .before .before .before .before .before .before .pre .0) (c .before .before .before .before .before .before .if2 .left), (right-chain (c .before .before .before .before .before .before .before .before .before .before .before .pre .1 .0) (c .before .before .before .before .before .before .if2 .left) (c .before .before .before .before .before .size .ensures), tree-right-place (c .before .before .before .before .before .before .before .before .before .before .before .args .n) (c .before .before .before .before .before .before .before .before .before .before .before .args .level) (c .before .before .before .before .before .before .before .before .before .before .before .args .g - c .before .before .before .before .before .size .result) (c .before .before .before .before .before .before .before .before .before .before .before .args .at) (c .before .before .before .walk .result) _ (c .before .before .before .before .before .before .before .before .before .before .before .args .t .now) (c .before .before .before .before .before .before .before .before .before .before .before .args .list .now) _ (c .before .before .before .before .before .before .if2 .left) (c .before .before .before .before .before .before .before .before .before .before .before .pre .1 .1) (c .before .before .before .walk .ensures) (c .before .before .before .walk .kept .1 .1 .1 .1 .0)))
+walk-walk-requires-2 t c κs =
+    let args = c .before .before .before .before .before .before .before .before .before .before .before .args in
+    let pre = c .before .before .before .before .before .before .before .before .before .before .before .pre in
+    (level-less _ _ (pre .0) (c .before .before .before .before .before .before .if2 .left), (right-chain (pre .1 .0) (c .before .before .before .before .before .before .if2 .left) (c .before .before .before .before .before .size .ensures), tree-right-place (args .n) (args .level) (args .g - c .before .before .before .before .before .size .result) (args .at) (c .before .before .before .walk .result) _ (args .t .now) (args .list .now) _ (c .before .before .before .before .before .before .if2 .left) (pre .1 .1) (c .before .before .before .walk .ensures) (c .before .before .before .walk .kept .1 .1 .1 .1 .0)))
 
 walk-same-length-2 : (t : ℕ) → walk-lts.Need-same-length-2 (
   tree-passes-reads.Asked,
@@ -161,7 +168,9 @@ walk-returns-3 : (t : ℕ) → walk-lts.Need-returns-3 (
   walk-below t,
   walk.Post,
 ) (walk-at t) walk.Post
-walk-returns-3 t c = tree-join (c .before .before .before .before .before .before .before .before .before .before .before .before .before .before .args .n) (c .before .before .before .before .before .before .before .before .before .before .before .before .before .before .args .level) (c .before .before .before .before .before .before .before .before .before .before .before .before .before .before .args .g) (c .before .before .before .before .before .before .before .before .size .result) (c .before .before .before .before .before .before .before .before .before .before .before .before .before .before .args .at) (c .before .before .before .before .before .before .walk .result) (c .before .before .walk2 .result) (c .before .before .before .before .before .before .before .before .before .before .before .before .before .before .args .t .now) (c .before .before .before .before .before .before .before .before .before .before .before .before .before .before .args .list .now) _ _ (c .before .before .before .before .before .before .before .before .before .before .before .tree-passes .ensures) (c .before .before .before .before .before .before .before .before .before .before .if1 .left) (c .before .before .before .before .before .before .before .before .before .if2 .left) (c .before .before .before .before .before .before .before .before .size .ensures) (c .before .before .before .before .before .before .before .before .before .before .before .before .before .before .pre .1 .1) (c .before .before .before .before .before .before .walk .ensures) (c .before .before .walk2 .ensures)
+walk-returns-3 t c =
+    let args = c .before .before .before .before .before .before .before .before .before .before .before .before .before .before .args in
+    tree-join (args .n) (args .level) (args .g) (c .before .before .before .before .before .before .before .before .size .result) (args .at) (c .before .before .before .before .before .before .walk .result) (c .before .before .walk2 .result) (args .t .now) (args .list .now) _ _ (c .before .before .before .before .before .before .before .before .before .before .before .tree-passes .ensures) (c .before .before .before .before .before .before .before .before .before .before .if1 .left) (c .before .before .before .before .before .before .before .before .before .if2 .left) (c .before .before .before .before .before .before .before .before .size .ensures) (c .before .before .before .before .before .before .before .before .before .before .before .before .before .before .pre .1 .1) (c .before .before .before .before .before .before .walk .ensures) (c .before .before .walk2 .ensures)
 
 pub +walk-spec : {M : Type 1} → statement M
 +walk-spec = close μ-walk λ t. walk-lts.spec (

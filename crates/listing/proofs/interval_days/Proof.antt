@@ -13,16 +13,23 @@ same-length : tie.Need-same-length
 same-length c = search needs
 
 returns : tie.Need-returns
-returns c = wrote-as _ (local-as _ (c .before .before .before .before .before .before .before .args .n) (c .before .before .before .before .before .before .before .args .t .now) (ending (c .before .before .before .before .before .before .before .args .n) (c .before .before .before .before .before .before .before .args .g)) 1 (c .before .before .before .before .if1 .taken)) (c .before .before .black-days .ensures)
+returns c =
+    let args = c .before .before .before .before .before .before .before .args in
+    wrote-as _ (local-as _ (args .n) (args .t .now) (ending (args .n) (args .g)) 1 (c .before .before .before .before .if1 .taken)) (c .before .before .black-days .ensures)
 
 tile-days-requires : tie.Need-tile-days-requires
-tile-days-requires c κs = (interval-as 2 (second _ (c .before .before .before .before .pre .0 .has .scheme-ok) (c .before .before .before .before .pre .2) (c .before .if1 .left)) (c .before .before .before .before .pre .0), c .before .before .before .before .pre .1)
+tile-days-requires c κs =
+    let pre = c .before .before .before .before .pre in
+    (interval-as 2 (second _ (pre .0 .has .scheme-ok) (pre .2) (c .before .if1 .left)) (pre .0), pre .1)
 
 same-length-2 : tie.Need-same-length-2
 same-length-2 c = search needs
 
 returns-2 : tie.Need-returns-2
-returns-2 c = wrote-as _ (local-as _ (c .before .before .before .before .before .before .before .args .n) (c .before .before .before .before .before .before .before .args .t .now) (ending (c .before .before .before .before .before .before .before .args .n) (c .before .before .before .before .before .before .before .args .g)) 2 (second _ (c .before .before .before .before .before .before .before .pre .0 .has .scheme-ok) (c .before .before .before .before .before .before .before .pre .2) (c .before .before .before .before .if1 .left))) (c .before .before .tile-days .ensures)
+returns-2 c =
+    let args = c .before .before .before .before .before .before .before .args in
+    let pre = c .before .before .before .before .before .before .before .pre in
+    wrote-as _ (local-as _ (args .n) (args .t .now) (ending (args .n) (args .g)) 2 (second _ (pre .0 .has .scheme-ok) (pre .2) (c .before .before .before .before .if1 .left))) (c .before .before .tile-days .ensures)
 
 pub interval-days-spec : {M : Type 1} → statement M
 interval-days-spec =

@@ -21,28 +21,47 @@ div-m : tie.Need-div-m Inv-loop μ-loop
 div-m c = allowed-n-is _ (c .before .before .pre .0 .n-ok) .some
 
 loop-holds : tie.Need-loop-holds Inv-loop μ-loop
-loop-holds c = (omega arith, none-yet (local (c .before .before .args .scheme) (c .before .before .args .n) (c .before .before .args .t .now)) _ _ (zero-mul (c .before .before .args .n)))
+loop-holds c =
+    let args = c .before .before .args in
+    (omega arith, none-yet (local (args .scheme) (args .n) (args .t .now)) _ _ (zero-mul (args .n)))
 
 add-k : tie.Need-add-k Inv-loop μ-loop
-add-k c = record { fits = count-fits (c .before .before .before .before .args .n) (c .before .before .before .before .args .d) (c .before .loop .k) (c .loop-test .taken) (c .before .before .before .before .pre .0 .most) }
+add-k c =
+    let args = c .before .before .before .before .args in
+    record { fits = count-fits (args .n) (args .d) (c .before .loop .k) (c .loop-test .taken) (c .before .before .before .before .pre .0 .most) }
 
 mul-interval-days : tie.Need-mul-interval-days Inv-loop μ-loop
-mul-interval-days c = record { fits = product-fits (c .before .before .before .before .args .n) (c .before .before .before .before .args .d) (c .before .loop .k + 1) (omega arith) (c .before .before .before .before .pre .0 .most) }
+mul-interval-days c =
+    let args = c .before .before .before .before .args in
+    record { fits = product-fits (args .n) (args .d) (c .before .loop .k + 1) (omega arith) (c .before .before .before .before .pre .0 .most) }
 
 interval-days-requires : tie.Need-interval-days-requires Inv-loop μ-loop
-interval-days-requires c κs = (interval-of _ (c .before .before .before .before .before .pre .0) (omega arith) (omega arith), next-place (local (c .before .before .before .before .before .args .scheme) (c .before .before .before .before .before .args .n) (c .before .before .before .before .before .args .t .now)) (c .before .before .before .before .before .args .n) (c .before .before .before .before .before .args .d) (c .before .before .loop .k) (c .before .before .loop .at) (c .before .before .before .before .before .args .list .now) (c .before .before .loop .list) (c .before .loop-test .taken) (c .before .before .before .before .before .pre .1) (c .before .before .loop .inv .1), c .before .before .before .before .before .pre .2)
+interval-days-requires c κs =
+    let args = c .before .before .before .before .before .args in
+    let loop = c .before .before .loop in
+    let pre = c .before .before .before .before .before .pre in
+    (interval-of _ (pre .0) (omega arith) (omega arith), next-place (local (args .scheme) (args .n) (args .t .now)) (args .n) (args .d) (loop .k) (loop .at) (args .list .now) (loop .list) (c .before .loop-test .taken) (pre .1) (loop .inv .1), pre .2)
 
 loop-less : tie.Need-loop-less Inv-loop μ-loop
 loop-less c = omega arith
 
 loop-again : tie.Need-loop-again Inv-loop μ-loop
-loop-again c = (omega arith, next-interval (local (c .before .before .before .before .before .before .before .before .args .scheme) (c .before .before .before .before .before .before .before .before .args .n) (c .before .before .before .before .before .before .before .before .args .t .now)) (c .before .before .before .before .before .before .before .before .args .n) (c .before .before .before .before .before .before .before .before .args .d) (c .before .before .before .before .before .loop .k) (c .before .before .before .before .before .loop .at) (c .before .before .interval-days .result) (c .before .before .before .before .before .before .before .before .args .list .now) (c .before .before .before .before .before .loop .list) _ (c .before .before .before .before .loop-test .taken) (c .before .before .before .before .before .before .before .before .pre .1) (c .before .before .before .before .before .loop .inv .1) (c .before .before .interval-days .ensures))
+loop-again c =
+    let args = c .before .before .before .before .before .before .before .before .args in
+    let loop = c .before .before .before .before .before .loop in
+    (omega arith, next-interval (local (args .scheme) (args .n) (args .t .now)) (args .n) (args .d) (loop .k) (loop .at) (c .before .before .interval-days .result) (args .list .now) (loop .list) _ (c .before .before .before .before .loop-test .taken) (c .before .before .before .before .before .before .before .before .pre .1) (loop .inv .1) (c .before .before .interval-days .ensures))
 
 same-length : tie.Need-same-length Inv-loop μ-loop
-same-length c = so-far-length (local (c .before .before .before .before .args .scheme) (c .before .before .before .before .args .n) (c .before .before .before .before .args .t .now)) (c .before .loop .k * c .before .before .before .before .args .n) (c .before .before .before .before .args .d) (c .before .loop .at) (c .before .before .before .before .args .list .now) (c .before .loop .list) (interval-end (c .before .before .before .before .args .n) (c .before .before .before .before .args .d) (c .before .loop .k) (c .before .loop .inv .0)) (c .before .before .before .before .pre .1) (c .before .loop .inv .1)
+same-length c =
+    let args = c .before .before .before .before .args in
+    let loop = c .before .loop in
+    so-far-length (local (args .scheme) (args .n) (args .t .now)) (loop .k * args .n) (args .d) (loop .at) (args .list .now) (loop .list) (interval-end (args .n) (args .d) (loop .k) (loop .inv .0)) (c .before .before .before .before .pre .1) (loop .inv .1)
 
 returns : tie.Need-returns Inv-loop μ-loop
-returns c = all-intervals (local (c .before .before .before .before .args .scheme) (c .before .before .before .before .args .n) (c .before .before .before .before .args .t .now)) (c .before .before .before .before .args .n) (c .before .before .before .before .args .d) (c .before .loop .k) (c .before .loop .at) (c .before .before .before .before .args .list .now) (c .before .loop .list) (c .before .before .before .before .pre .0 .whole) (c .before .loop .inv .0) (c .loop-test .left) (c .before .loop .inv .1)
+returns c =
+    let args = c .before .before .before .before .args in
+    let loop = c .before .loop in
+    all-intervals (local (args .scheme) (args .n) (args .t .now)) (args .n) (args .d) (loop .k) (loop .at) (args .list .now) (loop .list) (c .before .before .before .before .pre .0 .whole) (loop .inv .0) (c .loop-test .left) (loop .inv .1)
 
 pub interval-walk-spec : {M : Type 1} → statement M
 interval-walk-spec =

@@ -7,16 +7,22 @@ use Rattle.listing.proofs.listed.Statement.{statement}
 use Rattle.listing.proofs.listed.Tie as tie
 
 tree-walk-requires : tie.Need-tree-walk-requires
-tree-walk-requires c κs = (table-as 3 (c .before .if1 .taken) (c .before .before .before .before .pre .0), c .before .before .before .before .pre .1, rules-levels _ _ _ _ (c .before .if1 .taken) (c .before .before .before .before .pre .2))
+tree-walk-requires c κs =
+    let pre = c .before .before .before .before .pre in
+    (table-as 3 (c .before .if1 .taken) (pre .0), pre .1, rules-levels _ _ _ _ (c .before .if1 .taken) (pre .2))
 
 same-length : tie.Need-same-length
 same-length c = search needs
 
 returns : tie.Need-returns
-returns c = wrote-as _ (local-as _ (c .before .before .before .before .before .before .before .args .n) (c .before .before .before .before .before .before .before .args .t .now) (days (c .before .before .before .before .before .before .before .args .d)) 3 (c .before .before .before .before .if1 .taken)) (c .before .before .tree-walk .ensures)
+returns c =
+    let args = c .before .before .before .before .before .before .before .args in
+    wrote-as _ (local-as _ (args .n) (args .t .now) (days (args .d)) 3 (c .before .before .before .before .if1 .taken)) (c .before .before .tree-walk .ensures)
 
 interval-walk-requires : tie.Need-interval-walk-requires
-interval-walk-requires c κs = (c .before .before .before .before .pre .0, c .before .before .before .before .pre .1, below-third _ (c .before .before .before .before .pre .0 .scheme-ok) (c .before .if1 .left))
+interval-walk-requires c κs =
+    let pre = c .before .before .before .before .pre in
+    (pre .0, pre .1, below-third _ (pre .0 .scheme-ok) (c .before .if1 .left))
 
 same-length-2 : tie.Need-same-length-2
 same-length-2 c = search needs

@@ -17,13 +17,22 @@ loop-holds : tie.Need-loop-holds Inv-loop μ-loop
 loop-holds c = (omega arith, c .pre .0, run-start (c .args .first) (c .args .at) (c .args .list .now))
 
 mul-list : tie.Need-mul-list Inv-loop μ-loop
-mul-list c = let q = run-place (c .before .before .args .first) (c .before .loop .day) (c .before .before .args .end) (c .before .before .args .at) (c .before .loop .p) (c .before .before .args .list .now) (c .before .loop .list) (c .before .loop .inv .0) (c .loop-test .taken) (c .before .before .pre .1) (c .before .loop .inv .2) in omega (arith, q .0, q .1, c .before .before .good .1 .1 .0 .1)
+mul-list c =
+    let args = c .before .before .args in
+    let loop = c .before .loop in
+    let q = run-place (args .first) (loop .day) (args .end) (args .at) (loop .p) (args .list .now) (loop .list) (loop .inv .0) (c .loop-test .taken) (c .before .before .pre .1) (loop .inv .2) in omega (arith, q .0, q .1, c .before .before .good .1 .1 .0 .1)
 
 slice-write-list : tie.Need-slice-write-list Inv-loop μ-loop
-slice-write-list c = run-place (c .before .before .args .first) (c .before .loop .day) (c .before .before .args .end) (c .before .before .args .at) (c .before .loop .p) (c .before .before .args .list .now) (c .before .loop .list) (c .before .loop .inv .0) (c .loop-test .taken) (c .before .before .pre .1) (c .before .loop .inv .2) .0
+slice-write-list c =
+    let args = c .before .before .args in
+    let loop = c .before .loop in
+    run-place (args .first) (loop .day) (args .end) (args .at) (loop .p) (args .list .now) (loop .list) (loop .inv .0) (c .loop-test .taken) (c .before .before .pre .1) (loop .inv .2) .0
 
 add-p : tie.Need-add-p Inv-loop μ-loop
-add-p c = let q = run-place (c .before .before .args .first) (c .before .loop .day) (c .before .before .args .end) (c .before .before .args .at) (c .before .loop .p) (c .before .before .args .list .now) (c .before .loop .list) (c .before .loop .inv .0) (c .loop-test .taken) (c .before .before .pre .1) (c .before .loop .inv .2) in omega (arith, q .0, q .1, c .before .before .good .1 .1 .0 .1)
+add-p c =
+    let args = c .before .before .args in
+    let loop = c .before .loop in
+    let q = run-place (args .first) (loop .day) (args .end) (args .at) (loop .p) (args .list .now) (loop .list) (loop .inv .0) (c .loop-test .taken) (c .before .before .pre .1) (loop .inv .2) in omega (arith, q .0, q .1, c .before .before .good .1 .1 .0 .1)
 
 add-day : tie.Need-add-day Inv-loop μ-loop
 add-day c = search needs
@@ -32,13 +41,22 @@ loop-less : tie.Need-loop-less Inv-loop μ-loop
 loop-less c = omega arith
 
 loop-again : tie.Need-loop-again Inv-loop μ-loop
-loop-again c = (omega arith, omega arith, run-next (c .before .before .args .first) (c .before .loop .day) (c .before .before .args .end) (c .before .before .args .at) (c .before .loop .p) (c .before .before .args .list .now) (c .before .loop .list) (c .before .loop .inv .0) (c .loop-test .taken) (c .before .before .pre .1) (c .before .loop .inv .2))
+loop-again c =
+    let args = c .before .before .args in
+    let loop = c .before .loop in
+    (omega arith, omega arith, run-next (args .first) (loop .day) (args .end) (args .at) (loop .p) (args .list .now) (loop .list) (loop .inv .0) (c .loop-test .taken) (c .before .before .pre .1) (loop .inv .2))
 
 same-length : tie.Need-same-length Inv-loop μ-loop
-same-length c = run-length (c .before .before .args .first) (c .before .loop .day) (c .before .before .args .end) (c .before .before .args .at) (c .before .loop .p) (c .before .before .args .list .now) (c .before .loop .list) (c .before .loop .inv .0) (c .before .loop .inv .1) (c .before .before .pre .1) (c .before .loop .inv .2)
+same-length c =
+    let args = c .before .before .args in
+    let loop = c .before .loop in
+    run-length (args .first) (loop .day) (args .end) (args .at) (loop .p) (args .list .now) (loop .list) (loop .inv .0) (loop .inv .1) (c .before .before .pre .1) (loop .inv .2)
 
 returns : tie.Need-returns Inv-loop μ-loop
-returns c = run-end (c .before .before .args .first) (c .before .loop .day) (c .before .before .args .end) (c .before .before .args .at) (c .before .loop .p) (c .before .before .args .list .now) (c .before .loop .list) (c .before .loop .inv .1) (c .loop-test .left) (c .before .loop .inv .2)
+returns c =
+    let args = c .before .before .args in
+    let loop = c .before .loop in
+    run-end (args .first) (loop .day) (args .end) (args .at) (loop .p) (args .list .now) (loop .list) (loop .inv .1) (c .loop-test .left) (loop .inv .2)
 
 pub run-spec : {M : Type 1} → statement M
 run-spec =

@@ -21,7 +21,9 @@ add-tile-walk : tie.Need-add-tile-walk
 add-tile-walk c = search needs
 
 tile-walk-requires : tie.Need-tile-walk-requires
-tile-walk-requires c κs = tile-start _ _ _ _ _ (c .before .before .before .before .before .before .pre .0) (c .before .before .before .before .before .before .pre .1) (c .before .lg .ensures)
+tile-walk-requires c κs =
+    let pre = c .before .before .before .before .before .before .pre in
+    tile-start _ _ _ _ _ (pre .0) (pre .1) (c .before .lg .ensures)
 
 same-length : tie.Need-same-length
 same-length c = search needs

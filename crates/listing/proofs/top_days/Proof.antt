@@ -18,7 +18,9 @@ mul-walk : tie.Need-mul-walk
 mul-walk c = record { fits = top-fits (c .before .before .before .before .args .d) (c .before .size .result) (c .before .before .before .before .pre .0 .most) }
 
 walk-requires : tie.Need-walk-requires
-walk-requires c κs = top-walk _ _ _ _ _ _ (c .before .before .before .before .before .args .list .now) (c .before .before .before .before .before .pre .0) (c .before .before .before .before .before .pre .2) (c .before .before .size .ensures) (c .before .if1 .left) (c .before .before .before .before .before .pre .1) (c .before .before .before .before .before .pre .3)
+walk-requires c κs =
+    let pre = c .before .before .before .before .before .pre in
+    top-walk _ _ _ _ _ _ (c .before .before .before .before .before .args .list .now) (pre .0) (pre .2) (c .before .before .size .ensures) (c .before .if1 .left) (pre .1) (pre .3)
 
 same-length : tie.Need-same-length
 same-length c = search needs

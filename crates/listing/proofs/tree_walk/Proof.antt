@@ -21,19 +21,33 @@ sub-level : tie.Need-sub-level Inv-loop μ-loop
 sub-level c = omega arith
 
 top-days-requires : tie.Need-top-days-requires Inv-loop μ-loop
-top-days-requires c κs = (c .before .before .before .before .before .pre .0, level-place (local 3 (c .before .before .before .before .before .args .n) (c .before .before .before .before .before .args .t .now)) (c .before .before .before .before .before .args .d) (c .before .before .loop .level) (c .before .before .loop .at) (c .before .before .before .before .before .args .list .now) (c .before .before .loop .list) (c .before .loop-test .taken) (c .before .before .before .before .before .pre .1) (c .before .before .loop .inv .1) .0, omega arith, level-place (local 3 (c .before .before .before .before .before .args .n) (c .before .before .before .before .before .args .t .now)) (c .before .before .before .before .before .args .d) (c .before .before .loop .level) (c .before .before .loop .at) (c .before .before .before .before .before .args .list .now) (c .before .before .loop .list) (c .before .loop-test .taken) (c .before .before .before .before .before .pre .1) (c .before .before .loop .inv .1) .1)
+top-days-requires c κs =
+    let args = c .before .before .before .before .before .args in
+    let loop = c .before .before .loop in
+    let pre = c .before .before .before .before .before .pre in
+    (pre .0, level-place (local 3 (args .n) (args .t .now)) (args .d) (loop .level) (loop .at) (args .list .now) (loop .list) (c .before .loop-test .taken) (pre .1) (loop .inv .1) .0, omega arith, level-place (local 3 (args .n) (args .t .now)) (args .d) (loop .level) (loop .at) (args .list .now) (loop .list) (c .before .loop-test .taken) (pre .1) (loop .inv .1) .1)
 
 loop-less : tie.Need-loop-less Inv-loop μ-loop
 loop-less c = omega arith
 
 loop-again : tie.Need-loop-again Inv-loop μ-loop
-loop-again c = (omega arith, next-level (c .before .before .before .before .before .before .before .before .args .n) (c .before .before .before .before .before .before .before .before .args .d) (c .before .before .before .before .before .before .before .before .args .t .now) (c .before .before .before .before .before .before .before .before .pre .0 .most) (c .before .before .before .before .before .before .before .before .pre .2) (c .before .before .before .before .before .loop .level) (c .before .before .before .before .before .loop .at) (c .before .before .top-days .result) (c .before .before .before .before .before .before .before .before .args .list .now) (c .before .before .before .before .before .loop .list) _ (c .before .before .before .before .loop-test .taken) (c .before .before .before .before .before .before .before .before .pre .1) (c .before .before .before .before .before .loop .inv .1) (c .before .before .top-days .ensures))
+loop-again c =
+    let args = c .before .before .before .before .before .before .before .before .args in
+    let loop = c .before .before .before .before .before .loop in
+    let pre = c .before .before .before .before .before .before .before .before .pre in
+    (omega arith, next-level (args .n) (args .d) (args .t .now) (pre .0 .most) (pre .2) (loop .level) (loop .at) (c .before .before .top-days .result) (args .list .now) (loop .list) _ (c .before .before .before .before .loop-test .taken) (pre .1) (loop .inv .1) (c .before .before .top-days .ensures))
 
 same-length : tie.Need-same-length Inv-loop μ-loop
-same-length c = level-length (local 3 (c .before .before .before .before .args .n) (c .before .before .before .before .args .t .now)) (c .before .before .before .before .args .d) (c .before .loop .level) (c .before .loop .at) (c .before .before .before .before .args .list .now) (c .before .loop .list) (c .before .before .before .before .pre .1) (c .before .loop .inv .1)
+same-length c =
+    let args = c .before .before .before .before .args in
+    let loop = c .before .loop in
+    level-length (local 3 (args .n) (args .t .now)) (args .d) (loop .level) (loop .at) (args .list .now) (loop .list) (c .before .before .before .before .pre .1) (loop .inv .1)
 
 returns : tie.Need-returns Inv-loop μ-loop
-returns c = all-levels (local 3 (c .before .before .before .before .args .n) (c .before .before .before .before .args .t .now)) (c .before .before .before .before .args .d) (c .before .loop .level) (c .before .loop .at) (c .before .before .before .before .args .list .now) (c .before .loop .list) (c .loop-test .left) (c .before .loop .inv .1)
+returns c =
+    let args = c .before .before .before .before .args in
+    let loop = c .before .loop in
+    all-levels (local 3 (args .n) (args .t .now)) (args .d) (loop .level) (loop .at) (args .list .now) (loop .list) (c .loop-test .left) (loop .inv .1)
 
 pub tree-walk-spec : {M : Type 1} → statement M
 tree-walk-spec =

@@ -7,7 +7,9 @@ bits-requires : tie.Need-bits-requires
 bits-requires c κs = search needs
 
 returns : tie.Need-returns
-returns c = refuse-13 (c .before .before .before .args .scheme) (c .before .before .before .args .n) (c .before .before .before .args .d) (c .before .before .before .args .t .now) (c .before .bits .ensures) (c .if1 .taken)
+returns c =
+    let args = c .before .before .before .args in
+    refuse-13 (args .scheme) (args .n) (args .d) (args .t .now) (c .before .bits .ensures) (c .if1 .taken)
 
 hold-requires : tie.Need-hold-requires
 hold-requires c κs = search needs

@@ -15,7 +15,9 @@ returns-2 : tie.Need-returns-2
 returns-2 c = rule-as _ _ _ _ 2 (c .before .if2 .taken) (c .tile-block .ensures)
 
 tree-block-requires : tie.Need-tree-block-requires
-tree-block-requires c κs = interval-as 3 (third _ (c .before .before .before .pre .has .scheme-ok) (c .before .if1 .left) (c .if2 .left)) (c .before .before .before .pre)
+tree-block-requires c κs =
+    let pre = c .before .before .before .pre in
+    interval-as 3 (third _ (pre .has .scheme-ok) (c .before .if1 .left) (c .if2 .left)) (pre)
 
 returns-3 : tie.Need-returns-3
 returns-3 c = rule-as _ _ _ _ 3 (third _ (c .before .before .before .before .pre .has .scheme-ok) (c .before .before .if1 .left) (c .before .if2 .left)) (c .tree-block .ensures)

@@ -22,25 +22,37 @@ loop-holds : tie.Need-loop-holds Inv-loop μ-loop
 loop-holds c = (omega arith, refl)
 
 add-k : tie.Need-add-k Inv-loop μ-loop
-add-k c = record { fits = count-fits (c .before .before .before .args .n) (c .before .before .before .args .d) (c .before .loop .k) (c .loop-test .taken) (c .before .before .before .pre .most) }
+add-k c =
+    let args = c .before .before .before .args in
+    record { fits = count-fits (args .n) (args .d) (c .before .loop .k) (c .loop-test .taken) (c .before .before .before .pre .most) }
 
 mul-block-rule : tie.Need-mul-block-rule Inv-loop μ-loop
-mul-block-rule c = record { fits = product-fits (c .before .before .before .args .n) (c .before .before .before .args .d) (c .before .loop .k + 1) (omega arith) (c .before .before .before .pre .most) }
+mul-block-rule c =
+    let args = c .before .before .before .args in
+    record { fits = product-fits (args .n) (args .d) (c .before .loop .k + 1) (omega arith) (c .before .before .before .pre .most) }
 
 block-rule-requires : tie.Need-block-rule-requires Inv-loop μ-loop
 block-rule-requires c κs = interval-of _ (c .before .before .before .pre) (omega arith) (omega arith)
 
 returns : tie.Need-returns Inv-loop μ-loop
-returns c = blocks-by _ _ _ _ (every-stop (blockAt (c .before .before .before .before .before .args .scheme) (c .before .before .before .before .before .args .n) (c .before .before .before .before .before .args .t .now)) 1 (c .before .before .before .before .before .args .d / c .before .before .before .before .before .args .n) (c .before .before .before .loop .k + 1) (omega arith) (omega arith) (block-at-by _ _ _ _ (c .before .block-rule .ensures)) (c .if1 .taken))
+returns c =
+    let args = c .before .before .before .before .before .args in
+    blocks-by _ _ _ _ (every-stop (blockAt (args .scheme) (args .n) (args .t .now)) 1 (args .d / args .n) (c .before .before .before .loop .k + 1) (omega arith) (omega arith) (block-at-by _ _ _ _ (c .before .block-rule .ensures)) (c .if1 .taken))
 
 loop-less : tie.Need-loop-less Inv-loop μ-loop
 loop-less c = omega arith
 
 loop-again : tie.Need-loop-again Inv-loop μ-loop
-loop-again c = (omega arith, every-next (blockAt (c .before .before .before .before .before .args .scheme) (c .before .before .before .before .before .args .n) (c .before .before .before .before .before .args .t .now)) 1 (c .before .before .before .loop .k) (c .before .before .before .loop .k + 1) (omega arith) (c .before .before .before .loop .inv .1) (block-at-by _ _ _ _ (c .before .block-rule .ensures)) (c .if1 .left))
+loop-again c =
+    let args = c .before .before .before .before .before .args in
+    let loop = c .before .before .before .loop in
+    (omega arith, every-next (blockAt (args .scheme) (args .n) (args .t .now)) 1 (loop .k) (loop .k + 1) (omega arith) (loop .inv .1) (block-at-by _ _ _ _ (c .before .block-rule .ensures)) (c .if1 .left))
 
 returns-2 : tie.Need-returns-2 Inv-loop μ-loop
-returns-2 c = blocks-by _ _ _ _ (every-done (blockAt (c .before .before .before .args .scheme) (c .before .before .before .args .n) (c .before .before .before .args .t .now)) 1 (c .before .loop .k) _ (c .before .loop .inv .0) (c .loop-test .left) (c .before .loop .inv .1))
+returns-2 c =
+    let args = c .before .before .before .args in
+    let loop = c .before .loop in
+    blocks-by _ _ _ _ (every-done (blockAt (args .scheme) (args .n) (args .t .now)) 1 (loop .k) _ (loop .inv .0) (c .loop-test .left) (loop .inv .1))
 
 pub block-rules-spec : {M : Type 1} → statement M
 block-rules-spec =

@@ -34,19 +34,29 @@ mul-halves-rule : tie.Need-mul-halves-rule Inv-loop μ-loop
 mul-halves-rule c = record { fits = product-fits (c .before .before .size .result) (c .before .before .before .before .args .d) (c .before .loop .k + 1) (omega arith) (c .before .before .before .before .pre .0 .most) }
 
 halves-rule-requires : tie.Need-halves-rule-requires Inv-loop μ-loop
-halves-rule-requires c κs = chain-next-of _ (c .before .before .before .before .pre .0) (c .before .before .size .ensures) (c .before .before .before .before .pre .1) (omega arith) (omega arith)
+halves-rule-requires c κs =
+    let pre = c .before .before .before .before .pre in
+    chain-next-of _ (pre .0) (c .before .before .size .ensures) (pre .1) (omega arith) (omega arith)
 
 returns : tie.Need-returns Inv-loop μ-loop
-returns c = level-by _ _ _ _ _ (c .before .before .before .before .size .ensures) (every-stop (halvesAt (c .before .before .before .before .before .before .args .n) (c .before .before .before .before .before .before .args .t .now) (c .before .before .before .before .before .before .args .l)) 1 (c .before .before .before .before .before .before .args .d / c .before .before .before .before .size .result) (c .before .before .before .loop .k + 1) (omega arith) (omega arith) (halves-at-by _ _ _ _ _ (c .before .before .before .before .size .ensures) (c .before .halves-rule .ensures)) (c .if1 .taken))
+returns c =
+    let args = c .before .before .before .before .before .before .args in
+    level-by _ _ _ _ _ (c .before .before .before .before .size .ensures) (every-stop (halvesAt (args .n) (args .t .now) (args .l)) 1 (args .d / c .before .before .before .before .size .result) (c .before .before .before .loop .k + 1) (omega arith) (omega arith) (halves-at-by _ _ _ _ _ (c .before .before .before .before .size .ensures) (c .before .halves-rule .ensures)) (c .if1 .taken))
 
 loop-less : tie.Need-loop-less Inv-loop μ-loop
 loop-less c = omega arith
 
 loop-again : tie.Need-loop-again Inv-loop μ-loop
-loop-again c = (omega arith, every-next (halvesAt (c .before .before .before .before .before .before .args .n) (c .before .before .before .before .before .before .args .t .now) (c .before .before .before .before .before .before .args .l)) 1 (c .before .before .before .loop .k) (c .before .before .before .loop .k + 1) (omega arith) (c .before .before .before .loop .inv .1) (halves-at-by _ _ _ _ _ (c .before .before .before .before .size .ensures) (c .before .halves-rule .ensures)) (c .if1 .left))
+loop-again c =
+    let args = c .before .before .before .before .before .before .args in
+    let loop = c .before .before .before .loop in
+    (omega arith, every-next (halvesAt (args .n) (args .t .now) (args .l)) 1 (loop .k) (loop .k + 1) (omega arith) (loop .inv .1) (halves-at-by _ _ _ _ _ (c .before .before .before .before .size .ensures) (c .before .halves-rule .ensures)) (c .if1 .left))
 
 returns-2 : tie.Need-returns-2 Inv-loop μ-loop
-returns-2 c = level-by _ _ _ _ _ (c .before .before .size .ensures) (every-done (halvesAt (c .before .before .before .before .args .n) (c .before .before .before .before .args .t .now) (c .before .before .before .before .args .l)) 1 (c .before .loop .k) _ (c .before .loop .inv .0) (c .loop-test .left) (c .before .loop .inv .1))
+returns-2 c =
+    let args = c .before .before .before .before .args in
+    let loop = c .before .loop in
+    level-by _ _ _ _ _ (c .before .before .size .ensures) (every-done (halvesAt (args .n) (args .t .now) (args .l)) 1 (loop .k) _ (loop .inv .0) (c .loop-test .left) (loop .inv .1))
 
 pub level-rule-spec : {M : Type 1} → statement M
 level-rule-spec =

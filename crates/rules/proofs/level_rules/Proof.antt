@@ -21,7 +21,9 @@ level-rule-requires : tie.Need-level-rule-requires Inv-loop μ-loop
 level-rule-requires c κs = (c .before .before .before .pre, c .loop-test .taken)
 
 returns : tie.Need-returns Inv-loop μ-loop
-returns c = levels-by _ _ _ (every-stop (levelRule (c .before .before .before .before .before .args .n) (c .before .before .before .before .before .args .d) (c .before .before .before .before .before .args .t .now)) 0 16 (c .before .before .before .loop .l) (omega arith) (omega arith) (c .before .level-rule .ensures) (c .if1 .taken))
+returns c =
+    let args = c .before .before .before .before .before .args in
+    levels-by _ _ _ (every-stop (levelRule (args .n) (args .d) (args .t .now)) 0 16 (c .before .before .before .loop .l) (omega arith) (omega arith) (c .before .level-rule .ensures) (c .if1 .taken))
 
 add-l : tie.Need-add-l Inv-loop μ-loop
 add-l c = omega arith
@@ -30,10 +32,16 @@ loop-less : tie.Need-loop-less Inv-loop μ-loop
 loop-less c = omega arith
 
 loop-again : tie.Need-loop-again Inv-loop μ-loop
-loop-again c = (omega arith, every-next (levelRule (c .before .before .before .before .before .args .n) (c .before .before .before .before .before .args .d) (c .before .before .before .before .before .args .t .now)) 0 (c .before .before .before .loop .l) (c .before .before .before .loop .l) (omega arith) (c .before .before .before .loop .inv .1) (c .before .level-rule .ensures) (c .if1 .left))
+loop-again c =
+    let args = c .before .before .before .before .before .args in
+    let loop = c .before .before .before .loop in
+    (omega arith, every-next (levelRule (args .n) (args .d) (args .t .now)) 0 (loop .l) (loop .l) (omega arith) (loop .inv .1) (c .before .level-rule .ensures) (c .if1 .left))
 
 returns-2 : tie.Need-returns-2 Inv-loop μ-loop
-returns-2 c = levels-by _ _ _ (every-done (levelRule (c .before .before .before .args .n) (c .before .before .before .args .d) (c .before .before .before .args .t .now)) 0 (c .before .loop .l) 16 (c .before .loop .inv .0) (c .loop-test .left) (c .before .loop .inv .1))
+returns-2 c =
+    let args = c .before .before .before .args in
+    let loop = c .before .loop in
+    levels-by _ _ _ (every-done (levelRule (args .n) (args .d) (args .t .now)) 0 (loop .l) 16 (loop .inv .0) (c .loop-test .left) (loop .inv .1))
 
 pub level-rules-spec : {M : Type 1} → statement M
 level-rules-spec =

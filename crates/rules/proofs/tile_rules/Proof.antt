@@ -29,16 +29,24 @@ tile-rule-requires : tie.Need-tile-rule-requires Inv-loop μ-loop
 tile-rule-requires c κs = (c .before .before .before .before .pre, omega (arith, c .before .before .lg .ensures))
 
 returns : tie.Need-returns Inv-loop μ-loop
-returns c = every-stop (tileRule (c .before .before .before .before .before .before .args .n) (c .before .before .before .before .before .before .args .t .now) (c .before .before .before .before .before .before .args .g)) 1 (lg (c .before .before .before .before .before .before .args .n)) (c .before .before .before .loop .i + 1) (omega arith) (omega (arith, c .before .before .before .before .lg .ensures)) (c .before .tile-rule .ensures) (c .if1 .taken)
+returns c =
+    let args = c .before .before .before .before .before .before .args in
+    every-stop (tileRule (args .n) (args .t .now) (args .g)) 1 (lg (args .n)) (c .before .before .before .loop .i + 1) (omega arith) (omega (arith, c .before .before .before .before .lg .ensures)) (c .before .tile-rule .ensures) (c .if1 .taken)
 
 loop-less : tie.Need-loop-less Inv-loop μ-loop
 loop-less c = omega arith
 
 loop-again : tie.Need-loop-again Inv-loop μ-loop
-loop-again c = (omega arith, every-next (tileRule (c .before .before .before .before .before .before .args .n) (c .before .before .before .before .before .before .args .t .now) (c .before .before .before .before .before .before .args .g)) 1 (c .before .before .before .loop .i) (c .before .before .before .loop .i + 1) (omega arith) (c .before .before .before .loop .inv .1) (c .before .tile-rule .ensures) (c .if1 .left))
+loop-again c =
+    let args = c .before .before .before .before .before .before .args in
+    let loop = c .before .before .before .loop in
+    (omega arith, every-next (tileRule (args .n) (args .t .now) (args .g)) 1 (loop .i) (loop .i + 1) (omega arith) (loop .inv .1) (c .before .tile-rule .ensures) (c .if1 .left))
 
 returns-2 : tie.Need-returns-2 Inv-loop μ-loop
-returns-2 c = every-done (tileRule (c .before .before .before .before .args .n) (c .before .before .before .before .args .t .now) (c .before .before .before .before .args .g)) 1 (c .before .loop .i) (lg (c .before .before .before .before .args .n)) (omega (arith, c .before .before .lg .ensures)) (omega (arith, c .before .before .lg .ensures)) (c .before .loop .inv .1)
+returns-2 c =
+    let args = c .before .before .before .before .args in
+    let loop = c .before .loop in
+    every-done (tileRule (args .n) (args .t .now) (args .g)) 1 (loop .i) (lg (args .n)) (omega (arith, c .before .before .lg .ensures)) (omega (arith, c .before .before .lg .ensures)) (loop .inv .1)
 
 pub tile-rules-spec : {M : Type 1} → statement M
 tile-rules-spec =
