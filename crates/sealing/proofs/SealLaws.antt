@@ -1,15 +1,14 @@
 -- Sealing day by day: what stands in the book after i days.
 use mathlib.Core.Path.{_≡_, refl, sym, ap, ap₂, _∙_}
 use mathlib.Core.Bool.{Bool, true, false}
-use mathlib.Core.List.{List, [], _∷_, _++_, append-assoc, append-nil}
+use mathlib.Core.List.{List, [], _∷_, _++_}
 use Prim.Native.Nat.{ℕ, zero, suc, _+_, _-_, _*_, _≤_, _<_}
 use native.Mathlib.Numerals.{add-one}
 use native.Mathlib.Omega.{arith}
 use lib.Dec.{leb, ltb}
 use lib.ListN.{length, take, drop, length-append, length-drop}
-use lib.Seq.{take-at, drop-at, drop-drop, take-all, drop-length, length-take-le}
 use borrow.Author.Tests.{leb-true, le-leb, lt-ltb, lt-leb}
-use borrow.Rule.Slice.PartMut.{midOf, postOf, putMid}
+use borrow.Rule.Slice.PartMut.{midOf, putMid}
 use Rattle.evidence.specs.Values.{values}
 use Rattle.layouts.specs.Allowed.{bookLimit, allowedScheme, allowedN, allowedD, unless, orElse, setupRefusal, layoutRefusal}
 use Rattle.layouts.specs.Layouts.{chains, closing}
@@ -21,6 +20,7 @@ use Rattle.ledger.proofs.DayLaws.{days-none, days-snoc, days-length, day-length
 use Rattle.sha256.specs.Sha256.{sha256}
 use Rattle.chains.specs.Book.{start, bookOf}
 use Rattle.chains.proofs.BookLaws.{book-none, book-suc, book-length}
+use Rattle.chains.proofs.Puts.{lent-is, lent-put}
 use Rattle.service.specs.declared.Record.{Record}
 use Rattle.service.specs.declared.Closed.{Closed}
 use Rattle.service.specs.Calls.{countOf, opened, added, closed, written}
@@ -117,20 +117,8 @@ module _ (s n f d : ℕ) (ledger ends old : List ℕ) (ok : Taken s n f d ends (
   at-room i at r book t h = omega (arith, below i h, t .at-is, t .same-length)
 
   module _ (i at : ℕ) (r : Record) (book : List ℕ) (t : Through s n f ledger ends old i at r book) (h : i < d) where
-    old-part : drop at book ≡ drop at old
-    old-part = ap (drop at) (t .book-is) ∙ drop-at (bookOf s n (E i)) (drop at old) at (sym (t .at-is))
-
-    front-part : take at book ≡ bookOf s n (E i)
-    front-part = ap (take at) (t .book-is) ∙ take-at (bookOf s n (E i)) (drop at old) at (sym (t .at-is))
-
-    part-length : length (drop at old) ≡ length book - at
-    part-length = length-drop at old ∙ (let e = t .same-length in omega arith)
-
     part-is : midOf at (length book - at) book ≡ drop at old
-    part-is = ap (take (length book - at)) old-part ∙ take-all (length book - at) (drop at old) (omega (arith, part-length))
-
-    rest-is : postOf at (length book - at) book ≡ []
-    rest-is = ap (drop (length book - at)) old-part ∙ ap (λ (x : ℕ). drop x (drop at old)) (sym part-length) ∙ drop-length (drop at old)
+    part-is = lent-is (bookOf s n (E i)) old book at (t .book-is) (sym (t .at-is)) (t .same-length)
 
     abbrev day : List ℕ
     day = dayAt ledger ends i
@@ -163,7 +151,7 @@ module _ (s n f d : ℕ) (ledger ends old : List ℕ) (ok : Taken s n f d ends (
     close-ok : refusalOf s n j′ (closes (length (midOf at (length book - at) book))) ≡ 0
     close-ok =
         let b = below (suc i) h in
-        let l : 32 * length (closing s n (suc (length (E i)))) ≤ length (midOf at (length book - at) book) = rw part-is (omega (arith, values-count, t .at-is, part-length, t .same-length)) in
+        let l : 32 * length (closing s n (suc (length (E i)))) ≤ length (midOf at (length book - at) book) = rw part-is (omega (arith, values-count, t .at-is, length-drop at old, t .same-length)) in
         rw (days-left, le-leb (32 * length (closing s n (suc (length (E i))))) (length (midOf at (length book - at) book)) l)
 
     added-keeps : Keeps s n f j′ (added r day .state)
@@ -180,18 +168,18 @@ module _ (s n f d : ℕ) (ledger ends old : List ℕ) (ok : Taken s n f d ends (
         count-is : k ≡ length (closing s n (suc (length (E i))))
         count-is = ek ∙ ap (λ (x : Closed). countOf (x .answer)) c-is ∙ taken-count s n f (ok .setup) j′ (added r day .state) added-keeps (midOf at (length book - at) book) close-ok
 
-        y-is : y ≡ values sha256 (start s n) (E i ++ (day ∷ [])) (closing s n (suc (length (E i)))) ++ drop (32 * k) (drop at old)
+        y-is : y ≡ values sha256 (start s n) (E i ++ (day ∷ [])) (closing s n (suc (length (E i)))) ++ drop (32 * k) (midOf at (length book - at) book)
         y-is =
             ey ∙ ap (λ (x : List ℕ). written (added r x .state) (midOf at (length book - at) book)) eb ∙
             taken-writes s n f (ok .setup) j′ (added r day .state) added-keeps (midOf at (length book - at) book) close-ok ∙
-            ap₂ (λ (x : ℕ) (l : List ℕ). values sha256 (start s n) (E i ++ (day ∷ [])) (closing s n (suc (length (E i)))) ++ drop (32 * x) l) (sym count-is) part-is
+            ap
+            (λ (x : ℕ). values sha256 (start s n) (E i ++ (day ∷ [])) (closing s n (suc (length (E i)))) ++ drop (32 * x) (midOf at (length book - at) book))
+            (sym count-is)
 
         put : putMid at (length book - at) book y ≡ bookOf s n (E (suc i)) ++ drop (at + 32 * k) old
         put =
-            ap (λ (x : List ℕ). x ++ (y ++ postOf at (length book - at) book)) front-part ∙ ap (λ (x : List ℕ). bookOf s n (E i) ++ (y ++ x)) rest-is ∙
-            ap (λ (x : List ℕ). bookOf s n (E i) ++ x) (append-nil y ∙ y-is) ∙
-            sym (append-assoc (bookOf s n (E i)) (values sha256 (start s n) (E i ++ (day ∷ [])) (closing s n (suc (length (E i))))) (drop (32 * k) (drop at old))) ∙
-            ap₂ (λ (x z : List ℕ). x ++ z) (sym more) (drop-drop (32 * k) at old)
+            lent-put (bookOf s n (E i)) old book at (t .book-is) (sym (t .at-is)) (t .same-length) y (values sha256 (start s n) (E i ++ (day ∷ [])) (closing s n (suc (length (E i))))) (32 * k) y-is ∙
+            ap (λ (x : List ℕ). x ++ drop (at + 32 * k) old) (sym more)
 
         after : Through s n f ledger ends old (suc i) (at + 32 * k) (c .state) (putMid at (length book - at) book y)
         after =
