@@ -15,7 +15,7 @@ use borrow.Author.Tests.{eqb-true, leb-true, le-leb}
 use Rattle.evidence.specs.Lists.{_among_, upFrom, push, keep}
 use Rattle.evidence.specs.Tables.{days, Within}
 use Rattle.evidence.specs.Values.{dayOf, digest, linkInput, value, values}
-use Rattle.evidence.proofs.ListLaws.{split, true-or-false, and-both, upFrom-bounds, keep-mem}
+use Rattle.evidence.proofs.ListLaws.{split, true-or-false, and-both, upFrom-bounds, keep-mem, keep-append}
 use Rattle.evidence.proofs.ValueLaws.{value-append, value-same}
 use Rattle.layouts.specs.Allowed.{divides, allowedScheme, allowedN}
 use Rattle.layouts.specs.Layouts.{lg, Name, black, tile, tree, ending, offset, covers, cover, levels, blackToo, only, names, closing}
@@ -81,14 +81,6 @@ since-none w g e = let z : g % w ≡ 0 = eqb-true (g % w) 0 e in rw z
 
 since-within : (w d : ℕ) → Within d (since w d)
 since-within w d x m = let b = upFrom-bounds (suc (d / w * w)) (d % w) x m in omega (arith, div-add-mod' d w)
-
-keep-append : (q : ℕ → Bool) (xs ys : List ℕ) → keep q (xs ++ ys) ≡ keep q xs ++ keep q ys
-keep-append q [] ys = refl
-keep-append q (x ∷ xs) ys = go (q x) (keep-append q xs ys)
-  where
-    go : (b : Bool) → keep q (xs ++ ys) ≡ keep q xs ++ keep q ys → push b x (keep q (xs ++ ys)) ≡ push b x (keep q xs) ++ keep q ys
-    go true e = ap (λ (r : List ℕ). x ∷ r) e
-    go false e = e
 
 -- ---- the days of a slot's chain, up to day d
 

@@ -121,6 +121,14 @@ pub keep-congr : (p q : ℕ → Bool) (xs : List ℕ) → ((g : ℕ) → g among
 keep-congr p q [] f = refl
 keep-congr p q (x ∷ xs) f = rw (f x (List·Memᴰ·head refl), keep-congr p q xs (λ g m. f g (List·Memᴰ·tail m)))
 
+pub keep-append : (p : ℕ → Bool) (xs ys : List ℕ) → keep p (xs ++ ys) ≡ keep p xs ++ keep p ys
+keep-append p [] ys = refl
+keep-append p (x ∷ xs) ys = rw (keep-append p xs ys) (go (p x))
+  where
+    go : (b : Bool) → push b x (keep p xs ++ keep p ys) ≡ push b x (keep p xs) ++ keep p ys
+    go true = refl
+    go false = refl
+
 pub ascends-later : (xs : List ℕ) (i j : ℕ) → i ≤ j → Ascends j xs → Ascends i xs
 ascends-later [] i j l a = tt
 ascends-later (x ∷ xs) i j l a = (omega (arith, a .0), a .1)

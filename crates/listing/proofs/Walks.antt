@@ -10,13 +10,13 @@ use lib.Arith.{digits-div}
 use lib.Dec.{eqb}
 use Rattle.evidence.specs.Lists.{_among_, upFrom, keep}
 use Rattle.evidence.specs.Tables.{days}
-use Rattle.evidence.proofs.ListLaws.{split, true-or-false, upFrom-bounds, keep-congr}
+use Rattle.evidence.proofs.ListLaws.{split, true-or-false, upFrom-bounds, keep-congr, keep-append}
 use Rattle.layouts.specs.Layouts.{lg, black, tile, tree, ending}
 use Rattle.layouts.proofs.AllowedLaws.{Power}
 use Rattle.layouts.proofs.Coverage.{upFrom-snoc}
 use Rattle.rules.specs.Rules.{every, passes, levelsRule, tileBit, bitRule, bitsRule, local}
 use Rattle.listing.specs.Walks.{pick, tileDays, treeDays}
-use Rattle.rules.proofs.Runs.{every-append, some, some-of, keep-append, keep-all, keep-none, upFrom-append, ending-days}
+use Rattle.rules.proofs.Runs.{every-append, some, some-of, keep-all, keep-none, upFrom-append, ending-days}
 use Rattle.rules.proofs.Given.{block-split, half-point, half-split}
 use Rattle.rules.proofs.Local.{end-of, in-block, local-1, local-2, local-3, tree-3}
 

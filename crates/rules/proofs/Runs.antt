@@ -13,7 +13,7 @@ use lib.Pow.{field, mod-mod-pow}
 use borrow.Author.Tests.{eqb-true, eq-eqb}
 use Rattle.evidence.specs.Lists.{_among_, has, upFrom, push, keep}
 use Rattle.evidence.specs.Tables.{days, Within, meets}
-use Rattle.evidence.proofs.ListLaws.{split, true-or-false, and-both, and-of, mem-has, upFrom-mem, upFrom-bounds, has-keep}
+use Rattle.evidence.proofs.ListLaws.{split, true-or-false, and-both, and-of, mem-has, upFrom-mem, upFrom-bounds, has-keep, keep-append}
 use Rattle.layouts.specs.Allowed.{divides}
 use Rattle.layouts.specs.Layouts.{ending}
 use Rattle.layouts.specs.Reading.{lastOf}
@@ -107,14 +107,6 @@ meets-append S (x ∷ a) b = rw (meets-append S a b) (assoc (has x S))
     assoc false = refl
 
 -- ---- keep
-
-pub keep-append : (p : ℕ → Bool) (xs ys : List ℕ) → keep p (xs ++ ys) ≡ keep p xs ++ keep p ys
-keep-append p [] ys = refl
-keep-append p (x ∷ xs) ys = rw (keep-append p xs ys) (go (p x))
-  where
-    go : (b : Bool) → push b x (keep p xs ++ keep p ys) ≡ push b x (keep p xs) ++ keep p ys
-    go true = refl
-    go false = refl
 
 pub keep-all : (p : ℕ → Bool) (xs : List ℕ) → ((g : ℕ) → g among xs → p g ≡ true) → keep p xs ≡ xs
 keep-all p [] f = refl
