@@ -2,45 +2,31 @@ use Rattle.table_text.proofs.Answers.{text-fits, text-part}
 use borrow.Author.Needs.{needs}
 use Rattle.readtable.proofs.main.Statement.{statement}
 use Rattle.readtable.proofs.main.Tie as tie
-use Rattle.readtable.proofs.main.Reads as reads
-use Rattle.readtable.proofs.main.Lts as lts
-use Rattle.io.proofs.read_full.Reads as read-full-reads
-use Rattle.io.proofs.write_all.Reads as write-all-reads
-use Rattle.table_text.proofs.text.Reads as text-reads
 
--- src/main.rt:5:30
 slice-aggregate-read-full : tie.Need-slice-aggregate-read-full
 slice-aggregate-read-full c = search needs
 
--- src/main.rt:5:9
 read-full-requires : tie.Need-read-full-requires
 read-full-requires c κs = search needs
 
--- src/main.rt:7:30
 array-share-prefix-input : tie.Need-array-share-prefix-input
 array-share-prefix-input c = search needs
 
--- src/main.rt:7:30
 slice-aggregate-text : tie.Need-slice-aggregate-text
 slice-aggregate-text c = search needs
 
--- src/main.rt:7:9
 text-requires : tie.Need-text-requires
 text-requires c κs = search needs
 
--- src/main.rt:8:22
 array-share-prefix-out : tie.Need-array-share-prefix-out
 array-share-prefix-out c = text-fits _ _ (c .text .ensures .0) (c .text .ensures .1)
 
--- src/main.rt:8:22
 slice-aggregate-write-all : tie.Need-slice-aggregate-write-all
 slice-aggregate-write-all c = text-part _ _ (c .before .text .ensures .0) (c .before .text .ensures .1)
 
--- src/main.rt:8:5
 write-all-requires : tie.Need-write-all-requires
 write-all-requires c κs = search needs
 
--- src/main.rt:3:1
 returns : tie.Need-returns
 returns c = search needs
 

@@ -3,11 +3,6 @@ use lib.ListN.{length}
 use borrow.Author.Needs.{needs}
 use Rattle.table_text_cases.proofs.cases.Statement.{statement}
 use Rattle.table_text_cases.proofs.cases.Tie as tie
-use Rattle.table_text_cases.proofs.cases.Reads as reads
-use Rattle.table_text_cases.proofs.cases.Lts as lts
-use Rattle.table_text_cases.proofs.end.Reads as end-reads
-use Rattle.table_text_cases.proofs.past.Reads as past-reads
-use Rattle.table_text_cases.proofs.show.Reads as show-reads
 
 abbrev Inv-loop : tie.InvT-loop
 Inv-loop s at₀ at = at ≤ length s
@@ -15,63 +10,48 @@ Inv-loop s at₀ at = at ≤ length s
 abbrev μ-loop : tie.MeasureT-loop
 μ-loop s at₀ at = length s - at
 
--- src/main.rt:43:5
 loop-holds : tie.Need-loop-holds Inv-loop μ-loop
 loop-holds c = search needs
 
--- src/main.rt:44:13
 end-requires : tie.Need-end-requires Inv-loop μ-loop
 end-requires c κs = search needs
 
--- src/main.rt:45:13
 past-requires : tie.Need-past-requires Inv-loop μ-loop
 past-requires c κs = search needs
 
--- src/main.rt:46:13
 end-requires-2 : tie.Need-end-requires-2 Inv-loop μ-loop
 end-requires-2 c κs = search needs
 
--- src/main.rt:47:14
 sub-show : tie.Need-sub-show Inv-loop μ-loop
 sub-show c = search needs
 
--- src/main.rt:47:14
 part-show-start : tie.Need-part-show-start Inv-loop μ-loop
 part-show-start c = search needs
 
--- src/main.rt:47:14
 part-show-end : tie.Need-part-show-end Inv-loop μ-loop
 part-show-end c = search needs
 
--- src/main.rt:47:25
 sub-show-2 : tie.Need-sub-show-2 Inv-loop μ-loop
 sub-show-2 c = search needs
 
--- src/main.rt:47:25
 part-show-start-2 : tie.Need-part-show-start-2 Inv-loop μ-loop
 part-show-start-2 c = search needs
 
--- src/main.rt:47:25
 part-show-end-2 : tie.Need-part-show-end-2 Inv-loop μ-loop
 part-show-end-2 c = search needs
 
--- src/main.rt:47:9
 show-requires : tie.Need-show-requires Inv-loop μ-loop
 show-requires c κs = search needs
 
--- src/main.rt:48:9
 past-requires-2 : tie.Need-past-requires-2 Inv-loop μ-loop
 past-requires-2 c κs = search needs
 
--- src/main.rt:43:5
 loop-less : tie.Need-loop-less Inv-loop μ-loop
 loop-less c = search needs
 
--- src/main.rt:43:5
 loop-again : tie.Need-loop-again Inv-loop μ-loop
 loop-again c = search needs
 
--- src/main.rt:41:1
 returns : tie.Need-returns Inv-loop μ-loop
 returns c = search needs
 
