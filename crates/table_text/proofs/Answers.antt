@@ -1,18 +1,17 @@
 -- From the tests and from what reading says to the text.
 use mathlib.Core.Path.{_≡_, refl, sym, ap, ap₂, _∙_}
-use mathlib.Core.Logic.{_⊎_, inl, inr}
-use mathlib.Core.Bool.{Bool, true, false, not, _&&_, cond}
+use mathlib.Core.Bool.{Bool, true, false, not, _&&_}
 use mathlib.Core.List.{List, [], _∷_, _++_, map}
-use Prim.Native.Nat.{ℕ, zero, suc, _+_, _-_, _*_, _≤_, _<_}
+use Prim.Native.Nat.{ℕ, zero, suc, _+_, _-_, _≤_, _<_}
 use native.Mathlib.Omega.{arith}
 use lib.Dec.{leb}
-use lib.ListN.{length, take, drop, replicate, length-append, length-replicate, length-map, length-drop}
-use lib.Seq.{take-all, take-at, length-take-le}
+use lib.ListN.{length, take, drop, length-append, length-map, length-drop}
+use lib.Seq.{take-at, length-take-le}
 use borrow.Author.Tests.{le-leb, lt-leb, leb-true}
 use Rattle.evidence.specs.Lists.{upFrom, keep, push}
 use Rattle.evidence.specs.Tables.{days, listing, cleared}
-use Rattle.evidence.proofs.ListLaws.{split, and-both}
-use Rattle.layouts.specs.Allowed.{allowedScheme, allowedN, orElse, unless, layoutRefusal}
+use Rattle.evidence.proofs.ListLaws.{and-both}
+use Rattle.layouts.specs.Allowed.{unless, layoutRefusal}
 use Rattle.layouts.specs.Layouts.{chains}
 use Rattle.layouts.specs.Reading.{lastGood}
 use Rattle.layouts.proofs.Counts.{length-upFrom}
@@ -22,15 +21,12 @@ use Rattle.reading.specs.Answers.{saidOf, readRefusal, says, listAfter, listedI
 use Rattle.reading.specs.declared.Reading.{Reading}
 use Rattle.reading.specs.declared.Reading.the-variants.{Clean, Changed, Refused}
 use Rattle.reading.specs.declared.Numbers.{Numbers}
-use Rattle.reading.proofs.Tests.{layout-ok}
 use Rattle.reading.proofs.Said.{says-found, list-found}
 use Rattle.listing.specs.Walks.{Wrote}
-use Rattle.listing.proofs.Writes.{wrote-as, wrote-join}
-use Rattle.table_text.specs.Text.{digitOf, digits, lastLine, isFormed, schemeIn, nIn, fIn, dIn, outcomesIn, unlessFormed, formRefusal, extraRefusal, tableRefusal, textRefusal, decimal, line, noLine, refLine, dayLines, lines, report, printed, textOf}
+use Rattle.table_text.specs.Text.{digitOf, digits, lastLine, outcomesIn, unlessFormed, formRefusal, extraRefusal, tableRefusal, textRefusal, decimal, line, noLine, dayLines, lines, report, printed, textOf}
 use Rattle.table_text.specs.Fields.{TypedIs, SaidIs}
 use Rattle.table_text.specs.declared.Said.{Said}
 use Rattle.table_text.specs.declared.Typed.{Typed}
-use Rattle.table_text.proofs.Lines.{line-few}
 
 -- ---- extra digits
 

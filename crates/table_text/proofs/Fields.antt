@@ -1,21 +1,18 @@
 -- Reading fields: digits, numbers, marks.
 use mathlib.Core.Path.{_≡_, refl, sym, ap, ap₂, _∙_}
-use mathlib.Core.Logic.{_⊎_, inl, inr}
-use mathlib.Core.Bool.{Bool, true, false, not, _&&_, _||_, cond}
+use mathlib.Core.Bool.{Bool, true, false, not, _&&_, cond}
 use mathlib.Core.List.{List, [], _∷_, _++_, map, append-assoc}
 use Prim.Native.Nat.{ℕ, zero, suc, _+_, _-_, _*_, _≤_, _<_, _^_}
 use native.Mathlib.Numerals.{add-one}
 use native.Mathlib.Omega.{arith}
 use lib.Dec.{eqb, leb}
-use lib.ListN.{length, getD, set, take, drop, length-drop, length-append, length-take, length-set, length-map, drop-of-length-le}
-use lib.Seq.{take-all, take-suc, drop-cons, drop-drop, length-take-le, set-at, take-at}
+use lib.ListN.{length, getD, set, take, drop, length-drop, length-map, drop-of-length-le}
+use lib.Seq.{take-all, take-suc, drop-cons, drop-drop, length-take-le, set-at}
 use borrow.Author.Tests.{eq-eqb, ne-eqb, le-leb, lt-leb, not-true, not-false}
 use Rattle.evidence.specs.Lists.{same}
-use Rattle.evidence.proofs.ListLaws.{split}
 use Rattle.table_text.specs.Text.{isDigit, digitOf, digits, afterDigits, isNumber, numberFrom, startsWith, isField, valueIn, afterField, isFormed, lastLine, unlessFormed}
 use Rattle.table_text.specs.Fields.{FieldAt, TypedIs}
 use Rattle.table_text.specs.declared.Field.{Field}
-use Rattle.table_text.specs.declared.Typed.{Typed}
 
 -- ---- digits
 
@@ -49,7 +46,7 @@ digits-found s at i {b} l e n h = let w = run-stop s i l (sym e ∙ not-true b n
 pub digits-all : (s : List ℕ) (at i : ℕ) → length s ≤ i → at + length (digits (drop at s)) ≡ i + length (digits (drop i s)) → i ≡ at + length (digits (drop at s))
 digits-all s at i l h = let w = run-past s i l in omega arith
 
-digits-take : (s : List ℕ) → take (length (digits s)) s ≡ digits s
+pub digits-take : (s : List ℕ) → take (length (digits s)) s ≡ digits s
 digits-take [] = refl
 digits-take (b ∷ s) = go (isDigit b) (digits-take s)
   where

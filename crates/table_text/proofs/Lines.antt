@@ -1,18 +1,16 @@
 -- Writing lines.
-use mathlib.Core.Path.{_≡_, refl, sym, ap, ap₂, _∙_}
-use mathlib.Core.Logic.{_⊎_, inl, inr}
+use mathlib.Core.Path.{_≡_, refl, sym, ap, _∙_}
 use mathlib.Core.Bool.{Bool, true, false, cond}
 use mathlib.Core.List.{List, [], _∷_, _++_, append-assoc, append-nil}
 use Prim.Native.Nat.{ℕ, zero, suc, _+_, _-_, _*_, _/_, _%_, _≤_, _<_}
 use native.Mathlib.Numerals.{add-one}
 use native.Mathlib.Omega.{arith}
 use lib.Dec.{ltb}
-use lib.ListN.{length, getD, set, take, drop, length-append, length-take, length-set}
+use lib.ListN.{length, getD, set, take, length-append}
 use lib.Seq.{take-all, take-suc, length-take-le}
 use borrow.Author.Tests.{lt-ltb, le-ltb}
-use Rattle.evidence.proofs.ListLaws.{split}
 use Rattle.listing.specs.Walks.{Wrote}
-use Rattle.listing.proofs.Writes.{wrote-none, wrote-one, wrote-as, wrote-length, wrote-join}
+use Rattle.listing.proofs.Writes.{wrote-none, wrote-one, wrote-as, wrote-join}
 use Rattle.table_text.specs.Text.{decimalIn, decimal, commaNumbers, line, refLine, dayLines, lines}
 
 -- one byte more
@@ -125,9 +123,6 @@ line-few word xs =
     let b = length-append word (commaNumbers xs ++ (10 ∷ [])) in
     let c = length-append (commaNumbers xs) (10 ∷ []) in
     omega arith
-
-pub line-numbers : (at r n : ℕ) (word xs l m : List ℕ) → at + (length word + (11 * length xs + 1)) ≤ length l → n ≡ length l → Wrote at word l r m → r + 11 * length xs ≤ n
-line-numbers at r n word xs l m h e w = omega (arith, w .count)
 
 pub line-room : (at r t n : ℕ) (word xs l m k : List ℕ) → at + (length word + (11 * length xs + 1)) ≤ length l → n ≡ length l → Wrote at word l r m → Wrote r (commaNumbers xs) m t k → t < n
 line-room at r t n word xs l m k h e w v = let f = numbers-few xs in omega (arith, w .count, v .count)

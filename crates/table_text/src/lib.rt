@@ -9,7 +9,7 @@ ghost use Rattle.evidence.specs.Lists.{same};
 ghost use Rattle.listing.specs.Walks.{Wrote};
 ghost use Rattle.reading.specs.Answers.{saidOf};
 ghost use Rattle.table_text.specs.Text as spec;
-ghost use Rattle.table_text.specs.Text.{isDigit, digitOf, digits, isNumber, numberFrom, startsWith, isField, formRefusal, extraRefusal, tableRefusal, decimalIn, decimal, commaNumbers, noLine, dayLines, printed, textOf};
+ghost use Rattle.table_text.specs.Text.{isDigit, digitOf, digits, isNumber, numberFrom, startsWith, extraRefusal, tableRefusal, decimalIn, decimal, commaNumbers, noLine, dayLines, printed, textOf};
 ghost use Rattle.table_text.specs.Fields.{FieldAt, TypedIs, SaidIs};
 
 // A field: whether it is as laid out, its number, and where what follows its mark begins.
@@ -42,6 +42,7 @@ struct Said {
 
 // ---- fields
 
+// '0' to '9'.
 fn is_digit(b: u8) -> bool
     ensures { λ r. ⌜ r ≡ isDigit b ⌝ }
 {
@@ -51,6 +52,7 @@ fn is_digit(b: u8) -> bool
     b <= b'9'
 }
 
+// What a digit stands for.
 fn digit(b: u8) -> u8
     ensures { λ r. ⌜ r ≡ digitOf b ⌝ }
 {
@@ -75,6 +77,7 @@ fn digits_end(s: &[u8], at: usize) -> usize
     i
 }
 
+// 1 to 5 digits, no leading zeros.
 fn is_number(ds: &[u8]) -> bool
     ensures { λ r. ⌜ r ≡ isNumber (now (ds .entry)) ⌝ }
 {
@@ -97,6 +100,7 @@ fn wide(x: u8) -> u32
     x as u32
 }
 
+// The number that at most five digits write.
 fn number(ds: &[u8]) -> u32
     requires { ⌜ length (now ds) ≤ 5 ⌝ }
     ensures { λ r. ⌜ r ≡ numberFrom 0 (now (ds .entry)) ⌝ }
@@ -121,6 +125,7 @@ fn value(ds: &[u8]) -> u32
     number(&ds[..5])
 }
 
+// Whether the byte at a place is the mark.
 fn starts_with(s: &[u8], at: usize, mark: u8) -> bool
     ensures { λ r. ⌜ r ≡ startsWith mark (drop at (now (s .entry))) ⌝ }
 {
@@ -176,6 +181,7 @@ fn is_end(s: &[u8], at: usize) -> bool
     s[at] == b'\n'
 }
 
+// The whole text.
 fn read_lines(s: &[u8]) -> Typed
     ensures { λ r. ⌜ TypedIs (now (s .entry)) r ⌝ }
 {
@@ -243,6 +249,7 @@ fn put_digits(out: &mut [u8], at: usize, x: u32, k: u32) -> usize
     next + 1
 }
 
+// Bytes at a place; gives the place after them, as the functions below do.
 fn put(out: &mut [u8], at: usize, word: &[u8]) -> usize
     requires { ⌜ at + length (now word) ≤ length (now out) ⌝ }
     ensures { λ r. ⌜ Wrote at (now (word .entry)) (now (out .entry)) r (now (out .exit)) ⌝ }
@@ -255,6 +262,7 @@ fn put(out: &mut [u8], at: usize, word: &[u8]) -> usize
     at + i
 }
 
+// A comma and a number: at most 11 bytes.
 fn put_number(out: &mut [u8], at: usize, x: u32) -> usize
     requires { ⌜ at + 11 ≤ length (now out) ⌝ }
     ensures { λ r. ⌜ Wrote at (44 ∷ decimal x) (now (out .entry)) r (now (out .exit)) ⌝ }
@@ -263,6 +271,7 @@ fn put_number(out: &mut [u8], at: usize, x: u32) -> usize
     put_digits(out, at + 1, x, 10)
 }
 
+// A comma and a number, for each.
 fn put_numbers(out: &mut [u8], at: usize, numbers: &[u32]) -> usize
     requires { ⌜ at + 11 * length (now numbers) ≤ length (now out) ⌝ }
     ensures { λ r. ⌜ Wrote at (commaNumbers (now (numbers .entry))) (now (out .entry)) r (now (out .exit)) ⌝ }
@@ -276,6 +285,7 @@ fn put_numbers(out: &mut [u8], at: usize, numbers: &[u32]) -> usize
     next
 }
 
+// A word, numbers, and a line feed.
 fn put_line(out: &mut [u8], at: usize, word: &[u8], numbers: &[u32]) -> usize
     requires { ⌜ at + (length (now word) + (11 * length (now numbers) + 1)) ≤ length (now out) ⌝ }
     ensures { λ r. ⌜ Wrote at (spec.line (now (word .entry)) (now (numbers .entry))) (now (out .entry)) r (now (out .exit)) ⌝ }
@@ -286,6 +296,7 @@ fn put_line(out: &mut [u8], at: usize, word: &[u8], numbers: &[u32]) -> usize
     b + 1
 }
 
+// A line for each day; 15 bytes are room for any one of them.
 fn put_days(out: &mut [u8], at: usize, days: &[u32]) -> usize
     requires { ⌜ at + (length (dayLines (now days)) + 15) ≤ length (now out) ⌝ }
     ensures { λ r. ⌜ Wrote at (dayLines (now (days .entry))) (now (out .entry)) r (now (out .exit)) ⌝ }
@@ -300,6 +311,7 @@ fn put_days(out: &mut [u8], at: usize, days: &[u32]) -> usize
     next
 }
 
+// The line of a refusal.
 fn refuse(out: &mut [u8], number: u32) -> usize
     requires { ⌜ 2048 ≤ length (now out) ⌝ }
     ensures { λ r. ⌜ Wrote 0 (noLine number) (now (out .entry)) r (now (out .exit)) ⌝ }

@@ -2,7 +2,7 @@ use Rattle.table_text.proofs.Fields.{digits-next, digits-found, digits-
 use Rattle.table_text.specs.Text.{digits}
 use borrow.Author.Needs.{needs}
 use lib.ListN.{length, drop}
-use mathlib.Core.Path.{_≡_, refl}
+use mathlib.Core.Path.{_≡_}
 use Prim.Native.Nat.{_+_, _-_, _≤_}
 use Rattle.table_text.proofs.digits_end.Statement.{statement}
 use Rattle.table_text.proofs.digits_end.Tie as tie

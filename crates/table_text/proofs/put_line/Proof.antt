@@ -1,7 +1,7 @@
 use mathlib.Core.Path.{_∙_}
 use lib.ListN.{length-set}
 use native.Mathlib.Omega.{arith}
-use Rattle.table_text.proofs.Lines.{line-numbers, line-room, line-put}
+use Rattle.table_text.proofs.Lines.{line-room, line-put}
 use borrow.Author.Needs.{needs}
 use Rattle.table_text.proofs.put_line.Statement.{statement}
 use Rattle.table_text.proofs.put_line.Tie as tie
@@ -19,7 +19,7 @@ add-result : tie.Need-add-result
 add-result c = record { fits = omega (arith, line-room (c .before .before .before .before .before .before .before .before .before .before .before .args .at) (c .before .before .before .before .before .before .put .result) (c .before .before .put-numbers .result) _ (c .before .before .before .before .before .before .before .before .before .before .before .args .word .now) (c .before .before .before .before .before .before .before .before .before .before .before .args .numbers .now) (c .before .before .before .before .before .before .before .before .before .before .before .args .out .now) _ _ (c .before .before .before .before .before .before .before .before .before .before .before .pre) (c .before .before .put-numbers .kept .0 ∙ c .before .before .before .before .before .before .put .kept .0) (c .before .before .before .before .before .before .put .ensures) (c .before .before .put-numbers .ensures)) }
 
 same-length : tie.Need-same-length
-same-length c = length-set (c .before .before .put-numbers .last .0) (c .before .before .put-numbers .result) 10 ∙ c .before .before .put-numbers .kept .0 ∙ c .before .before .before .before .before .before .put .kept .0
+same-length c = length-set (c .before .before .put-numbers .last .0) (c .before .before .put-numbers .result) _ ∙ c .before .before .put-numbers .kept .0 ∙ c .before .before .before .before .before .before .put .kept .0
 
 returns : tie.Need-returns
 returns c = line-put (c .before .before .before .before .before .before .before .before .before .before .before .args .at) (c .before .before .before .before .before .before .put .result) (c .before .before .put-numbers .result) (c .before .before .before .before .before .before .before .before .before .before .before .args .word .now) (c .before .before .before .before .before .before .before .before .before .before .before .args .numbers .now) (c .before .before .before .before .before .before .before .before .before .before .before .args .out .now) _ _ (c .before .before .before .before .before .before .before .before .before .before .before .pre) (c .before .before .before .before .before .before .put .kept .0) (c .before .before .put-numbers .kept .0) (c .before .before .before .before .before .before .put .ensures) (c .before .before .put-numbers .ensures)

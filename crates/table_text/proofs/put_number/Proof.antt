@@ -16,7 +16,7 @@ put-digits-requires : tie.Need-put-digits-requires
 put-digits-requires c κs = omega (arith, length-set (c .before .before .args .out .now) (c .before .before .args .at) 44)
 
 same-length : tie.Need-same-length
-same-length c = c .before .before .put-digits .kept .0 ∙ length-set (c .before .before .before .before .before .args .out .now) (c .before .before .before .before .before .args .at) 44
+same-length c = c .before .before .put-digits .kept .0 ∙ length-set (c .before .before .before .before .before .args .out .now) (c .before .before .before .before .before .args .at) _
 
 returns : tie.Need-returns
 returns c = number-put (c .before .before .before .before .before .args .at) (c .before .before .before .before .before .args .x) (c .before .before .put-digits .result) (c .before .before .before .before .before .args .out .now) (c .before .before .put-digits .last .0) (c .before .before .before .before .before .pre) (c .before .before .put-digits .ensures)

@@ -4,7 +4,7 @@ use Rattle.listing.specs.Walks.{Wrote}
 use borrow.Author.Needs.{needs}
 use lib.ListN.{length, take}
 use mathlib.Core.Path.{_≡_, refl}
-use Prim.Native.Nat.{_+_, _-_, _≤_}
+use Prim.Native.Nat.{_-_, _≤_}
 use Rattle.table_text.proofs.put_numbers.Statement.{statement}
 use Rattle.table_text.proofs.put_numbers.Tie as tie
 

@@ -1,7 +1,4 @@
 use Rattle.table_text.proofs.Lines.{ref-room, ref-put}
-use Rattle.table_text.specs.Text.{refLine, lines}
-use mathlib.Core.Path.{_∙_}
-use native.Mathlib.Omega.{arith}
 use borrow.Author.Needs.{needs}
 use Rattle.table_text.proofs.put_report.Statement.{statement}
 use Rattle.table_text.proofs.put_report.Tie as tie
