@@ -1,0 +1,70 @@
+-- The record as 692 bytes, as the C interface keeps it: each number in 4 bytes, little-endian, no padding. Definitions only.
+use mathlib.Core.Path.{_≡_}
+use mathlib.Core.List.{List, [], _∷_, _++_}
+use Prim.Native.Nat.{ℕ, zero, suc, _+_, _*_, _/_, _%_, _^_, _<_}
+use lib.ListN.{length, getD, take, drop}
+use Rattle.chains.specs.declared.Value.{Value}
+use Rattle.service.specs.declared.Record.{Record}
+
+-- numbers as bytes, end to end
+unfoldable pub numbersBytes : List ℕ → List ℕ
+numbersBytes [] = []
+numbersBytes (x ∷ xs) = x % 256 ∷ x / 2 ^ 8 % 256 ∷ x / 2 ^ 16 % 256 ∷ x / 2 ^ 24 % 256 ∷ numbersBytes xs
+
+unfoldable pub slotsBytes : List Value → List ℕ
+slotsBytes [] = []
+slotsBytes (v ∷ vs) = numbersBytes (v .words) ++ slotsBytes vs
+
+-- 01's five numbers; the open day's hash; black; the running hashes; the open day's block
+unfoldable pub recordBytes : Record → List ℕ
+recordBytes r =
+    numbersBytes (r .scheme ∷ r .n ∷ r .f ∷ r .days ∷ r .bytes ∷ [])
+    ++ (numbersBytes (r .hash) ++ (numbersBytes (r .black .words) ++ (slotsBytes (r .running) ++ r .block)))
+
+-- the number at place i
+unfoldable pub numberAt : List ℕ → ℕ → ℕ
+numberAt b i = getD b i 0 + getD b (i + 1) 0 * 2 ^ 8 + getD b (i + 2) 0 * 2 ^ 16 + getD b (i + 3) 0 * 2 ^ 24
+
+-- k numbers from place i on
+unfoldable pub numbersAt : ℕ → List ℕ → ℕ → List ℕ
+numbersAt zero b i = []
+numbersAt (suc k) b i = numberAt b i ∷ numbersAt k b (i + 4)
+
+unfoldable pub valueAt : List ℕ → ℕ → Value
+valueAt b i = record { words = numbersAt 8 b i }
+
+-- k values from place i on
+unfoldable pub slotsAt : ℕ → List ℕ → ℕ → List Value
+slotsAt zero b i = []
+slotsAt (suc k) b i = valueAt b i ∷ slotsAt k b (i + 32)
+
+-- the record that 692 bytes say, whatever they are
+unfoldable pub recordOf : List ℕ → Record
+recordOf b =
+    record {
+      scheme = numberAt b 0;
+      n = numberAt b 4;
+      f = numberAt b 8;
+      days = numberAt b 12;
+      bytes = numberAt b 16;
+      hash = numbersAt 8 b 20;
+      block = take 64 (drop 628 b);
+      black = valueAt b 52;
+      running = slotsAt 17 b 84;
+    }
+
+-- a record of the sizes and numbers that its type has: 32-bit numbers, 8 to a hash, 17 running hashes, 64 bytes of block
+abbrev pub Words : List ℕ → Type 0
+Words l = (length l ≡ 8) × ((i : ℕ) → getD l i 0 < 2 ^ 32)
+
+abbrev pub Slots : List Value → Type 0
+Slots [] = Unit {0}
+Slots (v ∷ vs) = Words (v .words) × Slots vs
+
+pub record Fits (r : Record) : Type 0 where
+  pub counts : (r .scheme < 2 ^ 32) × (r .n < 2 ^ 32) × (r .f < 2 ^ 32) × (r .days < 2 ^ 32) × (r .bytes < 2 ^ 32)
+  pub hash-fits : Words (r .hash)
+  pub black-fits : Words (r .black .words)
+  pub running-many : length (r .running) ≡ 17
+  pub running-fit : Slots (r .running)
+  pub block-many : length (r .block) ≡ 64

@@ -1,0 +1,167 @@
+// A service's record as 692 bytes, to be kept on disk and handed to other languages.
+use chains::Value;
+use service::Record;
+ghost use mathlib.Core.Path.{_≡_};
+ghost use mathlib.Core.List.{[], _∷_, _++_};
+ghost use Prim.Native.Nat.{_+_, _≤_, _<_};
+ghost use lib.ListN.{length, take, drop};
+ghost use Rattle.record_bytes.specs.Bytes.{numbersBytes, slotsBytes, recordBytes, numberAt, valueAt, slotsAt, recordOf};
+
+// ---- from bytes
+
+fn wide(x: u8) -> u32
+    ensures { λ r. ⌜ (r ≡ x) × (r < 256) ⌝ }
+{
+    x as u32
+}
+
+fn number_at(b: &[u8], i: usize) -> u32
+    requires { ⌜ i + 4 ≤ length (now b) ⌝ }
+    ensures { λ r. ⌜ r ≡ numberAt (now (b .entry)) i ⌝ }
+{
+    let w = wide(b[i]);
+    let x = wide(b[i + 1]);
+    let y = wide(b[i + 2]);
+    let z = wide(b[i + 3]);
+    w + x * 256 + y * 65536 + z * 16777216
+}
+
+fn value_at(b: &[u8], i: usize) -> Value
+    requires { ⌜ i + 32 ≤ length (now b) ⌝ }
+    ensures { λ r. ⌜ r ≡ valueAt (now (b .entry)) i ⌝ }
+{
+    Value {
+        words: [
+            number_at(b, i),
+            number_at(b, i + 4),
+            number_at(b, i + 8),
+            number_at(b, i + 12),
+            number_at(b, i + 16),
+            number_at(b, i + 20),
+            number_at(b, i + 24),
+            number_at(b, i + 28),
+        ],
+    }
+}
+
+fn slots_at(b: &[u8]) -> [Value; 17]
+    requires { ⌜ 628 ≤ length (now b) ⌝ }
+    ensures { λ r. ⌜ r ≡ slotsAt 17 (now (b .entry)) 84 ⌝ }
+{
+    let mut r = [value_at(b, 84); 17];
+    let mut k = 0usize;
+    while k < 17 {
+        let v = value_at(b, 84 + k * 32);
+        r[k] = v;
+        k += 1;
+    }
+    r
+}
+
+fn block_at(b: &[u8]) -> [u8; 64]
+    requires { ⌜ 692 ≤ length (now b) ⌝ }
+    ensures { λ r. ⌜ r ≡ take 64 (drop 628 (now (b .entry))) ⌝ }
+{
+    let mut r = [0u8; 64];
+    let mut k = 0usize;
+    while k < 64 {
+        r[k] = b[628 + k];
+        k += 1;
+    }
+    r
+}
+
+// The record that the bytes say.
+pub fn decode(b: [u8; 692]) -> Record
+    ensures { λ r. ⌜ r ≡ recordOf b ⌝ }
+{
+    let day = value_at(&b, 20);
+    let hash = day.words;
+    Record {
+        scheme: number_at(&b, 0),
+        n: number_at(&b, 4),
+        f: number_at(&b, 8),
+        days: number_at(&b, 12),
+        bytes: number_at(&b, 16),
+        hash,
+        block: block_at(&b),
+        black: value_at(&b, 52),
+        running: slots_at(&b),
+    }
+}
+
+// ---- to bytes, from the front on
+
+fn put_number(b: &mut [u8], i: usize, x: u32)
+    requires { ⌜ i + 4 ≤ length (now b) ⌝ }
+    ensures { λ r. ⌜ take (i + 4) (now (b .exit)) ≡ take i (now (b .entry)) ++ numbersBytes (x ∷ []) ⌝ }
+{
+    b[i] = (x % 256) as u8;
+    b[i + 1] = (x / 256 % 256) as u8;
+    b[i + 2] = (x / 65536 % 256) as u8;
+    b[i + 3] = (x / 16777216 % 256) as u8;
+}
+
+fn put_words(b: &mut [u8], i: usize, words: [u32; 8])
+    requires { ⌜ i + 32 ≤ length (now b) ⌝ }
+    ensures { λ r. ⌜ take (i + 32) (now (b .exit)) ≡ take i (now (b .entry)) ++ numbersBytes words ⌝ }
+{
+    let mut k = 0usize;
+    while k < 8 {
+        put_number(b, i + k * 4, words[k]);
+        k += 1;
+    }
+}
+
+fn put_slots(b: &mut [u8], slots: [Value; 17])
+    requires { ⌜ 628 ≤ length (now b) ⌝ }
+    ensures { λ r. ⌜ take 628 (now (b .exit)) ≡ take 84 (now (b .entry)) ++ slotsBytes slots ⌝ }
+{
+    let mut k = 0usize;
+    while k < 17 {
+        let v = slots[k];
+        let w = v.words;
+        put_words(b, 84 + k * 32, w);
+        k += 1;
+    }
+}
+
+fn put_block(b: &mut [u8], block: [u8; 64])
+    requires { ⌜ length (now b) ≡ 692 ⌝ }
+    ensures { λ r. ⌜ now (b .exit) ≡ take 628 (now (b .entry)) ++ block ⌝ }
+{
+    let mut k = 0usize;
+    while k < 64 {
+        b[628 + k] = block[k];
+        k += 1;
+    }
+}
+
+fn put_counts(b: &mut [u8], state: Record)
+    requires { ⌜ 20 ≤ length (now b) ⌝ }
+    ensures { λ r. ⌜ take 20 (now (b .exit)) ≡ numbersBytes (state .scheme ∷ state .n ∷ state .f ∷ state .days ∷ state .bytes ∷ []) ⌝ }
+{
+    put_number(b, 0, state.scheme);
+    put_number(b, 4, state.n);
+    put_number(b, 8, state.f);
+    put_number(b, 12, state.days);
+    put_number(b, 16, state.bytes);
+}
+
+// The record's bytes.
+pub fn encode(state: Record) -> [u8; 692]
+    ensures { λ r. ⌜ r ≡ recordBytes state ⌝ }
+{
+    let mut b = [0u8; 692];
+    put_counts(&mut b, state);
+    let hash = state.hash;
+    put_words(&mut b, 20, hash);
+    let black = state.black;
+    let words = black.words;
+    put_words(&mut b, 52, words);
+    let slots = state.running;
+    put_slots(&mut b, slots);
+    let block = state.block;
+    put_block(&mut b, block);
+    b
+}

@@ -1,0 +1,111 @@
+/* Day books: seal, check, read. Calls of the proved library libdaybook_c.a (x86-64).
+ *
+ * Each call returns 0, or the number of the refusal. A refused call leaves every array as it was,
+ * byte for byte, except that a refused daybook_open writes a record of zeros.
+ *
+ * What the caller must keep, since C cannot be made to keep it:
+ *  - each pointer is valid for its length (given in elements, not bytes), for reading, and for
+ *    writing where it is not const; uint32_t arrays are aligned as C aligns them;
+ *  - no array that a call writes overlaps another array of that call;
+ *  - nothing else writes to these arrays until the call returns.
+ * A pointer of length 0 may be null. A record may be anything: every array of DAYBOOK_RECORD bytes
+ * is one, and one that the service cannot go on from is refused with 6.
+ */
+#ifndef DAYBOOK_H
+#define DAYBOOK_H
+
+#include <stddef.h>
+#include <stdint.h>
+
+#ifdef __cplusplus
+extern "C" {
+#endif
+
+/* The bytes of a record. To be kept on disk as it is: no padding, the same on every machine.
+ * Numbers are 32 bits, little-endian:
+ *   offset   0  scheme
+ *            4  N, days in a notarisation interval
+ *            8  F, intervals per validation
+ *           12  days closed
+ *           16  bytes in the open day
+ *           20  8 words: hash of the open day
+ *           52  8 words: the black chain
+ *           84  17 times 8 words: tile chains c(0) .. c(8), or tree levels 0 .. 16
+ *          628  64 bytes: block of the open day
+ */
+#define DAYBOOK_RECORD 692
+
+#define DAYBOOK_VALUE 32            /* bytes of a value, and of a day's digest */
+#define DAYBOOK_PART 544            /* bytes that are enough for any daybook_close: 17 values */
+#define DAYBOOK_DAY_LIMIT 16777216  /* bytes that a day may hold */
+#define DAYBOOK_DAYS_LIMIT 65536    /* days in a book */
+
+enum daybook_scheme {
+  DAYBOOK_BLACK = 1,
+  DAYBOOK_TILE = 2,
+  DAYBOOK_TREE = 3
+};
+
+enum daybook_refusal {
+  DAYBOOK_DONE = 0,
+  DAYBOOK_BAD_SCHEME = 1,        /* scheme is not 1 to 3 */
+  DAYBOOK_BAD_N = 2,             /* N is not a power of two from 1 to 256 */
+  DAYBOOK_BAD_F = 3,             /* F is not 1 to 64, or not 1 under scheme 3 */
+  DAYBOOK_DAY_TOO_LONG = 4,      /* the piece would take the day over its limit */
+  DAYBOOK_BOOK_FULL = 5,         /* 65,536 days are closed */
+  DAYBOOK_BAD_RECORD = 6,        /* scheme, N or F not allowed, or days or bytes over their limit */
+  DAYBOOK_BAD_D = 7,             /* D is not 1 to 65,536 and a multiple of F * N */
+  DAYBOOK_SHORT_BUFFER = 8,      /* an array to be written is shorter than its need */
+  DAYBOOK_FEW_ENDS = 9,          /* fewer than D ends */
+  DAYBOOK_BAD_END = 10,          /* an end below the one before, beyond the ledger, or a day over its limit */
+  DAYBOOK_SHORT_BOOK = 11,       /* fewer than 32 bytes a value */
+  DAYBOOK_FEW_OUTCOMES = 12,     /* fewer outcomes than values */
+  DAYBOOK_BAD_OUTCOME = 13,      /* an outcome is neither 0 nor 1 */
+  DAYBOOK_IMPOSSIBLE_TABLE = 14  /* no set of changed days gives the outcomes */
+};
+
+/* Open a service: writes its record. Refusals 1 2 3, in that order. */
+uint32_t daybook_open(uint32_t scheme, uint32_t n, uint32_t f, uint8_t record[DAYBOOK_RECORD]);
+
+/* Add a piece to the open day. Refusals 6 5 4. */
+uint32_t daybook_add(uint8_t record[DAYBOOK_RECORD], const uint8_t *piece, size_t piece_len);
+
+/* Close the open day: writes its values to the front of part, 32 bytes each, and their number to
+ * values[0]; the rest of part stays. Refusals 6 5 8. */
+uint32_t daybook_close(uint8_t record[DAYBOOK_RECORD], uint8_t *part, size_t part_len,
+                       uint32_t values[1]);
+
+/* Seal a ledger of D days: writes its book to the front of book; the rest stays. ends[d - 1] is where
+ * day d ends in the ledger; day 1 starts at 0, every other day where the one before ends.
+ * Refusals 1 2 3 7 9 10 8. */
+uint32_t daybook_seal(uint32_t scheme, uint32_t n, uint32_t f, uint32_t d,
+                      const uint8_t *ledger, size_t ledger_len,
+                      const uint32_t *ends, size_t ends_len,
+                      uint8_t *book, size_t book_len);
+
+/* Check a ledger against a book: writes the D day digests to the front of work, 32 bytes each, and an
+ * outcome for each value, in book order, to the front of outcomes: 1 pass, 0 fail; the rest stays.
+ * Refusals 1 2 3 7 9 10 11 8. */
+uint32_t daybook_check(uint32_t scheme, uint32_t n, uint32_t f, uint32_t d,
+                       const uint8_t *ledger, size_t ledger_len,
+                       const uint32_t *ends, size_t ends_len,
+                       const uint8_t *book, size_t book_len,
+                       uint8_t *work, size_t work_len,
+                       uint8_t *outcomes, size_t outcomes_len);
+
+/* Read a table of outcomes: writes the days that may have been altered, ascending, to the front of list
+ * (which must have D places, whatever it lists); the rest stays. numbers: listed, first listed, low,
+ * high, last good. Listed 0 says clean. Refusals 1 2 3 7 8 12 13 14. */
+uint32_t daybook_read(uint32_t scheme, uint32_t n, uint32_t f, uint32_t d,
+                      const uint8_t *outcomes, size_t outcomes_len,
+                      uint32_t *list, size_t list_len,
+                      uint32_t numbers[5]);
+
+/* The number of values in the book of D days, to values[0]. Refusals 1 2 3 7. */
+uint32_t daybook_values(uint32_t scheme, uint32_t n, uint32_t f, uint32_t d, uint32_t values[1]);
+
+#ifdef __cplusplus
+}
+#endif
+
+#endif
