@@ -81,19 +81,24 @@ impl Work {
         let days = Days::find(source)?;
         let given = d.is_some();
         let d = d.unwrap_or_else(|| days.count());
-        let values =
-            values(layout, d).map_err(|refusal| Stop::Refused(refusal, numbers(layout, d)))?;
-        Ok(Work {
+        let mut work = Work {
             layout,
             d,
             given,
-            values,
+            values: 0,
             days,
-        })
+        };
+        work.values = values(layout, d).map_err(|refusal| work.refused(refusal))?;
+        Ok(work)
     }
 
     fn refused(&self, refusal: Refusal) -> Stop {
-        Stop::Refused(refusal, numbers(self.layout, self.d))
+        Stop::Refused(refusal, self.numbers())
+    }
+
+    fn numbers(&self) -> String {
+        let (layout, d, found) = (self.layout, self.d, self.days.count());
+        format!("{layout}, D {d}, days found {found}")
     }
 
     /// The bytes of the D days.
@@ -159,7 +164,7 @@ fn halted(work: &Work, halt: Halt, day: usize, path: &Path) -> Stop {
     match halt {
         Halt::Stopped(stop) => stop,
         Halt::Refused(refusal) => {
-            let numbers = numbers(work.layout, work.d);
+            let numbers = work.numbers();
             Stop::Refused(refusal, format!("{numbers}, day {day}, {}", path.display()))
         }
     }

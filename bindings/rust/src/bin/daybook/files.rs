@@ -11,13 +11,16 @@ use crate::stop::Stop;
 
 /// The first `need` bytes of a file, or all where it has fewer, and whether it has more.
 pub fn read_front(path: &Path, need: u64) -> Result<(Vec<u8>, bool), Stop> {
-    let mut file = open(path)?;
+    let file = open(path)?;
     let length = file.metadata().map_err(|error| unread(path, error))?.len();
-    let mut bytes = reserved(length.min(need))?;
-    let front = (&mut file).take(need).read_to_end(&mut bytes);
-    front.map_err(|error| unread(path, error))?;
-    let after = file.read(&mut [0]).map_err(|error| unread(path, error))?;
-    Ok((bytes, after > 0))
+    let mut bytes = reserved(length.min(need + 1))?;
+    let read = file.take(need + 1).read_to_end(&mut bytes);
+    read.map_err(|error| unread(path, error))?;
+    let more = bytes.len() as u64 > need;
+    if more {
+        bytes.pop();
+    }
+    Ok((bytes, more))
 }
 
 pub fn open(path: &Path) -> Result<File, Stop> {
