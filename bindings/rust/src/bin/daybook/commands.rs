@@ -129,7 +129,7 @@ fn seal(work: &Work, book: &Path) -> Result<Done, Stop> {
         Days::Ledger { .. } => seal_ledger(work)?,
     };
     Staged::new(book, &bytes)?.commit()?;
-    say(&format!("{} days sealed, {} values", work.d, work.values));
+    say(&format!("sealed: days {}, values {}", work.d, work.values));
     Ok(Done {
         lines: String::new(),
         changed: false,
@@ -186,7 +186,7 @@ fn check(work: &Work, book: &Path, outcomes: &Path, digests: Option<&Path>) -> R
     staged.commit()?;
     let fail = checked.outcomes.iter().filter(|o| **o == 0).count();
     say(&format!(
-        "{} days checked, {} values, {fail} fail",
+        "checked: days {}, values {}, failing {fail}",
         work.d, work.values
     ));
     Ok(Done {
