@@ -1,0 +1,396 @@
+//! The command line: `daybook COMMAND --option value ...`.
+
+use std::ffi::OsString;
+use std::path::PathBuf;
+
+use daybook::Layout;
+
+use crate::help;
+use crate::stop::Stop;
+
+#[derive(Debug, PartialEq, Eq)]
+pub enum Request {
+    Help(&'static str),
+    Run(Command),
+}
+
+#[derive(Debug, PartialEq, Eq)]
+pub enum Command {
+    Seal {
+        layout: Layout,
+        d: Option<u32>,
+        source: Source,
+        book: PathBuf,
+    },
+    Check {
+        layout: Layout,
+        d: Option<u32>,
+        source: Source,
+        book: PathBuf,
+        outcomes: PathBuf,
+        digests: Option<PathBuf>,
+    },
+    Read {
+        layout: Layout,
+        d: u32,
+        outcomes: PathBuf,
+    },
+    Verify {
+        layout: Layout,
+        d: Option<u32>,
+        source: Source,
+        book: PathBuf,
+    },
+}
+
+/// Where the days are.
+#[derive(Debug, PartialEq, Eq)]
+pub enum Source {
+    Folder(PathBuf),
+    Ledger { ledger: PathBuf, ends: PathBuf },
+}
+
+/// A command's name, its help, its options, and how it is made of them.
+type Form = (
+    &'static str,
+    &'static str,
+    &'static [&'static str],
+    fn(&mut Options) -> Result<Command, Stop>,
+);
+
+const FORMS: [Form; 4] = [
+    (
+        "seal",
+        help::SEAL,
+        &[
+            "--scheme", "--n", "--f", "--d", "--days", "--ledger", "--ends", "--book",
+        ],
+        seal,
+    ),
+    (
+        "check",
+        help::CHECK,
+        &[
+            "--scheme",
+            "--n",
+            "--f",
+            "--d",
+            "--days",
+            "--ledger",
+            "--ends",
+            "--book",
+            "--outcomes",
+            "--digests",
+        ],
+        check,
+    ),
+    (
+        "read",
+        help::READ,
+        &["--scheme", "--n", "--f", "--d", "--outcomes"],
+        read,
+    ),
+    (
+        "verify",
+        help::VERIFY,
+        &[
+            "--scheme", "--n", "--f", "--d", "--days", "--ledger", "--ends", "--book",
+        ],
+        verify,
+    ),
+];
+
+/// What the words after the program's name ask for.
+pub fn parse(mut words: impl Iterator<Item = OsString>) -> Result<Request, Stop> {
+    let Some(word) = words.next() else {
+        return Err(usage("no command is given"));
+    };
+    if word == "--help" || word == "-h" {
+        return Ok(Request::Help(help::ALL));
+    }
+    let form = FORMS.iter().find(|form| word == form.0);
+    let Some((name, text, allowed, make)) = form else {
+        return Err(usage(&format!("there is no command {}", word.display())));
+    };
+    match Options::collect(name, allowed, words)? {
+        None => Ok(Request::Help(text)),
+        Some(mut options) => Ok(Request::Run(make(&mut options)?)),
+    }
+}
+
+fn seal(options: &mut Options) -> Result<Command, Stop> {
+    Ok(Command::Seal {
+        layout: options.layout()?,
+        d: options.number("--d")?,
+        source: options.source()?,
+        book: options.needed_path("--book")?,
+    })
+}
+
+fn check(options: &mut Options) -> Result<Command, Stop> {
+    Ok(Command::Check {
+        layout: options.layout()?,
+        d: options.number("--d")?,
+        source: options.source()?,
+        book: options.needed_path("--book")?,
+        outcomes: options.needed_path("--outcomes")?,
+        digests: options.path("--digests"),
+    })
+}
+
+fn read(options: &mut Options) -> Result<Command, Stop> {
+    Ok(Command::Read {
+        layout: options.layout()?,
+        d: options.needed_number("--d")?,
+        outcomes: options.needed_path("--outcomes")?,
+    })
+}
+
+fn verify(options: &mut Options) -> Result<Command, Stop> {
+    Ok(Command::Verify {
+        layout: options.layout()?,
+        d: options.number("--d")?,
+        source: options.source()?,
+        book: options.needed_path("--book")?,
+    })
+}
+
+/// The options of a command, each given at most once.
+struct Options {
+    command: &'static str,
+    given: Vec<(&'static str, OsString)>,
+}
+
+impl Options {
+    /// Reads the words as options with values; none where one of them asks for help.
+    fn collect(
+        command: &'static str,
+        allowed: &[&'static str],
+        mut words: impl Iterator<Item = OsString>,
+    ) -> Result<Option<Options>, Stop> {
+        let mut options = Options {
+            command,
+            given: Vec::new(),
+        };
+        while let Some(word) = words.next() {
+            if word == "--help" || word == "-h" {
+                return Ok(None);
+            }
+            let Some(name) = allowed.iter().find(|name| word == **name) else {
+                let word = word.display();
+                return Err(usage(&format!("{command} has no option {word}")));
+            };
+            if options.given.iter().any(|(given, _)| given == name) {
+                return Err(usage(&format!("{name} is given twice")));
+            }
+            match words.next() {
+                Some(value) if is_value(&value) => options.given.push((name, value)),
+                _ => return Err(usage(&format!("{name} has no value"))),
+            }
+        }
+        Ok(Some(options))
+    }
+
+    fn take(&mut self, name: &str) -> Option<OsString> {
+        let place = self.given.iter().position(|(given, _)| *given == name)?;
+        Some(self.given.swap_remove(place).1)
+    }
+
+    fn path(&mut self, name: &str) -> Option<PathBuf> {
+        self.take(name).map(PathBuf::from)
+    }
+
+    fn needed_path(&mut self, name: &str) -> Result<PathBuf, Stop> {
+        self.path(name).ok_or_else(|| self.missing(name))
+    }
+
+    fn number(&mut self, name: &str) -> Result<Option<u32>, Stop> {
+        let Some(value) = self.take(name) else {
+            return Ok(None);
+        };
+        match value.to_str().and_then(number) {
+            Some(number) => Ok(Some(number)),
+            None => Err(usage(&format!(
+                "{name} {} is not a number from 0 to 4294967295 in plain digits",
+                value.display()
+            ))),
+        }
+    }
+
+    fn needed_number(&mut self, name: &str) -> Result<u32, Stop> {
+        self.number(name)?.ok_or_else(|| self.missing(name))
+    }
+
+    fn layout(&mut self) -> Result<Layout, Stop> {
+        Ok(Layout {
+            scheme: self.needed_number("--scheme")?,
+            n: self.needed_number("--n")?,
+            f: self.needed_number("--f")?,
+        })
+    }
+
+    fn source(&mut self) -> Result<Source, Stop> {
+        let paths = (
+            self.path("--days"),
+            self.path("--ledger"),
+            self.path("--ends"),
+        );
+        match paths {
+            (Some(folder), None, None) => Ok(Source::Folder(folder)),
+            (None, Some(ledger), Some(ends)) => Ok(Source::Ledger { ledger, ends }),
+            _ => Err(usage(&format!(
+                "{} needs either --days, or --ledger and --ends",
+                self.command
+            ))),
+        }
+    }
+
+    fn missing(&self, name: &str) -> Stop {
+        usage(&format!("{} needs {name}", self.command))
+    }
+}
+
+/// A word that starts with two hyphens is an option; a file of such a name is given as ./--name.
+fn is_value(word: &OsString) -> bool {
+    !word.is_empty() && !word.as_encoded_bytes().starts_with(b"--")
+}
+
+/// A 32-bit number in digits, with no sign and no leading zero.
+fn number(text: &str) -> Option<u32> {
+    let digits = text.bytes().all(|byte| byte.is_ascii_digit());
+    let leading = text.len() > 1 && text.starts_with('0');
+    if digits && !leading {
+        text.parse().ok()
+    } else {
+        None
+    }
+}
+
+fn usage(message: &str) -> Stop {
+    Stop::Usage(message.to_string())
+}
+
+#[cfg(test)]
+mod tests {
+    use super::*;
+
+    fn parsed(line: &str) -> Result<Request, Stop> {
+        parse(line.split_whitespace().map(OsString::from))
+    }
+
+    fn message(line: &str) -> String {
+        match parsed(line) {
+            Err(Stop::Usage(message)) => message,
+            other => panic!("{line}: {other:?}"),
+        }
+    }
+
+    #[test]
+    fn commands() {
+        let layout = Layout::tile(16, 2);
+        assert_eq!(
+            parsed("seal --scheme 2 --n 16 --f 2 --days in --book out"),
+            Ok(Request::Run(Command::Seal {
+                layout,
+                d: None,
+                source: Source::Folder("in".into()),
+                book: "out".into(),
+            }))
+        );
+        assert_eq!(
+            parsed(
+                "check --outcomes o --book b --ends e --ledger l --d 64 --f 2 --n 16 --scheme 2"
+            ),
+            Ok(Request::Run(Command::Check {
+                layout,
+                d: Some(64),
+                source: Source::Ledger {
+                    ledger: "l".into(),
+                    ends: "e".into()
+                },
+                book: "b".into(),
+                outcomes: "o".into(),
+                digests: None,
+            }))
+        );
+        assert_eq!(
+            parsed("read --scheme 2 --n 16 --f 2 --d 4294967295 --outcomes o"),
+            Ok(Request::Run(Command::Read {
+                layout,
+                d: u32::MAX,
+                outcomes: "o".into(),
+            }))
+        );
+    }
+
+    #[test]
+    fn helps() {
+        assert_eq!(parsed("--help"), Ok(Request::Help(help::ALL)));
+        assert_eq!(parsed("-h"), Ok(Request::Help(help::ALL)));
+        assert_eq!(parsed("seal --help"), Ok(Request::Help(help::SEAL)));
+        assert_eq!(parsed("check -h"), Ok(Request::Help(help::CHECK)));
+        assert_eq!(parsed("read --d 1 --help"), Ok(Request::Help(help::READ)));
+        assert_eq!(parsed("verify --help"), Ok(Request::Help(help::VERIFY)));
+    }
+
+    #[test]
+    fn wrong_words() {
+        assert_eq!(message(""), "no command is given");
+        assert_eq!(message("seel"), "there is no command seel");
+        assert_eq!(message("seal folder"), "seal has no option folder");
+        assert_eq!(
+            message("seal --outcomes o"),
+            "seal has no option --outcomes"
+        );
+        assert_eq!(message("seal --n=4"), "seal has no option --n=4");
+        assert_eq!(message("seal --n 4 --n 4"), "--n is given twice");
+        assert_eq!(message("seal --n"), "--n has no value");
+        assert_eq!(message("seal --n --f 1"), "--n has no value");
+        assert_eq!(message("read --scheme 1 --n 1"), "read needs --f");
+        assert_eq!(
+            message("read --scheme 1 --n 1 --f 1 --outcomes o"),
+            "read needs --d"
+        );
+        assert_eq!(
+            message("verify --scheme 1 --n 1 --f 1 --days in"),
+            "verify needs --book"
+        );
+    }
+
+    #[test]
+    fn sources() {
+        let either = "seal needs either --days, or --ledger and --ends";
+        for words in [
+            "",
+            "--ledger l",
+            "--ends e",
+            "--days in --ends e",
+            "--days in --ledger l --ends e",
+        ] {
+            let line = format!("seal --scheme 1 --n 1 --f 1 --book b {words}");
+            assert_eq!(message(&line), either);
+        }
+    }
+
+    #[test]
+    fn numbers() {
+        assert_eq!(number("0"), Some(0));
+        assert_eq!(number("65536"), Some(65_536));
+        assert_eq!(number("4294967295"), Some(u32::MAX));
+        for text in [
+            "",
+            "4294967296",
+            "-1",
+            "+1",
+            "01",
+            "00",
+            "1.0",
+            "1e3",
+            "0x10",
+            "1,000",
+            "x",
+        ] {
+            assert_eq!(number(text), None, "{text}");
+        }
+    }
+}

@@ -1,0 +1,176 @@
+//! Files read to a length, and files replaced whole.
+
+use std::ffi::OsString;
+use std::fmt::Display;
+use std::fs::{self, File, OpenOptions};
+use std::io::{self, Read, Write};
+use std::path::{Path, PathBuf};
+use std::process;
+
+use crate::stop::Stop;
+
+/// The first `need` bytes of a file, or all where it has fewer, and whether it has more.
+pub fn read_front(path: &Path, need: u64) -> Result<(Vec<u8>, bool), Stop> {
+    let file = open(path)?;
+    let length = file.metadata().map_err(|error| unread(path, error))?.len();
+    let mut bytes = reserved(length.min(need + 1))?;
+    let read = file.take(need + 1).read_to_end(&mut bytes);
+    read.map_err(|error| unread(path, error))?;
+    let more = bytes.len() as u64 > need;
+    if more {
+        bytes.pop();
+    }
+    Ok((bytes, more))
+}
+
+pub fn open(path: &Path) -> Result<File, Stop> {
+    File::open(path).map_err(|error| unread(path, error))
+}
+
+/// An empty vector with room for so many bytes.
+pub fn reserved(length: u64) -> Result<Vec<u8>, Stop> {
+    let mut bytes = Vec::new();
+    let room = usize::try_from(length).map(|length| bytes.try_reserve_exact(length));
+    match room {
+        Ok(Ok(())) => Ok(bytes),
+        _ => Err(Stop::Fault(format!("no memory for {length} bytes"))),
+    }
+}
+
+pub fn unread(path: &Path, error: impl Display) -> Stop {
+    Stop::Fault(format!("{} cannot be read: {error}", path.display()))
+}
+
+fn unwritten(path: &Path, error: impl Display) -> Stop {
+    Stop::Fault(format!("{} cannot be written: {error}", path.display()))
+}
+
+/// Where a file to be written stands: an existing regular file, or a new name in an existing folder.
+pub fn place(path: &Path) -> Result<PathBuf, Stop> {
+    match fs::canonicalize(path) {
+        Ok(place) if place.is_file() => Ok(place),
+        Ok(_) => Err(unwritten(path, "it is not a regular file")),
+        Err(_) => new_place(path),
+    }
+}
+
+fn new_place(path: &Path) -> Result<PathBuf, Stop> {
+    if path.is_symlink() {
+        return Err(unwritten(path, "it is a link to nothing"));
+    }
+    let (Some(folder), Some(name)) = (path.parent(), path.file_name()) else {
+        return Err(unwritten(path, "it is not the name of a file"));
+    };
+    let folder = if folder.as_os_str().is_empty() {
+        Path::new(".")
+    } else {
+        folder
+    };
+    let folder = fs::canonicalize(folder).map_err(|error| unwritten(path, error))?;
+    Ok(folder.join(name))
+}
+
+/// A file's new bytes, flushed to disk under a temporary name in its folder. It is removed unless
+/// it takes the file's place.
+pub struct Staged {
+    place: PathBuf,
+    temporary: PathBuf,
+    moved: bool,
+}
+
+impl Staged {
+    pub fn new(path: &Path, bytes: &[u8]) -> Result<Staged, Stop> {
+        let place = place(path)?;
+        let (file, temporary) = create_beside(&place).map_err(|error| unwritten(path, error))?;
+        let staged = Staged {
+            place,
+            temporary,
+            moved: false,
+        };
+        staged
+            .fill(file, bytes)
+            .map_err(|error| unwritten(path, error))?;
+        Ok(staged)
+    }
+
+    fn fill(&self, mut file: File, bytes: &[u8]) -> io::Result<()> {
+        if let Ok(old) = fs::metadata(&self.place) {
+            file.set_permissions(old.permissions())?;
+        }
+        file.write_all(bytes)?;
+        file.sync_all()
+    }
+
+    /// Takes the file's place, in one step.
+    pub fn commit(mut self) -> Result<(), Stop> {
+        fs::rename(&self.temporary, &self.place).map_err(|error| unwritten(&self.place, error))?;
+        self.moved = true;
+        self.flush_folder().map_err(|error| {
+            let place = self.place.display();
+            Stop::Fault(format!(
+                "{place} is written, but its folder cannot be flushed: {error}"
+            ))
+        })
+    }
+
+    fn flush_folder(&self) -> io::Result<()> {
+        match self.place.parent() {
+            Some(folder) => File::open(folder)?.sync_all(),
+            None => Ok(()),
+        }
+    }
+}
+
+impl Drop for Staged {
+    fn drop(&mut self) {
+        if !self.moved {
+            let _ = fs::remove_file(&self.temporary);
+        }
+    }
+}
+
+/// A new file of an unused name in the same folder.
+fn create_beside(place: &Path) -> io::Result<(File, PathBuf)> {
+    let mut tries = 0;
+    loop {
+        let mut name = OsString::from(".");
+        name.push(place.file_name().unwrap_or_default());
+        name.push(format!(".{}-{tries}.tmp", process::id()));
+        let temporary = place.with_file_name(name);
+        let made = OpenOptions::new()
+            .write(true)
+            .create_new(true)
+            .open(&temporary);
+        match made {
+            Err(error) if error.kind() == io::ErrorKind::AlreadyExists && tries < 100 => tries += 1,
+            made => return made.map(|file| (file, temporary)),
+        }
+    }
+}
+
+/// No file to be written may be another file of the command, or stand in the folder of days.
+pub fn test_written(
+    written: &[&Path],
+    others: &[&Path],
+    folder: Option<&Path>,
+) -> Result<(), Stop> {
+    let folder = folder.map(|folder| (folder, fs::canonicalize(folder).ok()));
+    for (index, path) in written.iter().enumerate() {
+        let here = place(path)?;
+        if let Some((folder, Some(full))) = &folder {
+            if here.parent() == Some(full) {
+                let (path, folder) = (path.display(), folder.display());
+                return Err(Stop::Fault(format!(
+                    "{path} would be a day: it stands in the folder of days {folder}"
+                )));
+            }
+        }
+        for other in written[..index].iter().chain(others) {
+            if place(other).is_ok_and(|there| there == here) {
+                let (path, other) = (path.display(), other.display());
+                return Err(Stop::Fault(format!("{path} and {other} are the same file")));
+            }
+        }
+    }
+    Ok(())
+}

@@ -1,0 +1,88 @@
+//! The texts of `--help`.
+
+pub const ALL: &str = "\
+daybook: seal, check and read day books kept in files
+
+  daybook seal    seal the days of a ledger: write the book
+  daybook check   hash the ledger again, compare it with the book, write the outcomes
+  daybook read    list the days that a file of outcomes tells of
+  daybook verify  check and read in one
+
+daybook COMMAND --help says more of each.
+
+A command that reads prints the lines
+  REF,scheme,listed,first,low,high,lastgood
+  DAY,g                 for each day that may have been altered
+on standard output (clean: REF,scheme,0,0,0,0,D). A refusal prints NO,number there.
+Messages go to standard error.
+
+Exit status:
+  0  clean, or done and every value passes
+  1  days may have been altered, or some value fails
+  2  refused: the line NO,number says the cause
+  3  a file cannot be read or written or does not have its form, or the command line is wrong
+";
+
+pub const SEAL: &str = "\
+daybook seal --scheme S --n N --f F [--d D] SOURCE --book FILE
+
+Seals the days and writes their values to the book, 32 bytes each. The book is replaced whole, or
+stays as it was.
+
+  --scheme S --n N --f F   the layout: 1 black, 2 tile, 3 tree; days in an interval; intervals per
+                           validation
+  --d D                    seal the first D days (else: all days of the source)
+  --book FILE              the book to write
+
+SOURCE is one of
+  --days DIR                     a folder: each file is a day, in byte order of their names; every
+                                 entry counts, and one that is no file is a fault
+  --ledger FILE --ends FILE      the bytes of all days, and where each day ends: 4 bytes a day,
+                                 little-endian
+
+A folder is read in pieces, and its days together may be of any length. There a day over 16,777,216
+bytes is refusal 4, in a ledger refusal 10. Fewer days than D is refusal 9.
+";
+
+pub const CHECK: &str = "\
+daybook check --scheme S --n N --f F [--d D] SOURCE --book FILE --outcomes FILE [--digests FILE]
+
+Hashes the days again, compares them with the book and writes the outcomes. Exit status 0: every value
+passes; 1: some value fails.
+
+  --scheme S --n N --f F   the layout that the book was sealed under
+  --d D                    check the first D days (else: all days of the source, and the book must
+                           then have no more values than these have)
+  --book FILE              the book
+  --outcomes FILE          the outcomes to write: a byte for each value, in book order, 1 pass, 0 fail
+  --digests FILE           the digests of the days to write, 32 bytes each
+
+SOURCE is as for seal: --days DIR, or --ledger FILE --ends FILE. The days are held in memory. A folder
+of more than 4,294,967,295 bytes has no 32-bit ends and is a fault.
+";
+
+pub const READ: &str = "\
+daybook read --scheme S --n N --f F --d D --outcomes FILE
+
+Reads the outcomes of D days and prints which days may have been altered.
+
+  --scheme S --n N --f F   the layout of the book that was checked
+  --d D                    the number of days
+  --outcomes FILE          a byte for each value, in book order, 1 pass, 0 fail; bytes past the
+                           last value are not read
+";
+
+pub const VERIFY: &str = "\
+daybook verify --scheme S --n N --f F [--d D] SOURCE --book FILE
+
+Checks the days against the book and prints which days may have been altered. It writes no file.
+
+  --scheme S --n N --f F   the layout that the book was sealed under
+  --d D                    verify the first D days (else: all days of the source, and the book must
+                           then have no more values than these have)
+  --book FILE              the book
+
+SOURCE is as for seal: --days DIR, or --ledger FILE --ends FILE. The days are held in memory. A folder
+of more than 4,294,967,295 bytes has no 32-bit ends and is a fault. Refusal 14 says that no change of
+days alone gives what was found: the book is altered, or is of other days or of another layout.
+";

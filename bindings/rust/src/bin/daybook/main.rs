@@ -1,0 +1,75 @@
+//! The program `daybook`: seal, check and read day books kept in files.
+
+#![forbid(unsafe_code)]
+
+mod arguments;
+mod commands;
+mod days;
+mod files;
+mod help;
+mod progress;
+mod stop;
+
+use std::env;
+use std::io::{self, Write};
+use std::process::ExitCode;
+
+use arguments::Request;
+use commands::Done;
+use stop::Stop;
+
+const CLEAN: u8 = 0;
+const CHANGED: u8 = 1;
+const REFUSED: u8 = 2;
+const FAULT: u8 = 3;
+
+fn main() -> ExitCode {
+    let status = match arguments::parse(env::args_os().skip(1)) {
+        Ok(Request::Help(text)) => print(text, CLEAN),
+        Ok(Request::Run(command)) => end(commands::run(&command)),
+        Err(stop) => end(Err(stop)),
+    };
+    ExitCode::from(status)
+}
+
+/// Prints what came of a command and gives the exit status.
+fn end(result: Result<Done, Stop>) -> u8 {
+    match result {
+        Ok(done) => {
+            let status = if done.changed { CHANGED } else { CLEAN };
+            print(&done.lines, status)
+        }
+        Err(Stop::Refused(refusal, context)) => {
+            say(&format!(
+                "refusal {} ({context}): {refusal}",
+                refusal.number()
+            ));
+            print(&format!("NO,{}\n", refusal.number()), REFUSED)
+        }
+        Err(Stop::Fault(message)) => {
+            say(&message);
+            FAULT
+        }
+        Err(Stop::Usage(message)) => {
+            say(&format!("{message}\nTry: daybook --help"));
+            FAULT
+        }
+    }
+}
+
+/// Prints on standard output; gives `status`, or the one of a fault.
+fn print(text: &str, status: u8) -> u8 {
+    let mut out = io::stdout().lock();
+    match out.write_all(text.as_bytes()).and_then(|()| out.flush()) {
+        Ok(()) => status,
+        Err(error) => {
+            say(&format!("standard output cannot be written: {error}"));
+            FAULT
+        }
+    }
+}
+
+/// Prints a message on standard error. There is no place to report that this fails.
+fn say(message: &str) {
+    let _ = writeln!(io::stderr(), "daybook: {message}");
+}

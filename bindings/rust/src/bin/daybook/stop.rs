@@ -1,0 +1,13 @@
+//! Why a command ended early.
+
+use daybook::Refusal;
+
+#[derive(Debug, PartialEq, Eq)]
+pub enum Stop {
+    /// A call was refused; with the numbers that it was given.
+    Refused(Refusal, String),
+    /// A file could not be read or written, or does not have its form.
+    Fault(String),
+    /// The words of the command line are not a command.
+    Usage(String),
+}

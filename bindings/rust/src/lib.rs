@@ -1,0 +1,57 @@
+//! Day books: seal the days of a ledger, check the ledger later, list the days that may have been
+//! altered.
+//!
+//! Safe calls of the proved static library `libdaybook_c.a`. A [`Service`] takes each closing day's
+//! bytes and gives the values of the book; [`seal`] does the same for a whole ledger. [`check`]
+//! hashes the ledger again and compares it with the book; [`read`] lists the days that the outcomes
+//! tell of. A call that is refused gives its [`Refusal`] and changes nothing.
+//!
+//! ```
+//! use daybook::{check_to_vecs, read_to_vec, Layout, Refusal, Service};
+//!
+//! // Four days, sealed one by one.
+//! let layout = Layout::tile(4, 1);
+//! let mut service = Service::open(layout)?;
+//! let mut book = Vec::new();
+//! for day in ["rye 12", "oats 7", "wheat 40", "barley 3"] {
+//!     service.add(day.as_bytes())?;
+//!     book.extend(service.close_day()?);
+//! }
+//!
+//! // The ledger later: day 4 was altered.
+//! let ledger = b"rye 12oats 7wheat 40barley 9";
+//! let ends = [6, 12, 20, 28];
+//! let checked = check_to_vecs(layout, 4, ledger, &ends, &book)?;
+//! let (reading, days) = read_to_vec(layout, 4, &checked.outcomes)?;
+//! assert!(!reading.is_clean());
+//! assert_eq!(days, [4]);
+//! # Ok::<(), Refusal>(())
+//! ```
+
+#![deny(unsafe_code)]
+#![warn(missing_docs)]
+
+mod book;
+#[allow(unsafe_code)]
+mod ffi;
+mod layout;
+mod refusal;
+mod service;
+
+pub use book::{
+    check, check_to_vecs, read, read_to_vec, seal, seal_to_vec, values, Checked, Reading,
+};
+pub use layout::Layout;
+pub use refusal::Refusal;
+pub use service::Service;
+
+/// Bytes of a record.
+pub const RECORD: usize = 692;
+/// Bytes of a value, and of a day's digest.
+pub const VALUE: usize = 32;
+/// Bytes that are enough for the values of any day.
+pub const PART: usize = 544;
+/// Bytes that a day may hold.
+pub const DAY_LIMIT: u32 = 16_777_216;
+/// Days in a book.
+pub const DAYS_LIMIT: u32 = 65_536;

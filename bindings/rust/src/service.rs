@@ -1,0 +1,167 @@
+use std::fmt;
+
+use crate::{ffi, Layout, Refusal, PART, RECORD, VALUE};
+
+/// The service: days are added in pieces and closed, and each close gives the day's values.
+///
+/// It is nothing but its record of [`RECORD`] bytes, which can be kept on disk between two runs.
+///
+/// ```
+/// use daybook::{Layout, Refusal, Service};
+///
+/// let mut service = Service::open(Layout::black(2, 1))?;
+/// service.add(b"rye 12")?;
+/// service.add(b" oats 7")?;
+/// assert_eq!(service.open_bytes(), 13);
+/// assert_eq!(service.close_day()?, []); // N is 2: day 1 has no value
+/// service.add(b"wheat 40")?;
+/// assert_eq!(service.close_day()?.len(), 32); // day 2 has one value
+/// assert_eq!(service.days(), 2);
+/// # Ok::<(), Refusal>(())
+/// ```
+#[derive(Clone, PartialEq, Eq)]
+pub struct Service {
+    record: [u8; RECORD],
+}
+
+impl Service {
+    /// Opens a service at day 1. Refusals 1 2 3, in that order.
+    pub fn open(layout: Layout) -> Result<Service, Refusal> {
+        let mut record = [0; RECORD];
+        Refusal::answer(ffi::open(layout.setting(), &mut record))?;
+        Ok(Service { record })
+    }
+
+    /// Adds a piece to the open day; it may be empty. Refusals 6 5 4.
+    pub fn add(&mut self, piece: &[u8]) -> Result<(), Refusal> {
+        Refusal::answer(ffi::add(&mut self.record, piece))
+    }
+
+    /// Closes the open day, writes its values to the front of `part`, gives their number and opens
+    /// the next day. [`PART`] bytes are always enough. Refusals 6 5 8.
+    ///
+    /// ```
+    /// use daybook::{Layout, Refusal, Service};
+    ///
+    /// let mut service = Service::open(Layout::tile(1, 1))?;
+    /// assert_eq!(service.close(&mut [0; 63]), Err(Refusal::ShortBuffer)); // 2 values need 64
+    /// assert_eq!(service.days(), 0);
+    /// assert_eq!(service.close(&mut [0; 64]), Ok(2));
+    /// assert_eq!(service.days(), 1);
+    /// # Ok::<(), Refusal>(())
+    /// ```
+    pub fn close(&mut self, part: &mut [u8]) -> Result<u32, Refusal> {
+        let mut values = [0];
+        Refusal::answer(ffi::close(&mut self.record, part, &mut values))?;
+        Ok(values[0])
+    }
+
+    /// Closes the open day and gives its values, [`VALUE`] bytes each. Refusals 6 5.
+    pub fn close_day(&mut self) -> Result<Vec<u8>, Refusal> {
+        let mut part = [0; PART];
+        let values = self.close(&mut part)?;
+        Ok(part[..VALUE * values as usize].to_vec())
+    }
+
+    /// The record, to be kept.
+    ///
+    /// ```
+    /// use daybook::{Layout, Refusal, Service};
+    ///
+    /// let mut service = Service::open(Layout::tree(4))?;
+    /// service.add(b"begun in one run, ")?;
+    /// let kept = service.to_bytes();
+    ///
+    /// let mut service = Service::from_bytes(kept);
+    /// service.add(b"ended in the next")?;
+    /// service.close_day()?;
+    /// # Ok::<(), Refusal>(())
+    /// ```
+    pub fn to_bytes(&self) -> [u8; RECORD] {
+        self.record
+    }
+
+    /// The service of a record. Every array is taken: if the service cannot go on from it, the next
+    /// call is refused with [`Refusal::BadRecord`].
+    ///
+    /// ```
+    /// use daybook::{Refusal, Service, RECORD};
+    ///
+    /// let mut service = Service::from_bytes([0; RECORD]);
+    /// assert_eq!(service.add(b""), Err(Refusal::BadRecord));
+    /// ```
+    pub fn from_bytes(record: [u8; RECORD]) -> Service {
+        Service { record }
+    }
+
+    /// The layout that the record names.
+    pub fn layout(&self) -> Layout {
+        Layout {
+            scheme: self.scheme(),
+            n: self.n(),
+            f: self.f(),
+        }
+    }
+
+    /// The record's scheme.
+    pub fn scheme(&self) -> u32 {
+        self.number_at(0)
+    }
+
+    /// The record's N.
+    pub fn n(&self) -> u32 {
+        self.number_at(4)
+    }
+
+    /// The record's F.
+    pub fn f(&self) -> u32 {
+        self.number_at(8)
+    }
+
+    /// The number of days closed.
+    pub fn days(&self) -> u32 {
+        self.number_at(12)
+    }
+
+    /// The number of bytes in the open day.
+    pub fn open_bytes(&self) -> u32 {
+        self.number_at(16)
+    }
+
+    /// The 32 bits at this place of the record, little-endian.
+    fn number_at(&self, at: usize) -> u32 {
+        let mut bytes = [0; 4];
+        bytes.copy_from_slice(&self.record[at..at + 4]);
+        u32::from_le_bytes(bytes)
+    }
+}
+
+impl fmt::Debug for Service {
+    fn fmt(&self, out: &mut fmt::Formatter<'_>) -> fmt::Result {
+        out.debug_struct("Service")
+            .field("layout", &self.layout())
+            .field("days", &self.days())
+            .field("open_bytes", &self.open_bytes())
+            .finish_non_exhaustive()
+    }
+}
+
+#[cfg(test)]
+mod tests {
+    use super::*;
+
+    #[test]
+    fn numbers_by_their_offsets() {
+        let mut record = [0; RECORD];
+        for (place, byte) in record.iter_mut().take(20).enumerate() {
+            *byte = place as u8;
+        }
+        let service = Service::from_bytes(record);
+        assert_eq!(service.scheme(), 0x0302_0100);
+        assert_eq!(service.n(), 0x0706_0504);
+        assert_eq!(service.f(), 0x0b0a_0908);
+        assert_eq!(service.days(), 0x0f0e_0d0c);
+        assert_eq!(service.open_bytes(), 0x1312_1110);
+        assert_eq!(service.to_bytes(), record);
+    }
+}
