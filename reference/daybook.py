@@ -10,11 +10,13 @@ Days count from 1.  Refusals are the paper's numbers, 0 stands for none.
 import hashlib
 import re
 from dataclasses import dataclass, replace
+from itertools import accumulate
 
 DAY_LIMIT = 16_777_216      # bytes in a day
 DAYS_LIMIT = 65_536         # days in a book
 SLOTS = 17                  # running tile or tree chains in a record
 SUBSETS_LIMIT = 12          # up to this D, reading tries every set of days
+MASKS_LIMIT = 512           # up to this D, it has the chains as masks
 
 BLACK, TILE, TREE = "black", "tile", "tree"
 
@@ -149,6 +151,7 @@ def book(scheme, n, days):
 def _seal_digests(scheme, n, digests):
     """The values of the book over the given day digests, incrementally."""
     first = start(scheme, n)
+    levels = range(lg(len(digests)) + 1) if digests else ()
     black = first
     running = {}
     out = []
@@ -159,7 +162,7 @@ def _seal_digests(scheme, n, digests):
                 if covers(n, (TILE, i, g + (-g) % n), g):
                     running[i] = link(running.get(i, first), h)
         elif scheme == 3:
-            for level in range(SLOTS):
+            for level in levels:        # no higher chain closes
                 running[level] = link(running.get(level, first), h)
         for kind, index, _ in names(scheme, n, g):
             if kind == BLACK:
@@ -192,6 +195,11 @@ def days_refusal(n, f, d):
     return 0 if 1 <= d <= DAYS_LIMIT and d % (f * n) == 0 else 7
 
 
+def days_call_refusal(scheme, n, f, d):
+    """Refusals 1 2 3 7, with which every call for D days begins."""
+    return settings_refusal(scheme, n, f) or days_refusal(n, f, d)
+
+
 def ledger_refusal(d, ledger, ends):
     """Refusals 9 and 10."""
     if len(ends) < d:
@@ -208,6 +216,12 @@ def ledger_days(d, ledger, ends):
     """The bytes of days 1 to d."""
     starts = [0] + list(ends[:d - 1])
     return [bytes(ledger[a:b]) for a, b in zip(starts, ends[:d])]
+
+
+def number_of_values(scheme, n, f, d):
+    """(refusal, number of values): refusals 1 2 3 7."""
+    refusal = days_call_refusal(scheme, n, f, d)
+    return (refusal, 0) if refusal else (0, values(scheme, n, d))
 
 
 # ------------------------------------------------------------------- service
@@ -330,18 +344,24 @@ class Diary:
         return 0
 
 
+def seal_refusal(scheme, n, f, d, ledger, ends, room):
+    """Refusals 1 2 3 7 9 10 8 of a seal that is lent room bytes."""
+    refusal = (days_call_refusal(scheme, n, f, d)
+               or ledger_refusal(d, ledger, ends))
+    if refusal:
+        return refusal
+    return 8 if room < 32 * values(scheme, n, d) else 0
+
+
 def seal(scheme, n, f, d, ledger, ends, book):
     """The refusal (1 2 3 7 9 10 8) of sealing d days of a ledger.
 
     Opens the service, then adds and closes each day; the values go to the
     front of book, a bytearray.
     """
-    refusal = (settings_refusal(scheme, n, f) or days_refusal(n, f, d)
-               or ledger_refusal(d, ledger, ends))
+    refusal = seal_refusal(scheme, n, f, d, ledger, ends, len(book))
     if refusal:
         return refusal
-    if len(book) < 32 * values(scheme, n, d):
-        return 8
     _, record = open_service(scheme, n, f)
     written = 0
     for day in ledger_days(d, ledger, ends):
@@ -356,20 +376,27 @@ def seal(scheme, n, f, d, ledger, ends, book):
 
 # ------------------------------------------------------------------ checking
 
-def check(scheme, n, f, d, ledger, ends, book, work, outcomes):
-    """The refusal (1 2 3 7 9 10 11 8) of checking a ledger against a book.
-
-    Fills the fronts of work (day digests) and outcomes (1 pass, 0 fail).
-    """
-    refusal = (settings_refusal(scheme, n, f) or days_refusal(n, f, d)
+def check_refusal(scheme, n, f, d, ledger, ends, book, work, outcomes):
+    """Refusals 1 2 3 7 9 10 11 8."""
+    refusal = (days_call_refusal(scheme, n, f, d)
                or ledger_refusal(d, ledger, ends))
     if refusal:
         return refusal
     count = values(scheme, n, d)
     if len(book) < 32 * count:
         return 11
-    if len(work) < 32 * d or len(outcomes) < count:
-        return 8
+    return 8 if len(work) < 32 * d or len(outcomes) < count else 0
+
+
+def check(scheme, n, f, d, ledger, ends, book, work, outcomes):
+    """The refusal (1 2 3 7 9 10 11 8) of checking a ledger against a book.
+
+    Fills the fronts of work (day digests) and outcomes (1 pass, 0 fail).
+    """
+    refusal = check_refusal(scheme, n, f, d, ledger, ends, book, work,
+                            outcomes)
+    if refusal:
+        return refusal
     digests = [digest(day) for day in ledger_days(d, ledger, ends)]
     work[:32 * d] = b"".join(digests)
     for k, v in enumerate(_seal_digests(scheme, n, digests)):
@@ -423,7 +450,11 @@ def list_by_candidates(scheme, n, d, table):
     within the days covered by no passing chain; if any set gives the table,
     that largest one does too.
     """
-    chain_masks = masks(scheme, n, d)
+    return list_by_masks(masks(scheme, n, d), d, table)
+
+
+def list_by_masks(chain_masks, d, table):
+    """As list_by_candidates, for chains given as masks."""
     candidates = (1 << d) - 1
     for m, outcome in zip(chain_masks, table):
         if outcome == 1:
@@ -431,6 +462,45 @@ def list_by_candidates(scheme, n, d, table):
     if not gives(chain_masks, candidates, table):
         return None
     return unmask(candidates)
+
+
+def list_by_counts(scheme, n, d, table):
+    """As list_by_candidates, without masks, for large d."""
+    rises = [0] * (d + 2)       # by how much more passing chains cover a day
+    failing = []
+    position = 0
+    for g in range(1, d + 1):
+        for chain in _closing(scheme, n, g):
+            if table[position] == 0:
+                failing.append(chain)
+            elif isinstance(chain, range):
+                rises[chain.start] += 1
+                rises[chain.stop] -= 1
+            else:
+                for day in chain:
+                    rises[day] += 1
+                    rises[day + 1] -= 1
+            position += 1
+    passed = list(accumulate(rises))
+    listed = [day for day in range(1, d + 1) if passed[day] == 0]
+    before = [0, *accumulate(int(passed[day] == 0) for day in range(1, d + 1))]
+    for chain in failing:
+        if isinstance(chain, range):
+            found = before[chain.stop - 1] > before[chain.start - 1]
+        else:
+            found = any(passed[day] == 0 for day in chain)
+        if not found:
+            return None
+    return listed
+
+
+def list_of(scheme, n, d, table):
+    """The days to be listed, by the definition where d is small."""
+    if d <= SUBSETS_LIMIT:
+        return list_by_subsets(scheme, n, d, table)
+    if d <= MASKS_LIMIT:
+        return list_by_candidates(scheme, n, d, table)
+    return list_by_counts(scheme, n, d, table)
 
 
 def last_good_day(scheme, n, d, table):
@@ -460,9 +530,9 @@ class Reading:
     last_good: int = 0
 
 
-def read(scheme, n, f, d, outcomes, list_buffer):
+def read(scheme, n, f, d, outcomes, list_buffer, lister=list_of):
     """Reading, refusals 1 2 3 7 8 12 13 14; days go to list_buffer's front."""
-    refusal = settings_refusal(scheme, n, f) or days_refusal(n, f, d)
+    refusal = days_call_refusal(scheme, n, f, d)
     if refusal:
         return Reading("refused", refusal)
     if len(list_buffer) < d:
@@ -473,10 +543,7 @@ def read(scheme, n, f, d, outcomes, list_buffer):
     table = list(outcomes[:count])
     if any(outcome not in (0, 1) for outcome in table):
         return Reading("refused", 13)
-    if d <= SUBSETS_LIMIT:
-        listed = list_by_subsets(scheme, n, d, table)
-    else:
-        listed = list_by_candidates(scheme, n, d, table)
+    listed = lister(scheme, n, d, table)
     if listed is None:
         return Reading("refused", 14)
     if not listed:
@@ -506,7 +573,7 @@ def readtable(text):
     scheme, n, f, d = (int(field) for field in form.groups()[:4])
     if d > 256:
         return no(15)
-    refusal = settings_refusal(scheme, n, f) or days_refusal(n, f, d)
+    refusal = days_call_refusal(scheme, n, f, d)
     if refusal:
         return no(refusal)
     outcomes = [digit - ord("0") for digit in form.group(5)]

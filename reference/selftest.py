@@ -1,13 +1,24 @@
 """Self-test of the reference implementation; see README.md."""
 
+import contextlib
+import ctypes
 import hashlib
+import io
 import os
+import random
 import sys
+from collections import Counter
 
+import compare
 import daybook as db
 import last_day
+import record as rec
 import short_ledgers
+import stand_in
 import thousand
+import wanted
+from cases import LENGTHS
+from guarded import Arena
 from pattern import day_bytes
 
 PASSED = 0
@@ -561,6 +572,26 @@ def reading_tests():
                 max(d - f * n, listed[0] - 1), d, max(black, default=0)))
 
 
+def reading_large():
+    """Reading without masks against reading by masks."""
+    rng = random.Random(5)
+    for scheme, n, d in [(s, n, d) for s in (1, 2, 3)
+                         for n in (1, 4, 32, 256) for d in (256, 512, 768)]:
+        masks = db.masks(scheme, n, d)
+        seen = Counter()
+        for k in range(6):
+            chosen = [rng.randint(1, d) for _ in range(rng.randint(0, 5))]
+            bits = db.mask(set(chosen))
+            table = [0 if m & bits else 1 for m in masks]
+            if k >= 3:
+                table[rng.randrange(len(table))] ^= 1
+            want = db.list_by_candidates(scheme, n, d, table)
+            expect(f"counts {scheme} {n} {d}",
+                   db.list_by_counts(scheme, n, d, table), want)
+            seen[want is None] += 1
+        expect("a set is found", seen[False] >= 3, True)
+
+
 def reading_refusals():
     def call(scheme=2, n=4, f=1, d=4, outcomes=(1, 1, 1, 1), places=4):
         buffer = [777] * places
@@ -613,6 +644,184 @@ def whole_chain():
                      bytearray(32 * d), outcomes)
             expect("moved end", list(outcomes),
                    table_of(scheme, n, d, [2, 3]))
+
+
+# ------------------------------------------------------------ number of values
+
+def values_calls():
+    for scheme, n, f, d in cases(64):
+        expect("number of values", db.number_of_values(scheme, n, f, d),
+               (0, len(db.chains(scheme, n, d))))
+        expect("chains by level", wanted.count_of_chains(scheme, n, d),
+               db.values(scheme, n, d))
+    for arguments, want in [((0, 0, 0, 0), 1), ((1, 0, 0, 0), 2),
+                            ((1, 1, 0, 0), 3), ((3, 1, 2, 2), 3),
+                            ((1, 1, 1, 0), 7), ((1, 2, 1, 3), 7),
+                            ((1, 1, 1, 65_537), 7)]:
+        expect("values refused", db.number_of_values(*arguments), (want, 0))
+
+
+# ------------------------------------------------------------- record's bytes
+
+def compression():
+    rng = random.Random(1)
+    expect("first words", [hex(w) for w in rec.FIRST],
+           ["0x6a09e667", "0xbb67ae85", "0x3c6ef372", "0xa54ff53a",
+            "0x510e527f", "0x9b05688c", "0x1f83d9ab", "0x5be0cd19"])
+    expect("rounds", [hex(rec.ROUND[k]) for k in (0, 1, 62, 63)],
+           ["0x428a2f98", "0x71374491", "0xbef9a3f7", "0xc67178f2"])
+    for length in range(300):
+        data = rng.randbytes(length)
+        expect(f"sha256 of {length}", rec.sha256(data),
+               hashlib.sha256(data).digest())
+
+
+def record_layout():
+    expect("size", len(rec.open_service(1, 1, 1)[1]), 692)
+    expect("fresh", rec.open_service(2, 8, 25), (
+        0, bytes([2, 0, 0, 0, 8, 0, 0, 0, 25, 0, 0, 0]) + bytes(8)
+        + b"".join(w.to_bytes(4, "little") for w in rec.FIRST)
+        + bytes(32 * 18 + 64)))
+    expect("refused open", rec.open_service(0, 8, 25), (1, bytes(692)))
+    expect("swap", rec.swap(bytes(range(32)))[:8],
+           bytes([3, 2, 1, 0, 7, 6, 5, 4]))
+
+
+def record_histories():
+    """The service on a record's bytes against the one of daybook.py."""
+    rng = random.Random(2)
+    for scheme in (1, 2, 3):
+        for n in SIZES:
+            _, plain = db.open_service(scheme, n, 1)
+            _, data = rec.open_service(scheme, n, 1)
+            expect("open", data, rec.from_daybook(plain))
+            for _ in range(60):
+                if rng.random() < 0.5:
+                    piece = rng.randbytes(rng.choice(LENGTHS))
+                    refusal, plain = db.add(plain, piece)
+                    got, data = rec.add(data, piece)
+                    expect("add", got, refusal)
+                else:
+                    part = bytearray(rng.randrange(260))
+                    refusal, plain, count = db.close(plain, part)
+                    got, data, values = rec.close(data, len(part))
+                    expect("close", (got, b"".join(values)),
+                           (refusal, bytes(part[:32 * count])))
+                expect(f"record {scheme} {n}", data, rec.from_daybook(plain))
+
+
+def record_made_up():
+    rng = random.Random(3)
+    for scheme in (1, 2, 3):
+        for n in (1, 8, 256):
+            plain = last_day.record(scheme, n)
+            data = rec.from_daybook(plain)
+            part = bytearray(600)
+            refusal, plain, count = db.close(plain, part)
+            got, data, values = rec.close(data, 600)
+            expect("last day", (got, data, b"".join(values)),
+                   (refusal, rec.from_daybook(plain),
+                    bytes(part[:32 * count])))
+            expect("then 5", (rec.add(data, b""), rec.close(data, 600)),
+                   ((5, data), (5, data, [])))
+
+    # The block's bytes past the fill have no weight and go with an add.
+    junk = bytearray(rng.randbytes(692))
+    junk[:20] = rec.pack((1, 1, 1, 7, 70), rec.FIRST, [bytes(32)] * 18,
+                         b"")[:20]
+    clean = bytes(junk[:628 + 7]) + bytes(57)
+    for piece in (b"", b"x", bytes(57), bytes(200)):
+        expect("junk in the block", rec.add(bytes(junk), piece),
+               rec.add(clean, piece))
+    expect("add of length 0", rec.add(bytes(junk), b""), (0, clean))
+    expect("junk and close", rec.close(bytes(junk), 32),
+           rec.close(clean, 32))
+
+    limit = db.DAY_LIMIT
+    for days, count, length, want in [
+            (0, limit - 1, 1, 0), (0, limit - 1, 2, 4), (0, limit, 0, 0),
+            (0, limit, 1, 4), (0, limit + 1, 0, 6), (65_535, 0, 1, 0),
+            (65_536, 0, 1, 5), (65_537, 0, 1, 6), (65_536, limit, 1, 5)]:
+        junk[12:20] = days.to_bytes(4, "little") + count.to_bytes(4, "little")
+        refusal, after = rec.add(bytes(junk), bytes(length))
+        expect("add at limits", refusal, want)
+        expect("record kept", refusal == 0 or after == junk, True)
+
+
+# ----------------------------------------------------------------- comparison
+
+def differs(calls, scheme, first, last):
+    """Whether a case finds the calls different."""
+    arena = Arena()
+    return any(compare.run_case(calls, arena, 7, scheme, index,
+                                Counter())[2] is not None
+               for index in range(first, last))
+
+
+def faulty(name, fault):
+    """The stand-in with one call changed."""
+    calls = stand_in.calls()
+    good = calls[name]
+    calls[name] = lambda *arguments: fault(good, *arguments)
+    return calls
+
+
+def comparison():
+    first = len(compare.ONCE)
+    for scheme in (1, 2, 3):
+        expect("stand-in is equal",
+               differs(stand_in.calls(), scheme, first, first + 200), False)
+
+    def past_record(good, address, *rest):
+        ctypes.memset(address + 692, 0, 1)
+        return good(address, *rest)
+
+    def before_book(good, *arguments):
+        if arguments[8]:
+            ctypes.memset(arguments[8] - 1, 0, 1)
+        return good(*arguments)
+
+    def no_zeros(good, *arguments):
+        refusal = db.settings_refusal(*arguments[:3])
+        return refusal or good(*arguments)
+
+    def number_of_refused(good, *arguments):
+        answer = good(*arguments)
+        if answer:
+            ctypes.memset(arguments[-1], 0, 4)
+        return answer
+
+    def passes_all(good, *arguments):
+        answer = good(*arguments)
+        if answer == 0:
+            ctypes.memset(arguments[-2], 1, db.values(*arguments[:2],
+                                                      arguments[3]))
+        return answer
+
+    def null_is_refused(good, record, piece, length):
+        return 4 if piece is None else good(record, piece, length)
+
+    for name, fault in [
+            ("add", past_record), ("add", null_is_refused),
+            ("seal", before_book), ("close", number_of_refused),
+            ("read", number_of_refused), ("values", number_of_refused),
+            ("check", passes_all),
+            ("read", lambda good, *rest: good(*rest) or 14),
+            ("open", no_zeros)]:
+        for scheme in (1, 2, 3):
+            expect(f"fault in {name} is found",
+                   differs(faulty(name, fault), scheme, first, first + 600),
+                   True)
+
+    for arguments, last in [
+            (["--cases", "60"], "compare: 180 cases, all equal"),
+            (["--cases", "60", "--broken"],
+             "compare: 180 of 180 corrupted answers found")]:
+        printed = io.StringIO()
+        with contextlib.redirect_stdout(printed):
+            status = compare.main(["stand-in", "--without-once", *arguments])
+        expect("whole run", (status, printed.getvalue().splitlines()[-1]),
+               (0, last))
 
 
 # -------------------------------------------------------------------- program
@@ -696,7 +905,9 @@ def main():
     for test in (examples, sketch_mistakes, hashes, layout_tests, book_tests,
                  call_lists, pieces, service_bounds, made_up_records,
                  last_days, check_tests, check_refusals, reading_tests,
-                 reading_refusals, whole_chain, program, expected_outputs):
+                 reading_large, reading_refusals, whole_chain, values_calls,
+                 compression, record_layout, record_histories,
+                 record_made_up, comparison, program, expected_outputs):
         before = PASSED, FAILED
         test()
         print(f"{test.__name__}: {PASSED - before[0]} passed, "

@@ -1,0 +1,667 @@
+"""The cases of compare.py: random ones and those run once a layout.
+
+Each case is a function of a guarded.Case, which has the layout, the random
+numbers and the means to make a call and compare it.
+"""
+
+import hashlib
+import struct
+from array import array
+
+import daybook
+import record
+from wanted import count_of_chains, table_of, values_of, want_add, want_close
+
+LIMIT = daybook.DAY_LIMIT
+DAYS = daybook.DAYS_LIMIT
+TOP = 2 ** 32 - 1
+
+
+# ----------------------------------------------------------- random arguments
+
+LENGTHS = [0, 0, 0, 0, 1, 1, 2, 3, 4, 5, 7, 8, 12, 20, 31, 32, 33, 53, 54, 55,
+           56, 57, 61, 62, 63, 64, 65, 117, 118, 119, 120, 121, 126, 127, 128]
+
+
+def day_length(rng):
+    return rng.choice(LENGTHS) if rng.random() < 0.98 else rng.randrange(900)
+
+
+def most_days(rng):
+    """A bound for D: mostly small."""
+    x = rng.random()
+    for bound, share in ((16, 0.86), (64, 0.97), (256, 0.997), (1024, 0.9998)):
+        if x < share:
+            return bound
+    return 8192
+
+
+def layout(scheme, rng, most=None):
+    """Allowed N, F and D, with D up to about most."""
+    most = most or most_days(rng)
+    n = 1 << rng.randrange(min(8, daybook.lg(most)) + 1)
+    top = min(64, most // n)
+    f = 1 if scheme == 3 or rng.random() < 0.4 else rng.randint(1, top)
+    return n, f, f * n * rng.randint(1, most // (f * n))
+
+
+def random_words(rng, count):
+    return array("I", rng.randbytes(4 * count)).tolist()
+
+
+def room(rng, need, short=0.04):
+    """A length for a buffer: as needed, longer or too short."""
+    x = rng.random()
+    if x < short and need:
+        return need - 1 if rng.random() < 0.5 else rng.randrange(need)
+    return need if x < 0.6 else need + rng.randint(1, 70)
+
+
+def join_days(days):
+    """(ledger, ends) of a list of days."""
+    ends, total = [], 0
+    for day in days:
+        total += len(day)
+        ends.append(total)
+    return b"".join(days), ends
+
+
+def with_rest(rng, ledger, ends):
+    """The same days, sometimes with more bytes and ends after them."""
+    if rng.random() < 0.3:
+        ledger += rng.randbytes(rng.randint(1, 40))
+    if rng.random() < 0.3:
+        ends = ends + random_words(rng, rng.randint(1, 4))
+    return ledger, ends
+
+
+def flip_bits(rng, data, count):
+    """The bytes with some of them altered."""
+    data = bytearray(data)
+    for _ in range(count if data else 0):
+        data[rng.randrange(len(data))] ^= rng.randint(1, 255)
+    return bytes(data)
+
+
+# ----------------------------------------------------------------- round trip
+
+def alter_days(rng, days):
+    """The list of days, altered up to three times."""
+    days = list(days)
+    for _ in range(rng.choice((0, 1, 1, 1, 2, 3))):
+        g = rng.randrange(len(days))
+        other = rng.randrange(len(days))
+        way = rng.randrange(5)
+        if way == 0:
+            days[g] = flip_bits(rng, days[g], 1)
+        elif way == 1:
+            days[g], days[other] = days[other], days[g]
+        elif way == 2:                  # the end of day g moves on
+            k = min(rng.randint(1, 3), len(days[g]))
+            if g + 1 < len(days) and k:
+                days[g], days[g + 1] = days[g][:-k], days[g][-k:] \
+                    + days[g + 1]
+        elif way == 3:
+            days[g] += rng.randbytes(rng.randint(1, 70))
+        else:
+            days[g] = days[g][:rng.randint(0, len(days[g]))]
+    return days
+
+
+def alter_book(rng, book):
+    """The book, mostly as it is."""
+    way = rng.randrange(8)
+    if way == 0:
+        return flip_bits(rng, book, rng.randint(1, 3))
+    if way == 1:
+        k = 32 * rng.randrange(len(book) // 32)
+        return book[:k] + rng.choice((bytes(32), book[:32])) + book[k + 32:]
+    if way == 2:
+        k = 32 * rng.randrange(len(book) // 32)
+        return book[:k] + book[k + 32:] + book[k:k + 32]
+    return book
+
+
+def spoil_ends(rng, ends, ledger):
+    """Ends of which one may be wrong."""
+    ends = list(ends)
+    g = rng.randrange(len(ends))
+    ends[g] = rng.choice((0, TOP, len(ledger) + 1, len(ledger), ends[g] + 1,
+                          max(0, ends[g] - 1), ends[g]))
+    return ends
+
+
+def seal_check_read(case, n, f, d, days, altered):
+    """Seal days, check the altered ones, read the outcomes."""
+    rng, scheme = case.rng, case.scheme
+    count = daybook.values(scheme, n, d)
+    ledger, ends = with_rest(rng, *join_days(days))
+    if rng.random() < 0.02:
+        ends = spoil_ends(rng, ends, ledger)
+    start = rng.randbytes(room(rng, 32 * count))
+    answer, after = case.call("seal", scheme, n, f, d, ledger, ends, start)
+    if answer:
+        return
+    sealed = daybook.ledger_days(d, ledger, ends)
+    book = after[-1][:32 * count]
+    kept = alter_book(rng, book) if rng.random() < 0.4 else book
+    spoilt = kept != book
+    if rng.random() < 0.05:
+        kept = kept[:room(rng, len(kept), 0.5)]
+    elif rng.random() < 0.3:
+        kept += rng.randbytes(rng.randint(1, 40))
+    ledger, ends = with_rest(rng, *join_days(altered))
+    if rng.random() < 0.03:
+        ends = spoil_ends(rng, ends, ledger)
+    answer, after = case.call(
+        "check", scheme, n, f, d, ledger, ends, kept,
+        rng.randbytes(room(rng, 32 * d, 0.02)),
+        rng.randbytes(room(rng, count, 0.02)))
+    if answer:
+        return
+    found = daybook.ledger_days(d, ledger, ends)
+    places = random_words(rng, room(rng, d, 0.02))
+    answer, after = case.call("read", scheme, n, f, d, after[-1], places,
+                              random_words(rng, 5))
+    if answer == 0 and not spoilt:
+        listed = set(after[-2][:after[-1][0]])
+        changed = {g for g in range(1, d + 1) if sealed[g - 1] != found[g - 1]}
+        case.claim(changed <= listed, "a changed day is not listed")
+        case.claim(bool(changed) == bool(listed), "clean is wrongly said")
+    elif answer == 14:
+        case.claim(spoilt, "a true book's table is refused")
+
+
+def round_trip(case):
+    rng = case.rng
+    n, f, d = layout(case.scheme, rng)
+    days = [rng.randbytes(day_length(rng)) for _ in range(d)]
+    altered = alter_days(rng, days)
+    seal_check_read(case, n, f, d, days, altered)
+
+
+# -------------------------------------------------------------------- reading
+
+def random_set(rng, d):
+    """A set of days, as a mask: few days, many or none."""
+    if rng.random() < 0.2:
+        return rng.getrandbits(d)
+    chosen = 0
+    for _ in range(rng.randint(0, 4)):
+        chosen |= 1 << rng.randrange(d)
+    return chosen
+
+
+def read_table(case):
+    rng, scheme = case.rng, case.scheme
+    n, f, d = layout(scheme, rng, min(most_days(rng), 1024))
+    count = daybook.values(scheme, n, d)
+    table = table_of(scheme, n, d, random_set(rng, d))
+    if rng.random() < 0.05:
+        table = bytes(rng.getrandbits(1) for _ in range(count))
+    table = bytearray(table)
+    if rng.random() < 0.45:
+        for _ in range(rng.choice((1, 1, 1, 2, 3))):
+            table[rng.randrange(count)] ^= 1
+    if rng.random() < 0.08:
+        table[rng.randrange(count)] = rng.choice((2, 3, 128, 254, 255))
+    if rng.random() < 0.08:
+        table = table[:room(rng, count, 1)]
+    elif rng.random() < 0.3:
+        table += rng.randbytes(rng.randint(1, 20))
+    places = random_words(rng, room(rng, d))
+    case.call("read", scheme, n, f, d, bytes(table), places,
+              random_words(rng, 5))
+
+
+# ------------------------------------------------------------------- refusals
+
+BAD_SCHEMES = (0, 4, 5, 7, 255, 256, 257, 258, 259, 65537, 2 ** 31 + 1, TOP)
+BAD_SIZES = (0, 3, 5, 6, 7, 12, 100, 255, 257, 384, 512, 1024, 65536, 65537,
+             2 ** 24, 2 ** 31, 2 ** 31 + 1, TOP)
+BAD_INTERVALS = (0, 2, 64, 65, 66, 100, 128, 256, 257, 65536, 65537, 2 ** 31,
+                 TOP)
+
+
+def bad_days(rng, n, f, d):
+    """A D that is mostly not allowed."""
+    step = f * n
+    return rng.choice((0, 1, d + 1, d - 1, d + step // 2, DAYS, DAYS + 1,
+                       DAYS + step, 2 * DAYS, TOP, 2 ** 32 - step, 2 ** 31,
+                       2 ** 16 // step * step, rng.getrandbits(32),
+                       rng.getrandbits(17)))
+
+
+def bad_settings(rng, scheme, n, f, d):
+    """Settings and D with up to three faults."""
+    first = n, f, d
+    for _ in range(rng.choice((1, 1, 2, 3))):
+        way = rng.randrange(5)
+        if way == 0:
+            scheme = rng.choice(BAD_SCHEMES)
+        elif way == 1:
+            n = rng.choice(BAD_SIZES)
+        elif way == 2:
+            f = rng.choice(BAD_INTERVALS)
+        else:
+            d = bad_days(rng, *first) & TOP
+    return scheme, n, f, d
+
+
+def bad_length(rng, need):
+    return max(0, need - rng.choice((0, 0, 1, 1, 2, need)))
+
+
+def refused(case):
+    """Calls on arguments with several faults at once."""
+    rng = case.rng
+    n, f, d = layout(case.scheme, rng, 16)
+    count = daybook.values(case.scheme, n, d)
+    settings = case.scheme, n, f, d
+    if rng.random() < 0.6:
+        settings = bad_settings(rng, *settings)
+    days = [rng.randbytes(rng.randrange(4)) for _ in range(d)]
+    ledger, ends = join_days(days)
+    if rng.random() < 0.4:
+        ends = spoil_ends(rng, ends, ledger)
+    if rng.random() < 0.2:
+        ledger = ledger[:rng.randint(0, len(ledger))]
+    if rng.random() < 0.3:
+        ends = ends[:bad_length(rng, d)]
+    name = rng.choice(("open", "values", "seal", "check", "check", "read",
+                       "read"))
+    if name == "open":
+        arguments = *settings[:3], rng.randbytes(record.SIZE)
+    elif name == "values":
+        arguments = *settings, random_words(rng, 1)
+    elif name == "seal":
+        arguments = (*settings, ledger, ends,
+                     rng.randbytes(bad_length(rng, 32 * count)))
+    elif name == "check":
+        arguments = (*settings, ledger, ends,
+                     rng.randbytes(bad_length(rng, 32 * count)),
+                     rng.randbytes(bad_length(rng, 32 * d)),
+                     rng.randbytes(bad_length(rng, count)))
+    else:
+        table = bytearray(b"\1" * bad_length(rng, count))
+        if table and rng.random() < 0.6:
+            table[rng.randrange(len(table))] = rng.choice((0, 0, 2, 255))
+        arguments = (*settings, bytes(table),
+                     random_words(rng, bad_length(rng, d)),
+                     random_words(rng, 5))
+    case.call(name, *arguments)
+
+
+# ------------------------------------------------------------------ histories
+
+class ByRecord:
+    """What add and close must give, by record.py."""
+
+    def __init__(self, settings):
+        self.bytes = record.open_service(*settings)[1]
+
+    def add(self, old, piece):
+        return want_add(old, piece)
+
+    def close(self, old, part, values):
+        return want_close(old, part, values)
+
+
+class ByDaybook:
+    """What add and close must give, by daybook.py."""
+
+    def __init__(self, settings):
+        self.record = daybook.open_service(*settings)[1]
+
+    def add(self, old, piece):
+        refusal, self.record = daybook.add(self.record, piece)
+        return refusal, (record.from_daybook(self.record), piece)
+
+    def close(self, old, part, values):
+        after = bytearray(part)
+        refusal, self.record, count = daybook.close(self.record, after)
+        return refusal, (record.from_daybook(self.record), bytes(after),
+                         values if refusal else (count,))
+
+
+class History:
+    """A list of calls from an accepted open on, with diary and book."""
+
+    def __init__(self, case, n, f, service):
+        self.case = case
+        self.settings = case.scheme, n, f
+        answer, after = case.call("open", *self.settings,
+                                  case.rng.randbytes(record.SIZE))
+        case.claim(answer == 0, "open is refused")
+        self.record = after[-1]
+        self.service = service(self.settings)
+        self.diary = daybook.Diary(*self.settings)
+        self.book = []
+
+    def add(self, piece):
+        answer, after = self.case.call(
+            "add", self.record, piece,
+            want=self.service.add(self.record, piece))
+        self.record = after[0]
+        self.case.claim(answer == self.diary.add(piece),
+                        "add and diary differ")
+        return answer
+
+    def need(self):
+        """The bytes that the next close writes."""
+        scheme, n, _ = self.settings
+        return 32 * len(daybook.names(scheme, n, len(self.diary.entries) + 1))
+
+    def close(self, part):
+        values = random_words(self.case.rng, 1)
+        answer, after = self.case.call(
+            "close", self.record, part, values,
+            want=self.service.close(self.record, part, values))
+        self.record = after[0]
+        self.case.claim(answer == self.diary.close(len(part)),
+                        "close and diary differ")
+        if answer == 0:
+            self.book.append(after[1][:32 * after[2][0]])
+        return answer
+
+    def compare_book(self):
+        scheme, n, _ = self.settings
+        days = self.diary.entries
+        make = daybook.book if len(days) <= 40 else daybook.seal_book
+        self.case.claim(b"".join(self.book) == make(scheme, n, days),
+                        "the book is not that of the diary's entries")
+
+
+def history(case):
+    rng = case.rng
+    n = 1 << (rng.randrange(5) if rng.random() < 0.9 else rng.randrange(9))
+    f = 1 if case.scheme == 3 else rng.randint(1, 64)
+    service = ByRecord if rng.random() < 0.4 else ByDaybook
+    calls = History(case, n, f, service)
+    closing = rng.choice((0.3, 0.5, 0.8))
+    for _ in range(rng.choice((4, 8, 16, 16, 30))):
+        if rng.random() < closing:
+            part = rng.randbytes(room(rng, calls.need(), 0.15))
+            calls.close(part)
+        else:
+            calls.add(rng.randbytes(day_length(rng)))
+    calls.compare_book()
+
+
+# ------------------------------------------------------------ made-up records
+
+def made_up(scheme, rng):
+    """692 bytes, with fields that are allowed or just not."""
+    data = rng.randbytes(record.SIZE)
+    x = rng.random()
+    if x < 0.03:
+        return data
+    n, f, d = layout(scheme, rng, 256)
+    days = rng.choice((0, d - 1, d, n - 1, rng.randrange(DAYS),
+                       rng.randrange(DAYS), DAYS - 1, DAYS - 2, DAYS // 2 - 1,
+                       (1 << rng.randint(0, 16)) - 1))
+    count = rng.choice((0, 1, 54, 55, 61, 62, 63, 64, 126, 127,
+                        rng.randrange(300), rng.randrange(LIMIT), LIMIT - 1,
+                        LIMIT - 64, LIMIT))
+    if x < 0.2:
+        scheme, n, f, _ = bad_settings(rng, scheme, n, f, d)
+    if x > 0.8:
+        days = rng.choice((DAYS, DAYS, DAYS + 1, days, TOP, days))
+    if x > 0.9:
+        count = rng.choice((LIMIT - 1, LIMIT, LIMIT + 1, TOP))
+    data = struct.pack("<5I", scheme, n, f, days, count) + data[20:]
+    return data
+
+
+def made_up_calls(case):
+    rng = case.rng
+    current = made_up(case.scheme, rng)
+    for _ in range(rng.choice((1, 1, 2, 3))):
+        if rng.random() < 0.5:
+            piece = rng.randbytes(rng.choice((0, 1, 2, 63, 64, 65)) if
+                                  rng.random() < 0.5 else day_length(rng))
+            _, after = case.call("add", current, piece)
+        else:
+            scheme, n, _, days, _ = record.fields(current)
+            need = 32
+            if record.refusal_of(current) == 0:
+                need = 32 * len(daybook.names(scheme, n, days + 1))
+            part = rng.randbytes(room(rng, need, 0.1))
+            _, after = case.call("close", current, part, random_words(rng, 1))
+        current = after[0]
+
+
+# -------------------------------------------------------------- null pointers
+
+def empty_arrays(case):
+    """Calls on arrays without elements, given as null pointers."""
+    rng, scheme = case.rng, case.scheme
+    n, f, d = layout(scheme, rng, 16)
+    count = daybook.values(scheme, n, d)
+
+    def some(data):
+        return data if rng.random() < 0.7 else data[:0]
+
+    name = rng.choice(("add", "close", "seal", "check", "read"))
+    if name == "add":
+        case.call("add", made_up(scheme, rng), b"", nulls=True)
+    elif name == "close":
+        case.call("close", made_up(scheme, rng), b"", random_words(rng, 1),
+                  nulls=True)
+    elif name == "seal":
+        case.call("seal", scheme, n, f, d, b"", some([0] * d),
+                  some(rng.randbytes(32 * count)), nulls=True)
+    elif name == "check":
+        book = b"".join(values_of(scheme, n, [daybook.digest(b"")] * d))
+        case.call("check", scheme, n, f, d, b"", some([0] * d), some(book),
+                  some(rng.randbytes(32 * d)), some(rng.randbytes(count)),
+                  nulls=True)
+    else:
+        case.call("read", scheme, n, f, d, some(b"\1" * count),
+                  some(random_words(rng, d)), random_words(rng, 5),
+                  nulls=True)
+
+
+# ----------------------------------------------------------- number of values
+
+def number_of_values(case):
+    rng, scheme = case.rng, case.scheme
+    for _ in range(4):
+        n, f, d = layout(scheme, rng, rng.choice((16, 1024, DAYS)))
+        answer, after = case.call("values", scheme, n, f, d,
+                                  random_words(rng, 1))
+        case.claim(answer == 0 and
+                   after[-1][0] == count_of_chains(scheme, n, d),
+                   "values is not the number of chains")
+    settings = bad_settings(rng, scheme, n, f, d)
+    case.call("values", *settings, random_words(rng, 1))
+
+
+# ----------------------------------------------------- cases run once a layout
+
+def whole_book(case):
+    """65,536 short days: seal, check, read."""
+    rng, scheme = case.rng, case.scheme
+    n = 1 << rng.randrange(9)
+    f = 1 if scheme == 3 else 1 << rng.randrange(7)
+    days = [rng.randbytes(rng.randrange(4)) for _ in range(DAYS)]
+    altered = list(days)
+    for _ in range(3):
+        altered[rng.randrange(DAYS)] += b"\0"
+    count = daybook.values(scheme, n, DAYS)
+    ledger, ends = join_days(days)
+    answer, after = case.call("seal", scheme, n, f, DAYS, ledger, ends,
+                              rng.randbytes(32 * count + 9))
+    book = after[-1][:32 * count]
+    case.claim(answer == 0, "seal is refused")
+    for checked, bad in ((days, False), (altered, True)):
+        ledger, ends = join_days(checked)
+        answer, after = case.call(
+            "check", scheme, n, f, DAYS, ledger, ends, book,
+            rng.randbytes(32 * DAYS + 5), rng.randbytes(count + 5))
+        case.claim(answer == 0, "check is refused")
+        answer, after = case.call("read", scheme, n, f, DAYS, after[-1],
+                                  random_words(rng, DAYS + 5),
+                                  random_words(rng, 5))
+        listed = set(after[-2][:after[-1][0]])
+        changed = {g for g in range(1, DAYS + 1)
+                   if days[g - 1] != checked[g - 1]}
+        case.claim(answer == 0 and changed <= listed
+                   and bool(listed) == bad, "the list is not as due")
+
+
+def whole_service(case):
+    """65,536 days through add and close, and on."""
+    rng = case.rng
+    n = 1 << rng.randrange(9)
+    f = 1 if case.scheme == 3 else rng.randint(1, 64)
+    calls = History(case, n, f, ByDaybook)
+    for _ in range(DAYS):
+        if rng.random() < 0.5:
+            calls.add(rng.randbytes(rng.randrange(4)))
+        part = rng.randbytes(room(rng, calls.need(), 0.01))
+        if calls.close(part):
+            calls.close(rng.randbytes(calls.need()))
+    case.claim(len(calls.diary.entries) == DAYS, "not all days are closed")
+    for piece in (b"", b"x", bytes(100)):
+        case.claim(calls.add(piece) == 5, "add goes on")
+    for part in (b"", bytes(600)):
+        case.claim(calls.close(part) == 5, "close goes on")
+    calls.compare_book()
+
+
+def high_bytes(case):
+    """Records whose open day is at its limit."""
+    rng, scheme = case.rng, case.scheme
+    for count in (LIMIT - 65, LIMIT - 2, LIMIT - 1, LIMIT, LIMIT + 1, TOP):
+        for length in (0, 1, 2, 3, 64, 65, 66, 200):
+            for days in (0, DAYS - 1, DAYS, DAYS + 1):
+                data = rng.randbytes(record.SIZE)
+                data = struct.pack("<5I", scheme, 1, 1, days, count) \
+                    + data[20:]
+                answer, after = case.call("add", data, rng.randbytes(length))
+                case.claim(answer == (
+                    6 if count > LIMIT or days > DAYS else 5 if days == DAYS
+                    else 4 if count + length > LIMIT else 0),
+                    "the day's limit")
+                case.call("close", after[0], rng.randbytes(600),
+                          random_words(rng, 1))
+
+
+def add_big(case, current, piece, day, want):
+    """An add whose hash words are judged by the open day's digest."""
+    scheme, n, f, days, count = record.fields(current)
+    after = current
+    if want == 0:
+        count += len(piece)
+        rest = day[len(day) - (count + 1) % 64:] if (count + 1) % 64 else b""
+        after = record.pack((scheme, n, f, days, count), record.FIRST,
+                            record.running_of(current), rest)
+    digest = hashlib.sha256(day).digest()
+    answer, given = case.call("add", current, piece,
+                              want=(want, (after, piece)), day=digest)
+    return given[0]
+
+
+def big_day(case):
+    """A day of 16,777,216 bytes, in one piece and in several."""
+    rng, scheme = case.rng, case.scheme
+    data = rng.randbytes(LIMIT + 1)
+    cuts = sorted(rng.randrange(LIMIT) for _ in range(3))
+    for bounds in ([0, LIMIT], [0, *cuts, LIMIT]):
+        _, after = case.call("open", scheme, 1, 1, rng.randbytes(record.SIZE))
+        current = add_big(case, after[-1], data, b"\0", 4)
+        for a, b in zip(bounds, bounds[1:]):
+            current = add_big(case, current, data[a:b], b"\0" + data[:b], 0)
+            current = add_big(case, current, b"", b"\0" + data[:b], 0)
+            current = add_big(case, current, data[:LIMIT - b + 1],
+                              b"\0" + data[:b], 4)
+        h = daybook.digest(data[:LIMIT])
+        part = rng.randbytes(100)
+        answer, after = case.call("close", current, part,
+                                  random_words(rng, 1))
+        case.claim(answer == 0 and after[1][:32]
+                   == daybook.link(bytes(32), h), "the value of a big day")
+
+
+def big_ledger(case):
+    """Days of a ledger at the limit and over it."""
+    rng, scheme = case.rng, case.scheme
+    ledger = rng.randbytes(LIMIT + 2)
+    for ends, answer_due in (((LIMIT, LIMIT + 2), 0),
+                             ((LIMIT + 1, LIMIT + 1), 10),
+                             ((1, LIMIT + 1), 0), ((1, LIMIT + 2), 10),
+                             ((LIMIT + 2, LIMIT + 2), 10),
+                             ((LIMIT, LIMIT + 3), 10)):
+        count = daybook.values(scheme, 1, 2)
+        answer, after = case.call("seal", scheme, 1, 1, 2, ledger, list(ends),
+                                  rng.randbytes(32 * count))
+        case.claim(answer == answer_due, "seal at the day's limit")
+        book = after[-1]
+        answer, after = case.call("check", scheme, 1, 1, 2, ledger,
+                                  list(ends), book, rng.randbytes(64),
+                                  rng.randbytes(count))
+        case.claim(answer == answer_due, "check at the day's limit")
+
+
+def settings_grid(case):
+    """Every N up to 520, every F up to 70, edges of D."""
+    rng, scheme = case.rng, case.scheme
+    sizes = [*range(521), *BAD_SIZES]
+    intervals = [*range(71), *BAD_INTERVALS]
+    pairs = [(n, f) for n in sizes for f in (0, 1, 2, 64, 65)]
+    pairs += [(n, f) for n in (1, 2, 128, 256, 512) for f in intervals]
+    data = rng.randbytes(record.SIZE)
+    for n, f in pairs:
+        case.call("open", scheme, n, f, data)
+        case.call("values", scheme, n, f, f * n & TOP, random_words(rng, 1))
+    for other in (*BAD_SCHEMES, 1, 2, 3):
+        for n, f in ((1, 1), (0, 1), (1, 0), (0, 0), (256, 64)):
+            case.call("open", other, n, f, data)
+            case.call("values", other, n, f, DAYS, random_words(rng, 1))
+    for n in (1, 2, 16, 256):
+        for d in [*range(1030), *range(DAYS - 520, DAYS + 520),
+                  *range(TOP - 520, TOP + 1)]:
+            answer, after = case.call("values", scheme, n, 1, d,
+                                      random_words(rng, 1))
+            if answer == 0:
+                case.claim(after[-1][0] == count_of_chains(scheme, n, d),
+                           "values is not the number of chains")
+
+
+def wide_arrays(case):
+    """An array of 2^32 elements in each call: its length has a low half of 0.
+    """
+    rng, scheme = case.rng, case.scheme
+    n, f, d = 4, 1, 8
+    count = daybook.values(scheme, n, d)
+    days = [rng.randbytes(rng.randint(1, 20)) for _ in range(d)]
+    ledger, ends = join_days(days)
+    book = b"".join(values_of(scheme, n, [daybook.digest(x) for x in days]))
+    settings = scheme, n, f, d
+    _, fresh = record.open_service(scheme, 1, 1)
+    case.call("add", fresh, b"abc", want=(4, (fresh, b"abc")), wide="piece")
+    answer, _ = case.call("close", fresh, rng.randbytes(64),
+                          random_words(rng, 1), wide="part")
+    case.claim(answer == 0, "close is refused")
+    for label in ("ledger", "ends", "book"):
+        answer, _ = case.call("seal", *settings, ledger, ends,
+                              rng.randbytes(32 * count), wide=label)
+        case.claim(answer == 0, "seal is refused")
+    for label in ("ledger", "ends", "book", "work", "outcomes"):
+        answer, _ = case.call("check", *settings, ledger, ends, book,
+                              rng.randbytes(32 * d), rng.randbytes(count),
+                              wide=label)
+        case.claim(answer == 0, "check is refused")
+    for label in ("outcomes", "list"):
+        answer, _ = case.call("read", *settings, table_of(*settings[:2], d, 8),
+                              random_words(rng, d), random_words(rng, 5),
+                              wide=label)
+        case.claim(answer == 0, "read is refused")
+
+
+ONCE = (whole_book, whole_service, big_day, big_ledger, high_bytes,
+        settings_grid, wide_arrays)
+KINDS = ((round_trip, 26), (read_table, 24), (refused, 14), (history, 12),
+         (made_up_calls, 14), (empty_arrays, 5), (number_of_values, 5))
+CHOICES = [kind for kind, weight in KINDS for _ in range(weight)]

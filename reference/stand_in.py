@@ -1,0 +1,91 @@
+"""A library of the interface of daybook.h, made of daybook.py and record.py.
+
+It takes the place of a shared library, to test compare.py itself.
+"""
+
+import ctypes
+from array import array
+
+import daybook
+import record
+
+
+def get(address, length):
+    return ctypes.string_at(address, length) if length else b""
+
+
+def put(address, data):
+    if data:
+        ctypes.memmove(address, bytes(data), len(data))
+
+
+def get_words(address, count):
+    return array("I", get(address, 4 * count)).tolist()
+
+
+def put_words(address, numbers):
+    put(address, array("I", numbers).tobytes())
+
+
+def open_service(scheme, n, f, address):
+    refusal, new = record.open_service(scheme, n, f)
+    put(address, new)
+    return refusal
+
+
+def add(address, piece, length):
+    refusal, new = record.add(get(address, record.SIZE), get(piece, length))
+    put(address, new)
+    return refusal
+
+
+def close(address, part, length, count):
+    refusal, new, values = record.close(get(address, record.SIZE), length)
+    if refusal == 0:
+        put(address, new)
+        put(part, b"".join(values))
+        put_words(count, [len(values)])
+    return refusal
+
+
+def seal(scheme, n, f, d, ledger, ledger_length, ends, count, book, length):
+    after = bytearray(get(book, length))
+    refusal = daybook.seal(scheme, n, f, d, get(ledger, ledger_length),
+                           get_words(ends, count), after)
+    put(book, after)
+    return refusal
+
+
+def check(scheme, n, f, d, ledger, ledger_length, ends, count, book,
+          book_length, work, work_length, outcomes, length):
+    digests = bytearray(get(work, work_length))
+    table = bytearray(get(outcomes, length))
+    refusal = daybook.check(scheme, n, f, d, get(ledger, ledger_length),
+                            get_words(ends, count), get(book, book_length),
+                            digests, table)
+    put(work, digests)
+    put(outcomes, table)
+    return refusal
+
+
+def read(scheme, n, f, d, outcomes, count, places, length, numbers):
+    after = get_words(places, length)
+    result = daybook.read(scheme, n, f, d, get(outcomes, count), after)
+    if result.refusal == 0:
+        put_words(places, after)
+        put_words(numbers, [result.listed, result.first, result.low,
+                            result.high, result.last_good])
+    return result.refusal
+
+
+def values(scheme, n, f, d, address):
+    refusal, count = daybook.number_of_values(scheme, n, f, d)
+    if refusal == 0:
+        put_words(address, [count])
+    return refusal
+
+
+def calls():
+    """The seven calls, by name."""
+    return {"open": open_service, "add": add, "close": close, "seal": seal,
+            "check": check, "read": read, "values": values}

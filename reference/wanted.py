@@ -1,0 +1,140 @@
+"""What the calls of daybook.h must give, by daybook.py and record.py.
+
+WANT has a function for each call.  It takes the call's arguments, arrays as
+bytes or as lists of words, and gives the answer and the arguments with the
+arrays as they are afterwards.
+"""
+
+from functools import lru_cache
+
+import daybook
+import record
+
+SUBSETS = 10                # up to this D, reading tries every set of days
+
+
+def front(written, old):
+    """An array after its front was written."""
+    return written + old[len(written):]
+
+
+def want_open(scheme, n, f, old):
+    refusal, new = record.open_service(scheme, n, f)
+    return refusal, (scheme, n, f, new)
+
+
+def want_add(old, piece):
+    refusal, new = record.add(old, piece)
+    return refusal, (new, piece)
+
+
+def want_close(old, part, values):
+    refusal, new, written = record.close(old, len(part))
+    if refusal:
+        return refusal, (old, part, values)
+    return 0, (new, front(b"".join(written), part), (len(written),))
+
+
+def want_seal(scheme, n, f, d, ledger, ends, book):
+    same = scheme, n, f, d, ledger, ends
+    refusal = daybook.seal_refusal(*same, len(book))
+    if refusal:
+        return refusal, (*same, book)
+    digests = day_digests(d, ledger, ends)
+    return 0, (*same, front(b"".join(values_of(scheme, n, digests)), book))
+
+
+def want_check(scheme, n, f, d, ledger, ends, book, work, outcomes):
+    same = scheme, n, f, d, ledger, ends, book
+    refusal = daybook.check_refusal(*same, work, outcomes)
+    if refusal:
+        return refusal, (*same, work, outcomes)
+    digests = day_digests(d, ledger, ends)
+    table = bytes(book[32 * k:32 * k + 32] == v
+                  for k, v in enumerate(values_of(scheme, n, digests)))
+    return 0, (*same, front(b"".join(digests), work), front(table, outcomes))
+
+
+def want_read(scheme, n, f, d, outcomes, places, numbers):
+    same = scheme, n, f, d, outcomes
+    after = list(places)
+    result = daybook.read(*same, after, lister)
+    if result.refusal:
+        return result.refusal, (*same, places, numbers)
+    return 0, (*same, after, (result.listed, result.first, result.low,
+                              result.high, result.last_good))
+
+
+def want_values(scheme, n, f, d, values):
+    refusal, count = daybook.number_of_values(scheme, n, f, d)
+    return refusal, (scheme, n, f, d, values if refusal else (count,))
+
+
+WANT = {"open": want_open, "add": want_add, "close": want_close,
+        "seal": want_seal, "check": want_check, "read": want_read,
+        "values": want_values}
+
+
+def day_digests(d, ledger, ends):
+    return [daybook.digest(day)
+            for day in daybook.ledger_days(d, ledger, ends)]
+
+
+@lru_cache(maxsize=512)
+def chains_of(scheme, n, d):
+    return daybook.chains(scheme, n, d)
+
+
+@lru_cache(maxsize=512)
+def masks_of(scheme, n, d):
+    return daybook.masks(scheme, n, d)
+
+
+@lru_cache(maxsize=None)
+def tables_of(scheme, n, d):
+    """Every table that a set of days gives, with the days of all such sets."""
+    unions = {}
+    for chosen in range(1 << d):
+        table = table_of(scheme, n, d, chosen)
+        unions[table] = unions.get(table, 0) | chosen
+    return {table: daybook.unmask(union) for table, union in unions.items()}
+
+
+def table_of(scheme, n, d, chosen):
+    """The table that the set of days, a mask, gives."""
+    return bytes(m & chosen == 0 for m in masks_of(scheme, n, d))
+
+
+def values_of(scheme, n, digests):
+    """The values of a book: by definition if it is short."""
+    d = len(digests)
+    if d > 16:
+        return daybook._seal_digests(scheme, n, digests)
+    out = []
+    for chain in chains_of(scheme, n, d):
+        v = daybook.START
+        for day in chain:
+            v = daybook.link(v, digests[day - 1])
+        out.append(v)
+    return out
+
+
+def lister(scheme, n, d, table):
+    """The days that reading lists."""
+    if d <= SUBSETS:
+        return tables_of(scheme, n, d).get(bytes(table))
+    if d <= daybook.MASKS_LIMIT:
+        return daybook.list_by_masks(masks_of(scheme, n, d), d, table)
+    return daybook.list_by_counts(scheme, n, d, table)
+
+
+def count_of_chains(scheme, n, d):
+    """The number of values, counted level by level."""
+    blacks = d // n
+    if scheme == 1:
+        return blacks
+    if scheme == 2:
+        return blacks * (2 + daybook.lg(n))
+    levels = range(daybook.lg(d) + 1)
+    once = sum(1 for level in levels if 2 ** level % n == 0)
+    return sum(d // 2 ** level for level in levels) + blacks - once
