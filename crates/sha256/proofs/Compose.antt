@@ -1,12 +1,12 @@
 -- A definition of SHA-256 from the values that the code computes one after the other.
 -- Assumes nothing.
-use Prim.Native.Nat.{ℕ, suc, _+_, _%_}
-use mathlib.Core.Path.{_≡_, refl, ap, ap₂, _∙_}
-use native.Mathlib.Omega.{arith}
+use Prim.Native.Nat.{ℕ, _+_, _%_}
+use mathlib.Core.Path.{_≡_, sym, ap, ap₂, _∙_}
+use native.Mathlib.Nat.{add-zero}
 use mathlib.Core.List.{List, [], _∷_}
 use lib.ListN.{getD, set}
 use Rattle.sha256.specs.Sha256.{plus, ch, maj, big0, big1, small0, small1, wordAt, words, first, second, turned, round, summed}
-use Rattle.sha256.specs.Window.{mixed, slid, slides, four, roundsOn}
+use Rattle.sha256.specs.Window.{mixed, slid, slides, roundsOn}
 
 pub round-of : (v : List ℕ) (k w : ℕ) {x y p q : ℕ}
     → x ≡ first (getD v 4 0) (getD v 5 0) (getD v 6 0) (getD v 7 0) k w
@@ -97,39 +97,43 @@ slides-of w e1 e2 e3 e4 e5 e6 e7 e8 e9 e10 e11 e12 e13 e14 e15 e16 =
     ∙ ap (λ (u : List ℕ). slid u 1) (e1
     )))))))))))))))
 
-pub four-of : (v k : List ℕ) (t a b c d : ℕ) {v1 v2 v3 v4 : List ℕ}
-    → v1 ≡ round v (getD k t 0) a
-    → v2 ≡ round v1 (getD k (t + 1) 0) b
-    → v3 ≡ round v2 (getD k (t + 2) 0) c
-    → v4 ≡ round v3 (getD k (t + 3) 0) d
-    → v4 ≡ four v k t a b c d
-unfolding four
-four-of v k t a b c d e1 e2 e3 e4 =
-    e4 ∙ ap (λ (u : List ℕ). round u (getD k (t + 3) 0) d) (e3
-    ∙ ap (λ (u : List ℕ). round u (getD k (t + 2) 0) c) (e2
-    ∙ ap (λ (u : List ℕ). round u (getD k (t + 1) 0) b) e1))
-
--- the loop over the sixteen rounds, four at a time
-pub rounds-none : (v w k : List ℕ) (t : ℕ) → v ≡ roundsOn v w k t 0
+-- sixteen rounds, one on the other's result
+pub rounds-of : (v w k : List ℕ) (t : ℕ) {v1 v2 v3 v4 v5 v6 v7 v8 v9 v10 v11 v12 v13 v14 v15 v16 : List ℕ}
+    → v1 ≡ round v (getD k t 0) (getD w 0 0)
+    → v2 ≡ round v1 (getD k (t + 1) 0) (getD w 1 0)
+    → v3 ≡ round v2 (getD k (t + 2) 0) (getD w 2 0)
+    → v4 ≡ round v3 (getD k (t + 3) 0) (getD w 3 0)
+    → v5 ≡ round v4 (getD k (t + 4) 0) (getD w 4 0)
+    → v6 ≡ round v5 (getD k (t + 5) 0) (getD w 5 0)
+    → v7 ≡ round v6 (getD k (t + 6) 0) (getD w 6 0)
+    → v8 ≡ round v7 (getD k (t + 7) 0) (getD w 7 0)
+    → v9 ≡ round v8 (getD k (t + 8) 0) (getD w 8 0)
+    → v10 ≡ round v9 (getD k (t + 9) 0) (getD w 9 0)
+    → v11 ≡ round v10 (getD k (t + 10) 0) (getD w 10 0)
+    → v12 ≡ round v11 (getD k (t + 11) 0) (getD w 11 0)
+    → v13 ≡ round v12 (getD k (t + 12) 0) (getD w 12 0)
+    → v14 ≡ round v13 (getD k (t + 13) 0) (getD w 13 0)
+    → v15 ≡ round v14 (getD k (t + 14) 0) (getD w 14 0)
+    → v16 ≡ round v15 (getD k (t + 15) 0) (getD w 15 0)
+    → v16 ≡ roundsOn v w k t 16
 unfolding roundsOn
-rounds-none v w k t = refl
-
-pub rounds-step : (v w k : List ℕ) (t j : ℕ) {u y : List ℕ} → u ≡ roundsOn v w k t j
-    → y ≡ four u k (t + j) (getD w j 0) (getD w (j + 1) 0) (getD w (j + 2) 0) (getD w (j + 3) 0)
-    → y ≡ roundsOn v w k t (j + 4)
-unfolding roundsOn four
-rounds-step v w k t j eu ey =
-    let e : j + 4 ≡ suc (suc (suc (suc j))) = omega arith in
-    let a : t + j + 1 ≡ t + suc j = omega arith in
-    let b : t + j + 2 ≡ t + suc (suc j) = omega arith in
-    let c : t + j + 3 ≡ t + suc (suc (suc j)) = omega arith in
-    let a′ : j + 1 ≡ suc j = omega arith in
-    let b′ : j + 2 ≡ suc (suc j) = omega arith in
-    let c′ : j + 3 ≡ suc (suc (suc j)) = omega arith in
-    rw e (ey ∙ rw (a, b, c, a′, b′, c′, eu))
-
-pub rounds-whole : (v w k : List ℕ) (t j : ℕ) {u : List ℕ} → u ≡ roundsOn v w k t j → j ≡ 16 → u ≡ roundsOn v w k t 16
-rounds-whole v w k t j eu e = eu ∙ ap (roundsOn v w k t) e
+rounds-of v w k t e1 e2 e3 e4 e5 e6 e7 e8 e9 e10 e11 e12 e13 e14 e15 e16 =
+    e16
+    ∙ ap (λ (u : List ℕ). round u (getD k (t + 15) 0) (getD w 15 0)) (e15
+    ∙ ap (λ (u : List ℕ). round u (getD k (t + 14) 0) (getD w 14 0)) (e14
+    ∙ ap (λ (u : List ℕ). round u (getD k (t + 13) 0) (getD w 13 0)) (e13
+    ∙ ap (λ (u : List ℕ). round u (getD k (t + 12) 0) (getD w 12 0)) (e12
+    ∙ ap (λ (u : List ℕ). round u (getD k (t + 11) 0) (getD w 11 0)) (e11
+    ∙ ap (λ (u : List ℕ). round u (getD k (t + 10) 0) (getD w 10 0)) (e10
+    ∙ ap (λ (u : List ℕ). round u (getD k (t + 9) 0) (getD w 9 0)) (e9
+    ∙ ap (λ (u : List ℕ). round u (getD k (t + 8) 0) (getD w 8 0)) (e8
+    ∙ ap (λ (u : List ℕ). round u (getD k (t + 7) 0) (getD w 7 0)) (e7
+    ∙ ap (λ (u : List ℕ). round u (getD k (t + 6) 0) (getD w 6 0)) (e6
+    ∙ ap (λ (u : List ℕ). round u (getD k (t + 5) 0) (getD w 5 0)) (e5
+    ∙ ap (λ (u : List ℕ). round u (getD k (t + 4) 0) (getD w 4 0)) (e4
+    ∙ ap (λ (u : List ℕ). round u (getD k (t + 3) 0) (getD w 3 0)) (e3
+    ∙ ap (λ (u : List ℕ). round u (getD k (t + 2) 0) (getD w 2 0)) (e2
+    ∙ ap (λ (u : List ℕ). round u (getD k (t + 1) 0) (getD w 1 0)) (e1 ∙ ap (λ (n : ℕ). round v (getD k n 0) (getD w 0 0)) (sym (add-zero t)))))))))))))))))
 
 pub first-of : (e f g h k w : ℕ) {a b c d x y : ℕ} → a ≡ big1 e → b ≡ plus h a → c ≡ ch e f g → d ≡ plus b c → x ≡ plus d k → y ≡ plus x w
     → y ≡ first e f g h k w

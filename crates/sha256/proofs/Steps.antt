@@ -128,40 +128,44 @@ rounds-window h w t (suc n) l =
 
 -- ---- the four groups of sixteen rounds
 
-module _ (h m : List ℕ) (sixteen : length m ≡ 16) where
-  abbrev all : List ℕ
-  all = schedule m 64
+abbrev all : List ℕ → List ℕ
+all m = schedule m 64
 
-  start : m ≡ window all 0
-  start = sym (take-all 16 m (omega arith)) ∙ sym (begins m 16 sixteen (omega arith)) ∙ sym (before m 16 64 (omega arith))
+-- what holds before round t
+pub record Before (h m : List ℕ) (t : ℕ) (v w : List ℕ) : Type 0 where
+  pub within : t ≤ 64
+  pub sixteens : t % 16 ≡ 0
+  pub value : v ≡ rounds h (all m) t
+  pub words-are : t < 64 → w ≡ window (all m) t
 
-  group : (t : ℕ) {w v k u : List ℕ} → k ≡ kTable → w ≡ window all t → v ≡ rounds h all t → u ≡ roundsOn v w k t 16 → u ≡ rounds h all (t + 16)
-  group t ek ew ev eu = eu ∙ rw (ek, ew, ev) (rounds-window h all t 16 (omega arith))
+pub before-first : (h m : List ℕ) → length m ≡ 16 → Before h m 0 h m
+unfolding rounds
+before-first h m l =
+    record {
+      within = omega arith;
+      sixteens = refl;
+      value = refl;
+      words-are = λ t. sym (take-all 16 m (omega arith)) ∙ sym (begins m 16 l (omega arith)) ∙ sym (before m 16 64 (omega arith));
+    }
 
-  along : (t : ℕ) {w x : List ℕ} → t + 32 ≤ 64 → w ≡ window all t → x ≡ slides 16 w → x ≡ window all (t + 16)
-  along t l ew ex = ex ∙ rw ew (slides-window m 64 t l)
+group : (h m : List ℕ) (t : ℕ) {v w k u : List ℕ} → Before h m t v w → t < 64 → k ≡ kTable → u ≡ roundsOn v w k t 16 → u ≡ rounds h (all m) (t + 16)
+group h m t b l ek eu = eu ∙ rw (ek, b .words-are l, b .value) (rounds-window h (all m) t 16 (omega arith))
 
-  none : h ≡ rounds h all 0
-  unfolding rounds
-  none = refl
+along : (h m : List ℕ) (t : ℕ) {v w x : List ℕ} → Before h m t v w → t < 48 → x ≡ slides 16 w → x ≡ window (all m) (t + 16)
+along h m t b l ex = ex ∙ rw (b .words-are (omega arith)) (slides-window m 64 t (let s = b .sixteens in omega arith))
 
-  pub compress-of : {k w1 w2 w3 v0 v1 v2 v3 r : List ℕ} → k ≡ kTable
-      → v0 ≡ roundsOn h m k 0 16
-      → w1 ≡ slides 16 m
-      → v1 ≡ roundsOn v0 w1 k 16 16
-      → w2 ≡ slides 16 w1
-      → v2 ≡ roundsOn v1 w2 k 32 16
-      → w3 ≡ slides 16 w2
-      → v3 ≡ roundsOn v2 w3 k 48 16
-      → r ≡ summed h v3
-      → r ≡ compress h m
-  unfolding compress
-  compress-of {w1} {w2} {w3} {v0} {v1} {v2} {v3} ek f0 e1 f1 e2 f2 e3 f3 er =
-      let c0 : v0 ≡ rounds h all 16 = group 0 ek start none f0 in
-      let a1 : w1 ≡ window all 16 = along 0 (omega arith) start e1 in
-      let c1 : v1 ≡ rounds h all 32 = group 16 ek a1 c0 f1 in
-      let a2 : w2 ≡ window all 32 = along 16 (omega arith) a1 e2 in
-      let c2 : v2 ≡ rounds h all 48 = group 32 ek a2 c1 f2 in
-      let a3 : w3 ≡ window all 48 = along 32 (omega arith) a2 e3 in
-      let c3 : v3 ≡ rounds h all 64 = group 48 ek a3 c2 f3 in
-      er ∙ ap (summed h) c3
+pub before-next : (h m : List ℕ) (t : ℕ) {v w k u : List ℕ} → Before h m t v w → t < 64 → k ≡ kTable → u ≡ roundsOn v w k t 16
+    → (x : List ℕ) → (t < 48 → x ≡ slides 16 w) → Before h m (t + 16) u x
+before-next h m t b l ek eu x ex =
+    record {
+      within = let s = b .sixteens in omega arith;
+      sixteens = let s = b .sixteens in omega arith;
+      value = group h m t b l ek eu;
+      words-are = λ q. along h m t b (let s = b .sixteens in omega arith) (ex (let s = b .sixteens in omega arith));
+    }
+
+pub compressed : (h m : List ℕ) (t : ℕ) {v w r : List ℕ} → Before h m t v w → 64 ≤ t → r ≡ summed h v → r ≡ compress h m
+unfolding compress
+compressed h m t b l er =
+    let e : t ≡ 64 = let w = b .within in omega arith in
+    er ∙ ap (summed h) (b .value ∙ ap (rounds h (all m)) e)

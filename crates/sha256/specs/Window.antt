@@ -20,11 +20,6 @@ unfoldable pub slides : ℕ → List ℕ → List ℕ
 slides zero w = w
 slides (suc n) w = slid (slides n w) n
 
--- four rounds, from round t on, with the constants k
-unfoldable pub four : List ℕ → List ℕ → ℕ → ℕ → ℕ → ℕ → ℕ → List ℕ
-four v k t a b c d =
-    round (round (round (round v (getD k t 0) a) (getD k (t + 1) 0) b) (getD k (t + 2) 0) c) (getD k (t + 3) 0) d
-
 -- n rounds on a window, from round t on, with the constants k
 unfoldable pub roundsOn : List ℕ → List ℕ → List ℕ → ℕ → ℕ → List ℕ
 roundsOn v w k t zero = v

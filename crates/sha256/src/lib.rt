@@ -253,45 +253,48 @@ fn words(b: &[u8]) -> [u32; 16]
     ]
 }
 
-// Four rounds, from round t on.
-fn four(v: [u32; 8], k: &[u32; 64], t: usize, a: u32, b: u32, c: u32, d: u32) -> [u32; 8]
-    requires { ⌜ t + 4 ≤ 64 ⌝ }
-    ensures { λ r. ⌜ r ≡ form.four v (now (k .entry)) t a b c d ⌝ }
-{
-    let v1 = round(v, k[t], a);
-    let v2 = round(v1, k[t + 1], b);
-    let v3 = round(v2, k[t + 2], c);
-    round(v3, k[t + 3], d)
-}
-
-// Sixteen rounds, from round t on. `four` is called in one place, so that the compiler puts it there.
+// Sixteen rounds, from round t on, in a straight line.
 fn rounds(v: [u32; 8], w: [u32; 16], k: &[u32; 64], t: usize) -> [u32; 8]
     requires { ⌜ t + 16 ≤ 64 ⌝ }
     ensures { λ r. ⌜ r ≡ form.roundsOn v w (now (k .entry)) t 16 ⌝ }
 {
-    let mut u = v;
-    let mut j = 0;
-    while j < 16 {
-        let y = four(u, k, t + j, w[j], w[j + 1], w[j + 2], w[j + 3]);
-        u = y;
-        j += 4;
-    }
-    u
+    let v1 = round(v, k[t], w[0]);
+    let v2 = round(v1, k[t + 1], w[1]);
+    let v3 = round(v2, k[t + 2], w[2]);
+    let v4 = round(v3, k[t + 3], w[3]);
+    let v5 = round(v4, k[t + 4], w[4]);
+    let v6 = round(v5, k[t + 5], w[5]);
+    let v7 = round(v6, k[t + 6], w[6]);
+    let v8 = round(v7, k[t + 7], w[7]);
+    let v9 = round(v8, k[t + 8], w[8]);
+    let v10 = round(v9, k[t + 9], w[9]);
+    let v11 = round(v10, k[t + 10], w[10]);
+    let v12 = round(v11, k[t + 11], w[11]);
+    let v13 = round(v12, k[t + 12], w[12]);
+    let v14 = round(v13, k[t + 13], w[13]);
+    let v15 = round(v14, k[t + 14], w[14]);
+    round(v15, k[t + 15], w[15])
 }
 
-// The hash value after h, by the block whose words are m.
+// The hash value after h, by the block whose words are m. `rounds` and `slides` are called in one place each, so that the
+// compiler puts them there.
 pub fn compress(h: [u32; 8], m: [u32; 16]) -> [u32; 8]
     ensures { λ r. ⌜ r ≡ spec.compress h m ⌝ }
 {
     let k = table();
-    let v0 = rounds(h, m, &k, 0);
-    let w1 = slides(m);
-    let v1 = rounds(v0, w1, &k, 16);
-    let w2 = slides(w1);
-    let v2 = rounds(v1, w2, &k, 32);
-    let w3 = slides(w2);
-    let v3 = rounds(v2, w3, &k, 48);
-    summed(h, v3)
+    let mut v = h;
+    let mut w = m;
+    let mut t = 0usize;
+    while t < 64 {
+        let u = rounds(v, w, &k, t);
+        v = u;
+        if t < 48 {
+            let x = slides(w);
+            w = x;
+        }
+        t += 16;
+    }
+    summed(h, v)
 }
 
 // The hash value after h, by the whole blocks of s, one after the other.

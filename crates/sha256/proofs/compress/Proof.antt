@@ -1,50 +1,60 @@
 -- `sha256::compress` meets its contract.
-use Rattle.sha256.proofs.Steps.{compress-of}
+use Prim.Native.Nat.{_-_}
+use mathlib.Core.Path.{_∙_}
+use mathlib.Core.Logic.{⊎-elim}
+use native.Mathlib.Omega.{arith}
+use Rattle.sha256.proofs.Steps.{Before, before-first, before-next, compressed}
 use borrow.Author.Needs.{needs}
 use Rattle.sha256.proofs.compress.Statement.{statement}
 use Rattle.sha256.proofs.compress.Tie as tie
 
-table-requires : tie.Need-table-requires
+abbrev Inv-loop : tie.InvT-loop
+Inv-loop h k v₀ w₀ t₀ v w t = Before h w₀ t v w
+
+abbrev μ-loop : tie.MeasureT-loop
+μ-loop h k v₀ w₀ t₀ v w t = 64 - t
+
+table-requires : tie.Need-table-requires Inv-loop μ-loop
 table-requires c κs = search needs
 
-rounds-requires : tie.Need-rounds-requires
-rounds-requires c κs = search needs
+loop-holds : tie.Need-loop-holds Inv-loop μ-loop
+loop-holds c = before-first _ _ (search needs)
 
-slides-requires : tie.Need-slides-requires
+rounds-requires : tie.Need-rounds-requires Inv-loop μ-loop
+rounds-requires c κs = let s = c .before .before .loop .inv .sixteens in omega arith
+
+slides-requires : tie.Need-slides-requires Inv-loop μ-loop
 slides-requires c κs = search needs
 
-rounds-requires-2 : tie.Need-rounds-requires-2
-rounds-requires-2 c κs = search needs
+add-t : tie.Need-add-t Inv-loop μ-loop
+add-t c = search needs
 
-slides-requires-2 : tie.Need-slides-requires-2
-slides-requires-2 c κs = search needs
+loop-less : tie.Need-loop-less Inv-loop μ-loop
+loop-less c = search needs
 
-rounds-requires-3 : tie.Need-rounds-requires-3
-rounds-requires-3 c κs = search needs
+loop-again : tie.Need-loop-again Inv-loop μ-loop
+loop-again c =
+    before-next _ _ _ (c .before .before .before .before .loop .inv) (search needs) (c .before .before .before .before .before .table .ensures) (c .before .rounds .ensures) (c .if1 .w)
+    (λ q. ⊎-elim (λ a. a .2 ∙ a .1 .ensures) (λ a. absurd (let l = a .0 .left in omega arith)) (c .if1 .came))
 
-slides-requires-3 : tie.Need-slides-requires-3
-slides-requires-3 c κs = search needs
-
-rounds-requires-4 : tie.Need-rounds-requires-4
-rounds-requires-4 c κs = search needs
-
-summed-requires : tie.Need-summed-requires
+summed-requires : tie.Need-summed-requires Inv-loop μ-loop
 summed-requires c κs = search needs
 
-returns : tie.Need-returns
-returns c = compress-of _ _ (search needs) (c .before .before .before .before .before .before .before .before .before .before .before .before .table .ensures) (c .before .before .before .before .before .before .before .before .before .before .rounds .ensures) (c .before .before .before .before .before .before .before .before .before .slides .ensures) (c .before .before .before .before .before .before .before .rounds2 .ensures) (c .before .before .before .before .before .before .slides2 .ensures) (c .before .before .before .before .rounds3 .ensures) (c .before .before .before .slides3 .ensures) (c .before .rounds4 .ensures) (c .summed .ensures)
+returns : tie.Need-returns Inv-loop μ-loop
+returns c = compressed _ _ _ (c .before .before .loop .inv) (omega arith) (c .summed .ensures)
 
 pub compress-spec : {M : Type 1} → statement M
 compress-spec =
     tie.close
     (tie.spec
+    Inv-loop
+    μ-loop
     table-requires
+    loop-holds
     rounds-requires
     slides-requires
-    rounds-requires-2
-    slides-requires-2
-    rounds-requires-3
-    slides-requires-3
-    rounds-requires-4
+    add-t
+    loop-less
+    loop-again
     summed-requires
     returns)

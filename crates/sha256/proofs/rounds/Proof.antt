@@ -1,94 +1,331 @@
 -- `sha256::rounds` meets its contract.
-use Prim.Native.Nat.{_≤_, _%_, _-_}
-use mathlib.Core.Path.{_≡_}
 use native.Mathlib.Omega.{arith}
+use Rattle.sha256.proofs.Compose.{rounds-of}
 use borrow.Author.Needs.{needs}
-use Rattle.sha256.specs.Window as form
-use Rattle.sha256.proofs.Compose.{rounds-none, rounds-step, rounds-whole}
 use Rattle.sha256.proofs.rounds.Statement.{statement}
 use Rattle.sha256.proofs.rounds.Tie as tie
 
-abbrev Inv-loop : tie.InvT-loop
-Inv-loop k t w u₀ j₀ u j = (j ≤ 16) × (j % 4 ≡ 0) × (u ≡ form.roundsOn u₀ w k t j)
+mul-round : tie.Need-mul-round
+mul-round c = search needs
 
-abbrev μ-loop : tie.MeasureT-loop
-μ-loop k t w u₀ j₀ u j = 16 - j
+element-copy-out-round : tie.Need-element-copy-out-round
+element-copy-out-round c = search needs
 
-loop-holds : tie.Need-loop-holds Inv-loop μ-loop
-loop-holds c = (search needs, search needs, rounds-none _ _ _ _)
+array-read-round : tie.Need-array-read-round
+array-read-round c = search needs
 
-add-four : tie.Need-add-four Inv-loop μ-loop
-add-four c = search needs
+round-requires : tie.Need-round-requires
+round-requires c κs = search needs
 
-mul-four : tie.Need-mul-four Inv-loop μ-loop
-mul-four c = search needs
+add-round : tie.Need-add-round
+add-round c = search needs
 
-array-read-four : tie.Need-array-read-four Inv-loop μ-loop
-array-read-four c = search needs
+mul-round-2 : tie.Need-mul-round-2
+mul-round-2 c = search needs
 
-add-four-2 : tie.Need-add-four-2 Inv-loop μ-loop
-add-four-2 c = search needs
+element-copy-out-round-2 : tie.Need-element-copy-out-round-2
+element-copy-out-round-2 c = search needs
 
-mul-four-2 : tie.Need-mul-four-2 Inv-loop μ-loop
-mul-four-2 c = search needs
+array-read-round-2 : tie.Need-array-read-round-2
+array-read-round-2 c = search needs
 
-array-read-four-2 : tie.Need-array-read-four-2 Inv-loop μ-loop
-array-read-four-2 c = search needs
+round-requires-2 : tie.Need-round-requires-2
+round-requires-2 c κs = search needs
 
-add-four-3 : tie.Need-add-four-3 Inv-loop μ-loop
-add-four-3 c = search needs
+add-round-2 : tie.Need-add-round-2
+add-round-2 c = search needs
 
-mul-four-3 : tie.Need-mul-four-3 Inv-loop μ-loop
-mul-four-3 c = search needs
+mul-round-3 : tie.Need-mul-round-3
+mul-round-3 c = search needs
 
-array-read-four-3 : tie.Need-array-read-four-3 Inv-loop μ-loop
-array-read-four-3 c = search needs
+element-copy-out-round-3 : tie.Need-element-copy-out-round-3
+element-copy-out-round-3 c = search needs
 
-add-four-4 : tie.Need-add-four-4 Inv-loop μ-loop
-add-four-4 c = search needs
+array-read-round-3 : tie.Need-array-read-round-3
+array-read-round-3 c = search needs
 
-mul-four-4 : tie.Need-mul-four-4 Inv-loop μ-loop
-mul-four-4 c = search needs
+round-requires-3 : tie.Need-round-requires-3
+round-requires-3 c κs = search needs
 
-array-read-four-4 : tie.Need-array-read-four-4 Inv-loop μ-loop
-array-read-four-4 c = search needs
+add-round-3 : tie.Need-add-round-3
+add-round-3 c = search needs
 
-four-requires : tie.Need-four-requires Inv-loop μ-loop
-four-requires c κs = search needs
+mul-round-4 : tie.Need-mul-round-4
+mul-round-4 c = search needs
 
-add-j : tie.Need-add-j Inv-loop μ-loop
-add-j c = search needs
+element-copy-out-round-4 : tie.Need-element-copy-out-round-4
+element-copy-out-round-4 c = search needs
 
-loop-less : tie.Need-loop-less Inv-loop μ-loop
-loop-less c = search needs
+array-read-round-4 : tie.Need-array-read-round-4
+array-read-round-4 c = search needs
 
-loop-again : tie.Need-loop-again Inv-loop μ-loop
-loop-again c = (omega arith, omega arith, rounds-step _ _ _ _ _ (c .before .before .loop .inv .2) (c .four .ensures))
+round-requires-4 : tie.Need-round-requires-4
+round-requires-4 c κs = search needs
 
-returns : tie.Need-returns Inv-loop μ-loop
-returns c = rounds-whole _ _ _ _ _ (c .before .loop .inv .2) (omega arith)
+add-round-4 : tie.Need-add-round-4
+add-round-4 c = search needs
+
+mul-round-5 : tie.Need-mul-round-5
+mul-round-5 c = search needs
+
+element-copy-out-round-5 : tie.Need-element-copy-out-round-5
+element-copy-out-round-5 c = search needs
+
+array-read-round-5 : tie.Need-array-read-round-5
+array-read-round-5 c = search needs
+
+round-requires-5 : tie.Need-round-requires-5
+round-requires-5 c κs = search needs
+
+add-round-5 : tie.Need-add-round-5
+add-round-5 c = search needs
+
+mul-round-6 : tie.Need-mul-round-6
+mul-round-6 c = search needs
+
+element-copy-out-round-6 : tie.Need-element-copy-out-round-6
+element-copy-out-round-6 c = search needs
+
+array-read-round-6 : tie.Need-array-read-round-6
+array-read-round-6 c = search needs
+
+round-requires-6 : tie.Need-round-requires-6
+round-requires-6 c κs = search needs
+
+add-round-6 : tie.Need-add-round-6
+add-round-6 c = search needs
+
+mul-round-7 : tie.Need-mul-round-7
+mul-round-7 c = search needs
+
+element-copy-out-round-7 : tie.Need-element-copy-out-round-7
+element-copy-out-round-7 c = search needs
+
+array-read-round-7 : tie.Need-array-read-round-7
+array-read-round-7 c = search needs
+
+round-requires-7 : tie.Need-round-requires-7
+round-requires-7 c κs = search needs
+
+add-round-7 : tie.Need-add-round-7
+add-round-7 c = search needs
+
+mul-round-8 : tie.Need-mul-round-8
+mul-round-8 c = search needs
+
+element-copy-out-round-8 : tie.Need-element-copy-out-round-8
+element-copy-out-round-8 c = search needs
+
+array-read-round-8 : tie.Need-array-read-round-8
+array-read-round-8 c = search needs
+
+round-requires-8 : tie.Need-round-requires-8
+round-requires-8 c κs = search needs
+
+add-round-8 : tie.Need-add-round-8
+add-round-8 c = search needs
+
+mul-round-9 : tie.Need-mul-round-9
+mul-round-9 c = search needs
+
+element-copy-out-round-9 : tie.Need-element-copy-out-round-9
+element-copy-out-round-9 c = search needs
+
+array-read-round-9 : tie.Need-array-read-round-9
+array-read-round-9 c = search needs
+
+round-requires-9 : tie.Need-round-requires-9
+round-requires-9 c κs = search needs
+
+add-round-9 : tie.Need-add-round-9
+add-round-9 c = search needs
+
+mul-round-10 : tie.Need-mul-round-10
+mul-round-10 c = search needs
+
+element-copy-out-round-10 : tie.Need-element-copy-out-round-10
+element-copy-out-round-10 c = search needs
+
+array-read-round-10 : tie.Need-array-read-round-10
+array-read-round-10 c = search needs
+
+round-requires-10 : tie.Need-round-requires-10
+round-requires-10 c κs = search needs
+
+add-round-10 : tie.Need-add-round-10
+add-round-10 c = search needs
+
+mul-round-11 : tie.Need-mul-round-11
+mul-round-11 c = search needs
+
+element-copy-out-round-11 : tie.Need-element-copy-out-round-11
+element-copy-out-round-11 c = search needs
+
+array-read-round-11 : tie.Need-array-read-round-11
+array-read-round-11 c = search needs
+
+round-requires-11 : tie.Need-round-requires-11
+round-requires-11 c κs = search needs
+
+add-round-11 : tie.Need-add-round-11
+add-round-11 c = omega (arith, c .before .before .before .before .before .before .before .before .before .before .before .before .before .before .before .before .before .before .before .before .before .before .pre)
+
+mul-round-12 : tie.Need-mul-round-12
+mul-round-12 c = omega (arith, c .before .before .before .before .before .before .before .before .before .before .before .before .before .before .before .before .before .before .before .before .before .before .pre)
+
+element-copy-out-round-12 : tie.Need-element-copy-out-round-12
+element-copy-out-round-12 c = omega (arith, c .before .before .before .before .before .before .before .before .before .before .before .before .before .before .before .before .before .before .before .before .before .before .pre)
+
+array-read-round-12 : tie.Need-array-read-round-12
+array-read-round-12 c = search needs
+
+round-requires-12 : tie.Need-round-requires-12
+round-requires-12 c κs = search needs
+
+add-round-12 : tie.Need-add-round-12
+add-round-12 c = omega (arith, c .before .before .before .before .before .before .before .before .before .before .before .before .before .before .before .before .before .before .before .before .before .before .before .before .pre)
+
+mul-round-13 : tie.Need-mul-round-13
+mul-round-13 c = omega (arith, c .before .before .before .before .before .before .before .before .before .before .before .before .before .before .before .before .before .before .before .before .before .before .before .before .pre)
+
+element-copy-out-round-13 : tie.Need-element-copy-out-round-13
+element-copy-out-round-13 c = omega (arith, c .before .before .before .before .before .before .before .before .before .before .before .before .before .before .before .before .before .before .before .before .before .before .before .before .pre)
+
+array-read-round-13 : tie.Need-array-read-round-13
+array-read-round-13 c = search needs
+
+round-requires-13 : tie.Need-round-requires-13
+round-requires-13 c κs = search needs
+
+add-round-13 : tie.Need-add-round-13
+add-round-13 c = omega (arith, c .before .before .before .before .before .before .before .before .before .before .before .before .before .before .before .before .before .before .before .before .before .before .before .before .before .before .pre)
+
+mul-round-14 : tie.Need-mul-round-14
+mul-round-14 c = omega (arith, c .before .before .before .before .before .before .before .before .before .before .before .before .before .before .before .before .before .before .before .before .before .before .before .before .before .before .pre)
+
+element-copy-out-round-14 : tie.Need-element-copy-out-round-14
+element-copy-out-round-14 c = omega (arith, c .before .before .before .before .before .before .before .before .before .before .before .before .before .before .before .before .before .before .before .before .before .before .before .before .before .before .pre)
+
+array-read-round-14 : tie.Need-array-read-round-14
+array-read-round-14 c = search needs
+
+round-requires-14 : tie.Need-round-requires-14
+round-requires-14 c κs = search needs
+
+add-round-14 : tie.Need-add-round-14
+add-round-14 c = omega (arith, c .before .before .before .before .before .before .before .before .before .before .before .before .before .before .before .before .before .before .before .before .before .before .before .before .before .before .before .before .pre)
+
+mul-round-15 : tie.Need-mul-round-15
+mul-round-15 c = omega (arith, c .before .before .before .before .before .before .before .before .before .before .before .before .before .before .before .before .before .before .before .before .before .before .before .before .before .before .before .before .pre)
+
+element-copy-out-round-15 : tie.Need-element-copy-out-round-15
+element-copy-out-round-15 c = omega (arith, c .before .before .before .before .before .before .before .before .before .before .before .before .before .before .before .before .before .before .before .before .before .before .before .before .before .before .before .before .pre)
+
+array-read-round-15 : tie.Need-array-read-round-15
+array-read-round-15 c = search needs
+
+round-requires-15 : tie.Need-round-requires-15
+round-requires-15 c κs = search needs
+
+add-round-15 : tie.Need-add-round-15
+add-round-15 c = omega (arith, c .before .before .before .before .before .before .before .before .before .before .before .before .before .before .before .before .before .before .before .before .before .before .before .before .before .before .before .before .before .before .pre)
+
+mul-round-16 : tie.Need-mul-round-16
+mul-round-16 c = omega (arith, c .before .before .before .before .before .before .before .before .before .before .before .before .before .before .before .before .before .before .before .before .before .before .before .before .before .before .before .before .before .before .pre)
+
+element-copy-out-round-16 : tie.Need-element-copy-out-round-16
+element-copy-out-round-16 c = omega (arith, c .before .before .before .before .before .before .before .before .before .before .before .before .before .before .before .before .before .before .before .before .before .before .before .before .before .before .before .before .before .before .pre)
+
+array-read-round-16 : tie.Need-array-read-round-16
+array-read-round-16 c = search needs
+
+round-requires-16 : tie.Need-round-requires-16
+round-requires-16 c κs = search needs
+
+returns : tie.Need-returns
+returns c = rounds-of _ _ _ _ (c .before .before .before .before .before .before .before .before .before .before .before .before .before .before .before .before .before .before .before .before .before .before .before .before .before .before .before .before .before .before .round .ensures) (c .before .before .before .before .before .before .before .before .before .before .before .before .before .before .before .before .before .before .before .before .before .before .before .before .before .before .before .before .round2 .ensures) (c .before .before .before .before .before .before .before .before .before .before .before .before .before .before .before .before .before .before .before .before .before .before .before .before .before .before .round3 .ensures) (c .before .before .before .before .before .before .before .before .before .before .before .before .before .before .before .before .before .before .before .before .before .before .before .before .round4 .ensures) (c .before .before .before .before .before .before .before .before .before .before .before .before .before .before .before .before .before .before .before .before .before .before .round5 .ensures) (c .before .before .before .before .before .before .before .before .before .before .before .before .before .before .before .before .before .before .before .before .round6 .ensures) (c .before .before .before .before .before .before .before .before .before .before .before .before .before .before .before .before .before .before .round7 .ensures) (c .before .before .before .before .before .before .before .before .before .before .before .before .before .before .before .before .round8 .ensures) (c .before .before .before .before .before .before .before .before .before .before .before .before .before .before .round9 .ensures) (c .before .before .before .before .before .before .before .before .before .before .before .before .round10 .ensures) (c .before .before .before .before .before .before .before .before .before .before .round11 .ensures) (c .before .before .before .before .before .before .before .before .round12 .ensures) (c .before .before .before .before .before .before .round13 .ensures) (c .before .before .before .before .round14 .ensures) (c .before .before .round15 .ensures) (c .round16 .ensures)
 
 pub rounds-spec : {M : Type 1} → statement M
 rounds-spec =
     tie.close
     (tie.spec
-    Inv-loop
-    μ-loop
-    loop-holds
-    add-four
-    mul-four
-    array-read-four
-    add-four-2
-    mul-four-2
-    array-read-four-2
-    add-four-3
-    mul-four-3
-    array-read-four-3
-    add-four-4
-    mul-four-4
-    array-read-four-4
-    four-requires
-    add-j
-    loop-less
-    loop-again
+    mul-round
+    element-copy-out-round
+    array-read-round
+    round-requires
+    add-round
+    mul-round-2
+    element-copy-out-round-2
+    array-read-round-2
+    round-requires-2
+    add-round-2
+    mul-round-3
+    element-copy-out-round-3
+    array-read-round-3
+    round-requires-3
+    add-round-3
+    mul-round-4
+    element-copy-out-round-4
+    array-read-round-4
+    round-requires-4
+    add-round-4
+    mul-round-5
+    element-copy-out-round-5
+    array-read-round-5
+    round-requires-5
+    add-round-5
+    mul-round-6
+    element-copy-out-round-6
+    array-read-round-6
+    round-requires-6
+    add-round-6
+    mul-round-7
+    element-copy-out-round-7
+    array-read-round-7
+    round-requires-7
+    add-round-7
+    mul-round-8
+    element-copy-out-round-8
+    array-read-round-8
+    round-requires-8
+    add-round-8
+    mul-round-9
+    element-copy-out-round-9
+    array-read-round-9
+    round-requires-9
+    add-round-9
+    mul-round-10
+    element-copy-out-round-10
+    array-read-round-10
+    round-requires-10
+    add-round-10
+    mul-round-11
+    element-copy-out-round-11
+    array-read-round-11
+    round-requires-11
+    add-round-11
+    mul-round-12
+    element-copy-out-round-12
+    array-read-round-12
+    round-requires-12
+    add-round-12
+    mul-round-13
+    element-copy-out-round-13
+    array-read-round-13
+    round-requires-13
+    add-round-13
+    mul-round-14
+    element-copy-out-round-14
+    array-read-round-14
+    round-requires-14
+    add-round-14
+    mul-round-15
+    element-copy-out-round-15
+    array-read-round-15
+    round-requires-15
+    add-round-15
+    mul-round-16
+    element-copy-out-round-16
+    array-read-round-16
+    round-requires-16
     returns)
