@@ -5,9 +5,7 @@ use Prim.Native.Nat.{ℕ, zero, suc, pred, _+_, _-_, _*_, _≤_, _<_}
 use native.Mathlib.Omega.{arith}
 use lib.ListN.{length, getD, take, length-append, List·getD-append}
 use lib.Seq.{take-length}
-use Rattle.evidence.specs.Lists.{_among_}
-use Rattle.evidence.specs.Tables.{days, Within, tableOf}
-use Rattle.evidence.specs.Values.{dayOf, changed, value, values, outcomes, NoCollision}
+use Rattle.evidence.specs.Evidence.{_among_, days, Within, tableOf, dayOf, changed, value, values, outcomes, NoCollision}
 use Rattle.evidence.proofs.ListLaws.{upFrom-bounds}
 use Rattle.evidence.proofs.ValueLaws.{values-append, values-same, value-same, length-values, check-table, check-unaltered}
 use Rattle.layouts.specs.Layouts.{chains, closing}
@@ -37,7 +35,7 @@ book-suc s n E day =
 
 -- no day, no value
 pub book-none : (s n : ℕ) → bookOf s n [] ≡ []
-unfolding bookOf chains Rattle.layouts.specs.Layouts.named
+unfolding bookOf chains Rattle.layouts.specs.Layouts.named mathlib.Core.List.flatMap
 book-none s n = refl
 
 pub book-length : (s n : ℕ) (E : List (List ℕ)) → length (bookOf s n E) ≡ 32 * length (chains s n (length E))

@@ -1,7 +1,7 @@
 -- What the running hashes hold after some days: black the value over all of them, each slot the value over the days of its
 -- chain that is not ended yet. The law of the step: they hold it again, and the values of the day are the layout's.
 use mathlib.Core.Path.{_≡_, refl, sym, ap, ap₂, _∙_}
-use mathlib.Core.Bool.{Bool, true, false, not, _&&_}
+use mathlib.Core.Bool.{Bool, true, false, not, _&&_, cond}
 use mathlib.Core.Logic.{_⊎_, inl, inr}
 use mathlib.Core.List.{List, [], _∷_, _++_, map, append-nil, List·Memᴰ, List·Memᴰ·head, List·Memᴰ·tail, List·Memᴰ·append-cases, List·Memᴰ·eq-of-singleton, Memᴰ·of-map}
 use Prim.Native.Nat.{ℕ, zero, suc, pred, _+_, _-_, _*_, _/_, _%_, _^_, _≤_, _<_}
@@ -12,16 +12,13 @@ use lib.ListN.{length, getD, replicate, length-append, length-replicate, getD-re
 use lib.Pow.{pow-pos}
 use lib.Seq.{getD-at}
 use borrow.Author.Tests.{eqb-true, leb-true, le-leb}
-use Rattle.evidence.specs.Lists.{_among_, upFrom, push, keep}
-use Rattle.evidence.specs.Tables.{days, Within}
-use Rattle.evidence.specs.Values.{dayOf, digest, linkInput, value, values}
+use Rattle.evidence.specs.Evidence.{_among_, upFrom, keep, days, Within, dayOf, digest, linkInput, value, values}
 use Rattle.evidence.proofs.ListLaws.{split, true-or-false, and-both, upFrom-bounds, keep-mem, keep-append}
 use Rattle.evidence.proofs.ValueLaws.{value-append, value-same}
-use Rattle.layouts.specs.Allowed.{divides, allowedScheme, allowedN}
-use Rattle.layouts.specs.Layouts.{lg, Name, black, tile, tree, ending, offset, covers, cover, levels, blackToo, only, names, closing}
+use Rattle.layouts.specs.Layouts.{divides, allowedScheme, allowedN, lg, Name, black, tile, tree, ending, offset, covers, cover, levels, blackToo, names, closing}
 use Rattle.layouts.proofs.AllowedLaws.{allowed-scheme-is, allowed-n-is}
 use Rattle.layouts.proofs.Counts.{bit, div-step}
-use Rattle.layouts.proofs.Coverage.{upFrom-snoc, only-mem}
+use Rattle.layouts.proofs.Coverage.{upFrom-snoc, cond-mem}
 use Rattle.sha256.specs.Sha256.{sha256, hashed, bytesOf}
 use Rattle.chains.specs.declared.Value.{Value}
 use Rattle.chains.specs.declared.DayStep.{DayStep}
@@ -285,7 +282,7 @@ pub names-right : (s n : ℕ) (E : List (List ℕ)) (day : List ℕ) (a : allowe
     (hash : bytesOf h ≡ digest sha256 day) → suc (length E) ≤ 65536 → (x : Name) → x among names s n (suc (length E)) → Right s n E day a b slots h held hash x
 names-right zero n E day a b slots h held hash few x m = elim m [ ]
 names-right (suc zero) n E day a b slots h held hash few x m =
-    black-right 1 n E day a b slots h held hash x (only-mem (divides n (suc (length E))) (black (suc (length E)) ∷ []) m .1)
+    black-right 1 n E day a b slots h held hash x (cond-mem (divides n (suc (length E))) (black (suc (length E)) ∷ []) m .1)
 names-right (suc (suc zero)) n E day a b slots h held hash few x m =
     go (List·Memᴰ·append-cases (map (λ (i : ℕ). tile i g) (upFrom 0 (suc (lg n)))) (r .1))
   where
@@ -293,7 +290,7 @@ names-right (suc (suc zero)) n E day a b slots h held hash few x m =
     g = suc (length E)
 
     r : (divides n g ≡ true) × (x among (map (λ i. tile i g) (upFrom 0 (suc (lg n))) ++ (black g ∷ [])))
-    r = only-mem (divides n g) (map (λ i. tile i g) (upFrom 0 (suc (lg n))) ++ (black g ∷ [])) m
+    r = cond-mem (divides n g) (map (λ i. tile i g) (upFrom 0 (suc (lg n))) ++ (black g ∷ [])) m
 
     part : (i : ℕ) × (i among upFrom 0 (suc (lg n))) × (tile i g ≡ x) → Right 2 n E day a b slots h held hash x
     part q =
@@ -315,9 +312,9 @@ names-right (suc (suc (suc zero))) n E day a b slots h held hash few x m = go (L
         let k = level-small (q .0) g (omega arith) few e in
         rw (← (q .2)) (slot-right 3 n E day a b slots h held hash (q .0) (le-leb (q .0) 16 k) e)
 
-    go : (x among map (λ (l : ℕ). tree l g) (levels g)) ⊎ (x among only (blackToo n g) (black g ∷ [])) → Right 3 n E day a b slots h held hash x
+    go : (x among map (λ (l : ℕ). tree l g) (levels g)) ⊎ (x among cond (blackToo n g) (black g ∷ []) []) → Right 3 n E day a b slots h held hash x
     go (inl k) = part (Memᴰ·of-map (λ (l : ℕ). tree l g) (levels g) k)
-    go (inr k) = black-right 3 n E day a b slots h held hash x (only-mem (blackToo n g) (black g ∷ []) k .1)
+    go (inr k) = black-right 3 n E day a b slots h held hash x (cond-mem (blackToo n g) (black g ∷ []) k .1)
 names-right (suc (suc (suc (suc s)))) n E day a b slots h held hash few x m = elim m [ ]
 
 bytes-values : (n : ℕ) (first : List ℕ) (F : List (List ℕ)) (b : Value) (l : List Value) (xs : List Name) →

@@ -11,8 +11,7 @@ use lib.ListN.{length, getD, set}
 use lib.Pow.{pow-pos, pow-lt, pow-mono}
 use borrow.Author.Tests.{eqb-true, eq-eqb, ne-eqb, leb-true, leb-false, le-leb, lt-leb}
 use Rattle.evidence.proofs.ListLaws.{split, true-or-false, bool-ext}
-use Rattle.layouts.specs.Allowed.{divides, allowedScheme, allowedN}
-use Rattle.layouts.specs.Layouts.{lg, offset, covers, storedOnce, blackToo}
+use Rattle.layouts.specs.Layouts.{divides, allowedScheme, allowedN, lg, offset, covers, storedOnce, blackToo}
 use Rattle.layouts.proofs.AllowedLaws.{allowed-scheme-is, allowed-n-is}
 use Rattle.layouts.proofs.Counts.{lg-unique, lg-bounds, power-of, of-power}
 use Rattle.chains.specs.declared.Value.{Value}

@@ -1,6 +1,6 @@
 -- The values of a day stand in the slots, in their order, and then black.
 use mathlib.Core.Path.{_≡_, refl, sym, ap, ap₂, _∙_}
-use mathlib.Core.Bool.{Bool, true, false, not, _&&_}
+use mathlib.Core.Bool.{Bool, true, false, not, _&&_, cond}
 use mathlib.Core.Logic.{_⊎_, inl, inr}
 use mathlib.Core.List.{List, [], _∷_, _++_, map, map-append, append-nil, List·Memᴰ, List·Memᴰ·head, List·Memᴰ·tail}
 use Prim.Native.Nat.{ℕ, zero, suc, pred, _+_, _-_, _*_, _/_, _%_, _^_, _≤_, _<_}
@@ -10,10 +10,9 @@ use lib.ListN.{length, getD, take, set, length-map, length-append}
 use lib.Pow.{pow-mono}
 use lib.Seq.{take-suc, take-suc-set}
 use borrow.Author.Tests.{leb-true, leb-false}
-use Rattle.evidence.specs.Lists.{_among_, upFrom, keep}
+use Rattle.evidence.specs.Evidence.{_among_, upFrom, keep}
 use Rattle.evidence.proofs.ListLaws.{split, true-or-false, and-both, upFrom-mem, keep-mem}
-use Rattle.layouts.specs.Allowed.{divides, allowedScheme, allowedN}
-use Rattle.layouts.specs.Layouts.{lg, Name, black, tile, tree, levels, storedOnce, blackToo, only, names, closing, cover}
+use Rattle.layouts.specs.Layouts.{divides, allowedScheme, allowedN, lg, Name, black, tile, tree, levels, storedOnce, blackToo, names, closing, cover}
 use Rattle.layouts.proofs.AllowedLaws.{allowed-scheme-is, allowed-n-is}
 use Rattle.layouts.proofs.Coverage.{divisor-le, upFrom-snoc}
 use Rattle.layouts.proofs.Counts.{of-power, length-upFrom}
@@ -26,7 +25,7 @@ pub record InSlots (s n g : ℕ) : Type 0 where
   pub many : ℕ
   pub few : many ≤ 17
   pub name : ℕ → Name
-  pub are : names s n g ≡ map name (upFrom 0 many) ++ only (storesBlack s n g) (black g ∷ [])
+  pub are : names s n g ≡ map name (upFrom 0 many) ++ cond (storesBlack s n g) (black g ∷ []) []
   pub slot : (b : Value) (slots : List Value) (i : ℕ) → current b slots (name i) ≡ getD slots i b
   pub room : storesBlack s n g ≡ true → many ≤ 16
 
@@ -79,7 +78,7 @@ in-slots (suc (suc (suc zero))) n g a b p h =
       many = length (levels g);
       few = levels-few g p h;
       name = λ i. tree i g;
-      are = ap (λ (r : List ℕ). map (λ (i : ℕ). tree i g) r ++ only (blackToo n g) (black g ∷ [])) (levels-run g);
+      are = ap (λ (r : List ℕ). map (λ (i : ℕ). tree i g) r ++ cond (blackToo n g) (black g ∷ []) []) (levels-run g);
       slot = λ v vs i. refl;
       room = λ e. levels-room g p h (once (divides n g) (storedOnce g) e);
     }
@@ -103,14 +102,14 @@ slots-front f b slots e (suc m) h =
     zero-plus = omega arith
 
 module _ (s n g : ℕ) (b : Value) (slots : List Value) (size : length slots ≡ 17) (at : InSlots s n g) where
-  count-of : (c : Bool) → storesBlack s n g ≡ c → length (names s n g) ≡ at .many + length (only c (black g ∷ []))
+  count-of : (c : Bool) → storesBlack s n g ≡ c → length (names s n g) ≡ at .many + length (cond c (black g ∷ []) [])
   count-of c e = rw (at .are, e, length-append, length-map, length-upFrom)
 
-  front : (c : Bool) → storesBlack s n g ≡ c → dayValues s n g b slots ≡ take (at .many) slots ++ map (current b slots) (only c (black g ∷ []))
+  front : (c : Bool) → storesBlack s n g ≡ c → dayValues s n g b slots ≡ take (at .many) slots ++ map (current b slots) (cond c (black g ∷ []) [])
   unfolding dayValues
   front c e =
-      rw (at .are, e, map-append (current b slots) (map (at .name) (upFrom 0 (at .many))) (only c (black g ∷ []))) (ap
-      (λ (r : List Value). r ++ map (current b slots) (only c (black g ∷ [])))
+      rw (at .are, e, map-append (current b slots) (map (at .name) (upFrom 0 (at .many))) (cond c (black g ∷ []) [])) (ap
+      (λ (r : List Value). r ++ map (current b slots) (cond c (black g ∷ []) []))
       (slots-front (at .name) b slots (at .slot b slots) (at .many) (omega (arith, at .few))))
 
   -- with black: it goes to the place after the slots

@@ -2,7 +2,7 @@
 use mathlib.Core.List.{List}
 use Prim.Native.Nat.{ℕ}
 use lib.ListN.{length, replicate}
-use Rattle.evidence.specs.Values.{values, inputs}
+use Rattle.evidence.specs.Evidence.{values, inputs}
 use Rattle.layouts.specs.Layouts.{chains}
 use Rattle.sha256.specs.Sha256.{sha256}
 

@@ -6,8 +6,7 @@ use mathlib.Core.List.{List, [], _∷_, _++_, map}
 use Prim.Native.Nat.{ℕ, zero, suc, _^_}
 use lib.Dec.{leb}
 use lib.ListN.{length, getD, take, replicate}
-use Rattle.layouts.specs.Allowed.{divides}
-use Rattle.layouts.specs.Layouts.{lg, Name, black, tile, tree, offset, covers, blackToo, names}
+use Rattle.layouts.specs.Layouts.{divides, lg, Name, black, tile, tree, offset, covers, blackToo, names}
 use Rattle.sha256.specs.Sha256.{hashed, bytesOf}
 use Rattle.chains.specs.declared.DayStep.{DayStep}
 use Rattle.chains.specs.declared.Value.{Value}

@@ -5,8 +5,7 @@ ghost use mathlib.Core.Bool.{true};
 ghost use mathlib.Core.List.{_++_};
 ghost use Prim.Native.Nat.{_+_, _≤_, _<_, _^_};
 ghost use lib.ListN.{length, take, drop};
-ghost use Rattle.layouts.specs.Allowed.{allowedScheme, allowedN};
-ghost use Rattle.layouts.specs.Layouts.{names};
+ghost use Rattle.layouts.specs.Layouts.{allowedScheme, allowedN, names};
 ghost use Rattle.chains.specs.Step as spec;
 ghost use Rattle.chains.specs.Step.{startValue, linked, linksSlot, storesSlot, storesBlack, linkSlot, restartSlot, linkedSlots, restarted, dayValues, Stepped};
 

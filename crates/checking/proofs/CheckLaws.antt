@@ -6,9 +6,7 @@ use Prim.Native.Nat.{ℕ, zero, suc, _+_, _*_, _≤_}
 use native.Mathlib.Omega.{arith}
 use lib.ListN.{length, take, drop}
 use lib.Seq.{take-take, take-nil}
-use Rattle.evidence.specs.Lists.{_among_, same}
-use Rattle.evidence.specs.Tables.{days, tableOf}
-use Rattle.evidence.specs.Values.{dayOf, changed, value, values, outcomes, NoCollision}
+use Rattle.evidence.specs.Evidence.{_among_, same, days, tableOf, dayOf, changed, value, values, outcomes, NoCollision}
 use Rattle.layouts.specs.Layouts.{chains}
 use Rattle.ledger.specs.Ledger.{startOf, daysOf, EndsHold}
 use Rattle.ledger.proofs.DayLaws.{days-read}

@@ -8,7 +8,7 @@ use native.Mathlib.Numerals.{add-one}
 use native.Mathlib.Omega.{arith}
 use lib.ListN.{length, getD, set, take, drop, length-append, length-drop}
 use lib.Seq.{take-all, ext-getD, getD-take, length-take-le, take-suc, set-at, drop-cons, drop-drop, length-front}
-use Rattle.evidence.specs.Lists.{same}
+use Rattle.evidence.specs.Evidence.{same}
 use Rattle.evidence.proofs.ListLaws.{split, same-eq, eq-same, same-refl}
 use Rattle.chains.specs.declared.Value.{Value}
 use Rattle.sha256.specs.Sha256.{bytesOf}

@@ -8,8 +8,7 @@ use lib.Dec.{leb}
 use lib.ListN.{length, drop}
 use borrow.Author.Tests.{leb-true, le-leb, lt-leb}
 use Rattle.evidence.proofs.ListLaws.{and-both}
-use Rattle.layouts.specs.Allowed.{allowedScheme, allowedN, unless, orElse, layoutRefusal}
-use Rattle.layouts.specs.Layouts.{chains}
+use Rattle.layouts.specs.Layouts.{allowedScheme, allowedN, unless, orElse, layoutRefusal, chains}
 use Rattle.layouts.proofs.AllowedLaws.{unless-zero, or-else-zero, layout-is, allowed-d-is}
 use Rattle.ledger.specs.Ledger.{endsRefusal}
 use Rattle.ledger.proofs.EndLaws.{refusal-none}

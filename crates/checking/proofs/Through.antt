@@ -1,20 +1,17 @@
 -- Checking day by day: what the buffers hold after i days.
 use mathlib.Core.Path.{_≡_, refl, sym, ap, ap₂, subst₂, _∙_}
 use mathlib.Core.Bool.{Bool, true, false, cond}
-use mathlib.Core.List.{List, [], _∷_, _++_, map, append-assoc, append-nil, List·Memᴰ, List·Memᴰ·head, List·Memᴰ·tail}
+use mathlib.Core.List.{List, [], _∷_, _++_, map, flatMap, append-assoc, append-nil, List·Memᴰ, List·Memᴰ·head, List·Memᴰ·tail}
 use Prim.Native.Nat.{ℕ, zero, suc, pred, _+_, _-_, _*_, _≤_, _<_}
 use native.Mathlib.Numerals.{add-one}
 use native.Mathlib.Omega.{arith}
 use lib.ListN.{length, getD, take, drop, replicate, length-append, length-drop, List·getD-append}
 use lib.Seq.{drop-drop, getD-at, length-take-le}
 use borrow.Rule.Slice.PartMut.{midOf, putMid}
-use Rattle.evidence.specs.Lists.{_among_, same, upFrom}
-use Rattle.evidence.specs.Tables.{days, Within}
-use Rattle.evidence.specs.Values.{dayOf, digest, value, digests, outcomes}
+use Rattle.evidence.specs.Evidence.{_among_, same, upFrom, days, Within, dayOf, digest, value, outcomes}
 use Rattle.evidence.proofs.ListLaws.{upFrom-bounds}
 use Rattle.evidence.proofs.ValueLaws.{value-same}
-use Rattle.layouts.specs.Allowed.{allowedScheme, allowedN}
-use Rattle.layouts.specs.Layouts.{Name, cover, names, named, closing, chains}
+use Rattle.layouts.specs.Layouts.{allowedScheme, allowedN, Name, cover, names, named, closing, chains}
 use Rattle.layouts.proofs.Counts.{length-upFrom}
 use Rattle.layouts.proofs.Coverage.{chains-within, chains-front, chains-suc, upFrom-snoc}
 use Rattle.ledger.specs.Ledger.{startOf, endOf, dayAt, daysOf, EndsHold}
@@ -33,17 +30,23 @@ use Rattle.checking.specs.Calls.{digestsOf, outcomesOf, outcomeOf, compa
 
 -- ---- digests and outcomes of one more day
 
-digests-append : (L : List (List ℕ)) (xs ys : List ℕ) → digests sha256 L (xs ++ ys) ≡ digests sha256 L xs ++ digests sha256 L ys
-digests-append L [] ys = refl
-digests-append L (x ∷ xs) ys = ap (λ (r : List ℕ). digest sha256 (dayOf L x) ++ r) (digests-append L xs ys) ∙ sym (append-assoc (digest sha256 (dayOf L x)) (digests sha256 L xs) (digests sha256 L ys))
+abbrev digestsIn : List (List ℕ) → List ℕ → List ℕ
+digestsIn L gs = flatMap (λ g. digest sha256 (dayOf L g)) gs
 
-digests-same : (A B : List (List ℕ)) (xs : List ℕ) → ((g : ℕ) → g among xs → dayOf A g ≡ dayOf B g) → digests sha256 A xs ≡ digests sha256 B xs
+digests-append : (L : List (List ℕ)) (xs ys : List ℕ) → digestsIn L (xs ++ ys) ≡ digestsIn L xs ++ digestsIn L ys
+unfolding flatMap
+digests-append L [] ys = refl
+digests-append L (x ∷ xs) ys = ap (λ (r : List ℕ). digest sha256 (dayOf L x) ++ r) (digests-append L xs ys) ∙ sym (append-assoc (digest sha256 (dayOf L x)) (digestsIn L xs) (digestsIn L ys))
+
+digests-same : (A B : List (List ℕ)) (xs : List ℕ) → ((g : ℕ) → g among xs → dayOf A g ≡ dayOf B g) → digestsIn A xs ≡ digestsIn B xs
+unfolding flatMap
 digests-same A B [] f = refl
 digests-same A B (x ∷ xs) f = ap₂ (λ (p q : List ℕ). digest sha256 p ++ q) (f x (List·Memᴰ·head refl)) (digests-same A B xs (λ g m. f g (List·Memᴰ·tail m)))
 
-digests-length : (L : List (List ℕ)) (xs : List ℕ) → length (digests sha256 L xs) ≡ 32 * length xs
+digests-length : (L : List (List ℕ)) (xs : List ℕ) → length (digestsIn L xs) ≡ 32 * length xs
+unfolding flatMap
 digests-length L [] = refl
-digests-length L (x ∷ xs) = omega (arith, length-append (digest sha256 (dayOf L x)) (digests sha256 L xs), sha256-length (0 ∷ dayOf L x), digests-length L xs)
+digests-length L (x ∷ xs) = omega (arith, length-append (digest sha256 (dayOf L x)) (digestsIn L xs), sha256-length (0 ∷ dayOf L x), digests-length L xs)
 
 outcomes-append : (first : List ℕ) (L cs ds : List (List ℕ)) (book : List ℕ) →
     outcomes sha256 first L (cs ++ ds) book ≡ outcomes sha256 first L cs book ++ outcomes sha256 first L ds (drop (32 * length cs) book)
@@ -89,7 +92,7 @@ pub record Through (s n : ℕ) (ledger ends book oldWork oldOutcomes : List ℕ)
   pub outcomes-length-is : length outs ≡ length oldOutcomes
 
 pub none : (s n : ℕ) (ledger ends book work outs : List ℕ) (v : Value) → allowedN n ≡ true → v ≡ startValue s n → Through s n ledger ends book work outs 0 0 v (replicate 17 v) work outs
-unfolding digestsOf outcomesOf chains named
+unfolding digestsOf outcomesOf chains named flatMap
 none s n ledger ends book work outs v a e =
     record {
       holds = rw (days-none ledger ends, e) (holds-fresh s n a);
@@ -147,9 +150,9 @@ module _ (s n d : ℕ) (ledger ends book oldWork oldOutcomes : List ℕ) (ok : R
     new-day = ap (λ (l : List (List ℕ)). getD l i []) snoc ∙ getD-at (E i) day [] [] i days-are
 
     digests-next : digestsOf ledger ends (suc i) ≡ digestsOf ledger ends i ++ digest sha256 day
-    unfolding digestsOf
+    unfolding digestsOf flatMap
     digests-next =
-        ap (digests sha256 (E (suc i))) (upFrom-snoc 1 i ∙ ap (λ (x : ℕ). days i ++ (x ∷ [])) one-more) ∙ digests-append (E (suc i)) (days i) (suc i ∷ []) ∙
+        ap (digestsIn (E (suc i))) (upFrom-snoc 1 i ∙ ap (λ (x : ℕ). days i ++ (x ∷ [])) one-more) ∙ digests-append (E (suc i)) (days i) (suc i ∷ []) ∙
         ap₂ (λ (p q : List ℕ). p ++ q) (digests-same (E (suc i)) (E i) (days i) (λ g m. let k = upFrom-bounds 1 i g m in old-days g (omega arith, omega arith)))
         (ap (λ (p : List ℕ). digest sha256 p ++ []) new-day ∙ append-nil (digest sha256 day))
       where

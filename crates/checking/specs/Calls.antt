@@ -1,17 +1,14 @@
 -- What checking answers, and what it leaves in the work and outcome buffers. Definitions only.
 use mathlib.Core.Path.{_≡_}
 use mathlib.Core.Bool.{Bool, true, _&&_, cond}
-use mathlib.Core.List.{List, [], _∷_, _++_}
+use mathlib.Core.List.{List, [], _∷_, _++_, flatMap}
 use Prim.Native.Nat.{ℕ, zero, suc, _*_, _≤_}
 use lib.Dec.{leb}
 use lib.ListN.{length, take, drop}
 use Rattle.chains.specs.Book.{start}
 use Rattle.chains.specs.declared.Value.{Value}
-use Rattle.evidence.specs.Lists.{same}
-use Rattle.evidence.specs.Tables.{days}
-use Rattle.evidence.specs.Values.{digests, outcomes}
-use Rattle.layouts.specs.Allowed.{allowedScheme, allowedN, unless, orElse, layoutRefusal}
-use Rattle.layouts.specs.Layouts.{chains}
+use Rattle.evidence.specs.Evidence.{same, days, dayOf, digest, outcomes}
+use Rattle.layouts.specs.Layouts.{allowedScheme, allowedN, unless, orElse, layoutRefusal, chains}
 use Rattle.ledger.specs.Ledger.{daysOf, endsRefusal, EndsHold}
 use Rattle.sha256.specs.Sha256.{sha256, bytesOf}
 use Rattle.checking.specs.declared.Checked.{Checked}
@@ -35,7 +32,7 @@ checkRefusal scheme n f d ends size bookSize workSize places =
 
 -- the digests of the ledger's days, end to end
 unfoldable pub digestsOf : List ℕ → List ℕ → ℕ → List ℕ
-digestsOf ledger ends d = digests sha256 (daysOf ledger ends d) (days d)
+digestsOf ledger ends d = flatMap (λ g. digest sha256 (dayOf (daysOf ledger ends d) g)) (days d)
 
 -- an outcome for each value in book order: 1 exactly if the book has the value that rehashing the ledger's days gives
 unfoldable pub outcomesOf : ℕ → ℕ → ℕ → List ℕ → List ℕ → List ℕ → List ℕ

@@ -6,10 +6,9 @@ ghost use mathlib.Core.Bool.{true};
 ghost use mathlib.Core.List.{_∷_, _++_};
 ghost use Prim.Native.Nat.{_+_, _*_, _≤_, _<_};
 ghost use lib.ListN.{length, take, drop};
-ghost use Rattle.evidence.specs.Lists as lists;
+ghost use Rattle.evidence.specs.Evidence as lists;
 ghost use Rattle.chains.specs.Step.{Stepped};
-ghost use Rattle.layouts.specs.Allowed.{allowedScheme, allowedN};
-ghost use Rattle.layouts.specs.Layouts.{names, chains};
+ghost use Rattle.layouts.specs.Layouts.{allowedScheme, allowedN, names, chains};
 ghost use Rattle.sha256.specs.Sha256.{hashed, bytesOf};
 ghost use Rattle.checking.specs.Calls.{numberOf, checkedBy, checkRefusal, Ready, digestsOf, outcomesOf, workAfter, outcomesAfter, outcomeOf, compared};
 

@@ -6,9 +6,7 @@ use mathlib.Core.Bool.{Bool, true, false, not, _&&_, _||_}
 use mathlib.Core.List.{List, [], _∷_, _++_, List·Memᴰ, List·Memᴰ·head, List·Memᴰ·tail}
 use Prim.Native.Nat.{ℕ, zero, suc, _+_, _*_, _/_, _%_, _^_, _≤_}
 use lib.ListN.{length, replicate, length-replicate}
-use Rattle.evidence.specs.Lists.{_among_, same}
-use Rattle.evidence.specs.Tables.{tableOf}
-use Rattle.evidence.specs.Values.{changed, values, outcomes, inputs, NoCollision}
+use Rattle.evidence.specs.Evidence.{_among_, same, tableOf, changed, values, outcomes, inputs, NoCollision}
 use Rattle.evidence.proofs.ListLaws.{true-or-false, or-split, and-both, same-eq, eq-same}
 use Rattle.evidence.proofs.ValueLaws.{check-table}
 use Rattle.layouts.specs.Layouts.{named, chains}
@@ -75,7 +73,7 @@ abbrev ledger : List (List ℕ)
 ledger = (5 ∷ []) ∷ (6 ∷ 9 ∷ []) ∷ [] ∷ (8 ∷ []) ∷ []
 
 apart-here : allApart (inputs hash first (chains 3 2 4) 4 sealed) (inputs hash first (chains 3 2 4) 4 ledger) ≡ true
-unfolding hash inputs chains named
+unfolding hash inputs chains named mathlib.Core.List.flatMap
 apart-here = refl
 
 -- day 2 is changed
@@ -87,7 +85,7 @@ changed-here = refl
 pub concrete : (rest : List ℕ) →
     NoCollision hash (inputs hash first (chains 3 2 4) 4 sealed) (inputs hash first (chains 3 2 4) 4 ledger) ×
     (outcomes hash first ledger (chains 3 2 4) (values hash first sealed (chains 3 2 4) ++ rest) ≡ 1 ∷ 0 ∷ 0 ∷ 1 ∷ 1 ∷ 1 ∷ 0 ∷ [])
-unfolding tableOf chains named changed
+unfolding tableOf chains named mathlib.Core.List.flatMap changed
 concrete rest =
     let p = told (inputs hash first (chains 3 2 4) 4 sealed) (inputs hash first (chains 3 2 4) 4 ledger) apart-here in
     (p, check-table hash hash-length first (length-replicate {A = ℕ} 32 0) (chains 3 2 4) 4 (chains-within 3 2 4) sealed ledger p rest)

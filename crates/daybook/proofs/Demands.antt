@@ -9,14 +9,11 @@ use lib.Dec.{leb}
 use lib.ListN.{length, take, drop, length-append, length-map, take-append-drop}
 use lib.Seq.{take-at, drop-at, take-all, length-take-le, take-append-le}
 use borrow.Author.Tests.{le-leb}
-use Rattle.evidence.specs.Lists.{_among_, keep, Ascends}
-use Rattle.evidence.specs.Tables.{days, Within, meets, outcome, tableOf, Gives, listing, accepted}
-use Rattle.evidence.specs.Values.{dayOf, changed, values, outcomes, NoCollision}
+use Rattle.evidence.specs.Evidence.{_among_, keep, Ascends, days, Within, meets, outcome, tableOf, Gives, listing, accepted, dayOf, changed, values, outcomes, NoCollision}
 use Rattle.evidence.proofs.TableLaws.{listing-ascends, listed-iff, given-iff-accepted, lists-none}
 use Rattle.evidence.proofs.ValueLaws.{changed-within, changed-listed, listed-changed, none-listed, none-changed}
-use Rattle.layouts.specs.Allowed.{divides, allowedScheme, allowedN, allowedD, unless, orElse, setupRefusal, layoutRefusal}
-use Rattle.layouts.specs.Layouts.{ending, chains}
-use Rattle.layouts.specs.Reading.{lowOf, lastOf, lastGood}
+use Rattle.layouts.specs.Layouts.{divides, allowedScheme, allowedN, allowedD, unless, orElse, setupRefusal, layoutRefusal, ending, chains}
+use Rattle.rules.specs.Reading.{lowOf, lastOf, lastGood}
 use Rattle.layouts.proofs.AllowedLaws.{Setup, setup-is, allowed-scheme-is, allowed-n-is, allowed-d-is, divides-factor}
 use Rattle.layouts.proofs.Coverage.{chains-cover, tree-single, chains-front}
 use Rattle.ledger.specs.Ledger.{daysOf, endsRefusal}

@@ -9,9 +9,8 @@ use lib.Dec.{leb, ltb}
 use lib.ListN.{length, getD, take, drop, replicate, length-append, length-replicate}
 use lib.Seq.{take-at, drop-at, take-length, take-suc, split-at, ext-getD}
 use borrow.Author.Tests.{leb-true}
-use Rattle.evidence.specs.Lists.{_among_}
-use Rattle.layouts.specs.Allowed.{bookLimit, allowedD, unless, orElse}
-use Rattle.layouts.specs.Layouts.{chains}
+use Rattle.evidence.specs.Evidence.{_among_}
+use Rattle.layouts.specs.Layouts.{bookLimit, allowedD, unless, orElse, chains}
 use Rattle.layouts.proofs.AllowedLaws.{unless-zero, or-else-zero}
 use Rattle.ledger.specs.Ledger.{dayLimit, startOf, endOf, dayAt, daysOf, endsRefusal, EndsHold}
 use Rattle.ledger.proofs.EndLaws.{none-refusal}

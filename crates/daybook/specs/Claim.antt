@@ -7,12 +7,9 @@ use mathlib.Core.Bool.{Bool, true, not, _&&_}
 use mathlib.Core.List.{List, [], _∷_, _++_, map}
 use Prim.Native.Nat.{ℕ, _*_, _≤_}
 use lib.ListN.{length, take, drop}
-use Rattle.evidence.specs.Lists.{_among_, keep, Ascends}
-use Rattle.evidence.specs.Tables.{days, meets, tableOf, Gives}
-use Rattle.evidence.specs.Values.{dayOf, changed, NoCollision}
-use Rattle.layouts.specs.Allowed.{divides, allowedD}
-use Rattle.layouts.specs.Layouts.{ending, chains}
-use Rattle.layouts.specs.Reading.{lastOf}
+use Rattle.evidence.specs.Evidence.{_among_, keep, Ascends, days, meets, tableOf, Gives, dayOf, changed, NoCollision}
+use Rattle.layouts.specs.Layouts.{divides, allowedD, ending, chains}
+use Rattle.rules.specs.Reading.{lastOf}
 use Rattle.ledger.specs.Ledger.{daysOf, endsRefusal}
 use Rattle.sha256.specs.Sha256.{sha256}
 use Rattle.chains.specs.Book.{bookOf, inputsOf}

@@ -8,9 +8,8 @@ use lib.ListN.{length}
 use native.Mathlib.Nat.{div-add-mod', pos-of-ne-zero}
 use native.Mathlib.Omega.{arith}
 use borrow.Author.Tests.{eqb-true}
-use Rattle.layouts.specs.Allowed.{allowedScheme, allowedN, layoutRefusal}
-use Rattle.layouts.specs.Layouts.{lg, chains, valueCount}
-use Rattle.layouts.specs.Reading.{lastGood}
+use Rattle.layouts.specs.Layouts.{allowedScheme, allowedN, layoutRefusal, lg, chains, valueCount}
+use Rattle.rules.specs.Reading.{lastGood}
 use Rattle.layouts.proofs.AllowedLaws.{layout-is, allowed-scheme-is, allowed-n-is, allowed-d-is, divides-factor}
 use Rattle.layouts.proofs.Counts.{values-length}
 use Rattle.reading.specs.Answers.{Said, tableIn, readRefusal, listedIn, saidOf, says, unlessRefused, found}

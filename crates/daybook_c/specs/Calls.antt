@@ -3,8 +3,7 @@
 use mathlib.Core.List.{List, [], _∷_}
 use Prim.Native.Nat.{ℕ, zero, suc}
 use lib.ListN.{length}
-use Rattle.layouts.specs.Allowed.{layoutRefusal}
-use Rattle.layouts.specs.Layouts.{valueCount}
+use Rattle.layouts.specs.Layouts.{layoutRefusal, valueCount}
 use Rattle.reading.specs.Answers.{Said}
 use Rattle.record_bytes.specs.Bytes.{recordBytes, recordOf}
 use Rattle.service.specs.Calls.{countOf, addRefusal, added, closeRefusal, closed}

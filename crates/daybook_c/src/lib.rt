@@ -11,7 +11,7 @@ ghost use mathlib.Core.List.{[], _∷_};
 ghost use lib.ListN.{length};
 ghost use Rattle.checking.specs.Calls as checking;
 ghost use Rattle.checking.specs.Calls.{checkRefusal, workAfter, outcomesAfter};
-ghost use Rattle.layouts.specs.Allowed.{setupRefusal, layoutRefusal};
+ghost use Rattle.layouts.specs.Layouts.{setupRefusal, layoutRefusal};
 ghost use Rattle.reading.specs.Answers.{readRefusal, saidOf, says, listAfter};
 ghost use Rattle.record_bytes.specs.Bytes.{recordBytes, recordOf};
 ghost use Rattle.sealing.specs.Calls as sealing;

@@ -1,14 +1,14 @@
 -- Laws of lists of numbers: membership, tests, runs, the numbers that pass a test.
 use mathlib.Core.Path.{_≡_, refl, sym, ap, _∙_}
 use mathlib.Core.Logic.{_⊎_, inl, inr}
-use mathlib.Core.Bool.{Bool, true, false, not, _&&_, _||_}
+use mathlib.Core.Bool.{Bool, true, false, not, _&&_, _||_, cond}
 use mathlib.Core.List.{List, [], _∷_, _++_, map, List·Memᴰ, List·Memᴰ·head, List·Memᴰ·tail, List·Memᴰ·cases-cons, Memᴰ·cast}
 use Prim.Native.Nat.{ℕ, zero, suc, _+_, _≤_, _<_}
 use native.Mathlib.Nat.{eq-or-lt-of-le}
 use native.Mathlib.Omega.{arith}
 use lib.Dec.{eqb, leb, ltb}
 use borrow.Author.Tests.{eqb-true, eq-eqb, leb-true, le-leb, ltb-true, lt-ltb}
-use Rattle.evidence.specs.Lists.{_among_, has, same, upFrom, push, keep, Ascends}
+use Rattle.evidence.specs.Evidence.{_among_, has, same, upFrom, keep, Ascends}
 
 -- ---- Booleans
 
@@ -103,7 +103,7 @@ keep-mem p (x ∷ xs) g m = go (p x) refl (λ h. keep-mem p xs g h) m
     first e rec (inl q) = (List·Memᴰ·head q, ap p q ∙ e)
     first e rec (inr h) = old (rec h)
 
-    go : (b : Bool) → p x ≡ b → (g among keep p xs → (g among xs) × (p g ≡ true)) → g among push b x (keep p xs) → (g among (x ∷ xs)) × (p g ≡ true)
+    go : (b : Bool) → p x ≡ b → (g among keep p xs → (g among xs) × (p g ≡ true)) → g among cond b (x ∷ keep p xs) (keep p xs) → (g among (x ∷ xs)) × (p g ≡ true)
     go true e rec h = first e rec (List·Memᴰ·cases-cons h)
     go false e rec h = old (rec h)
 
@@ -111,7 +111,7 @@ pub mem-keep : (p : ℕ → Bool) (xs : List ℕ) (g : ℕ) → g among xs → p
 mem-keep p [] g m e = elim m [ ]
 mem-keep p (x ∷ xs) g m e = go (p x) refl (λ h. mem-keep p xs g h e) (List·Memᴰ·cases-cons m)
   where
-    go : (b : Bool) → p x ≡ b → (g among xs → g among keep p xs) → (g ≡ x) ⊎ (g among xs) → g among push b x (keep p xs)
+    go : (b : Bool) → p x ≡ b → (g among xs → g among keep p xs) → (g ≡ x) ⊎ (g among xs) → g among cond b (x ∷ keep p xs) (keep p xs)
     go true q rec (inl h) = List·Memᴰ·head h
     go true q rec (inr h) = List·Memᴰ·tail (rec h)
     go false q rec (inl h) = absurd (true-or-false e (ap p h ∙ q))
@@ -125,7 +125,7 @@ pub keep-append : (p : ℕ → Bool) (xs ys : List ℕ) → keep p (xs ++ ys) �
 keep-append p [] ys = refl
 keep-append p (x ∷ xs) ys = rw (keep-append p xs ys) (go (p x))
   where
-    go : (b : Bool) → push b x (keep p xs ++ keep p ys) ≡ push b x (keep p xs) ++ keep p ys
+    go : (b : Bool) → cond b (x ∷ (keep p xs ++ keep p ys)) (keep p xs ++ keep p ys) ≡ cond b (x ∷ keep p xs) (keep p xs) ++ keep p ys
     go true = refl
     go false = refl
 
@@ -137,7 +137,7 @@ pub keep-ascends : (p : ℕ → Bool) (i n : ℕ) → Ascends i (keep p (upFrom 
 keep-ascends p i zero = tt
 keep-ascends p i (suc n) = go (p i) (keep-ascends p (suc i) n)
   where
-    go : (b : Bool) → Ascends (suc i) (keep p (upFrom (suc i) n)) → Ascends i (push b i (keep p (upFrom (suc i) n)))
+    go : (b : Bool) → Ascends (suc i) (keep p (upFrom (suc i) n)) → Ascends i (cond b (i ∷ keep p (upFrom (suc i) n)) (keep p (upFrom (suc i) n)))
     go true a = (omega arith, a)
     go false a = ascends-later (keep p (upFrom (suc i) n)) i (suc i) (omega arith) a
 

@@ -7,8 +7,7 @@ use Prim.Native.Nat.{ℕ, zero, suc, _+_, _≤_, _<_}
 use native.Mathlib.Omega.{arith}
 use lib.Dec.{eqb}
 use borrow.Author.Tests.{eqb-true, eqb-false, eq-eqb, not-true}
-use Rattle.evidence.specs.Lists.{_among_, has, same, upFrom, push, keep, Ascends}
-use Rattle.evidence.specs.Tables.{days, Within, meets, outcome, tableOf, Gives, cleared, listing, accepted}
+use Rattle.evidence.specs.Evidence.{_among_, has, same, upFrom, keep, Ascends, days, Within, meets, outcome, tableOf, Gives, cleared, listing, accepted}
 use Rattle.evidence.proofs.ListLaws.{split, true-or-false, or-split, or-left, or-right, bool-ext, has-mem, mem-has, same-eq, eq-same, upFrom-mem, upFrom-bounds, keep-mem, mem-keep, keep-congr, keep-ascends, no-mem, mem-nil, map-same}
 
 -- a chain covers a day of S exactly if there is such a day

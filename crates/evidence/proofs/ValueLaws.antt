@@ -4,15 +4,13 @@
 use mathlib.Core.Path.{_≡_, refl, sym, ap, _∙_}
 use mathlib.Core.Logic.{_↔_, _⊎_, inl, inr}
 use mathlib.Core.Bool.{Bool, true, false, not, cond}
-use mathlib.Core.List.{List, [], _∷_, _++_, map, append-assoc, List·Memᴰ, List·Memᴰ·head, List·Memᴰ·tail, List·Memᴰ·cases-cons, Memᴰ·append-left, Memᴰ·append-right, Memᴰ·map}
+use mathlib.Core.List.{List, [], _∷_, _++_, map, flatMap, append-assoc, List·Memᴰ, List·Memᴰ·head, List·Memᴰ·tail, List·Memᴰ·cases-cons, Memᴰ·append-left, Memᴰ·append-right, Memᴰ·map}
 use Prim.Native.Nat.{ℕ, zero, suc, pred, _+_, _*_, _≤_, _<_}
 use native.Mathlib.Omega.{arith}
 use lib.ListN.{length, getD, take, drop, length-append}
 use lib.Seq.{take-at, drop-at}
 use borrow.Author.Tests.{not-true}
-use Rattle.evidence.specs.Lists.{_among_, same, upFrom, keep}
-use Rattle.evidence.specs.Tables.{days, Within, meets, outcome, tableOf, listing, accepted, Gives}
-use Rattle.evidence.specs.Values.{dayOf, changed, digest, linkInput, value, values, outcomes, linkInputs, chainInputs, inputs, NoCollision}
+use Rattle.evidence.specs.Evidence.{_among_, same, upFrom, keep, days, Within, meets, outcome, tableOf, listing, accepted, Gives, dayOf, changed, digest, linkInput, value, values, outcomes, linkInputs, inputs, NoCollision}
 use Rattle.evidence.proofs.ListLaws.{split, true-or-false, same-eq, eq-same, no-mem, upFrom-mem, upFrom-bounds, keep-mem, mem-keep, map-same}
 use Rattle.evidence.proofs.TableLaws.{meets-of, meets-day, lists-all, lists-exactly, lists-none}
 
@@ -62,9 +60,10 @@ halves : (n : ℕ) (v w d e : List ℕ) → length v ≡ n → length w ≡ n �
 halves n v w d e hv hw q = (cc (take-at v d n hv, take-at w e n hw), cc (drop-at v d n hv, drop-at w e n hw))
 
 chain-inputs-mem : (H : List ℕ → List ℕ) (start : List ℕ) (ledger : List (List ℕ)) {c : List ℕ} {chains : List (List ℕ)} → c among chains →
-    (x : List ℕ) → x among linkInputs H start ledger c → x among chainInputs H start ledger chains
+    (x : List ℕ) → x among linkInputs H start ledger c → x among flatMap (linkInputs H start ledger) chains
+unfolding flatMap
 chain-inputs-mem H start ledger (List·Memᴰ·head {x = d} {xs = ds} e) x m =
-    Memᴰ·append-left (chainInputs H start ledger ds) (rw e at m)
+    Memᴰ·append-left (flatMap (linkInputs H start ledger) ds) (rw e at m)
 chain-inputs-mem H start ledger (List·Memᴰ·tail {x = d} {xs = ds} h) x m =
     Memᴰ·append-right (linkInputs H start ledger d) (chain-inputs-mem H start ledger h x m)
 
@@ -144,7 +143,7 @@ module _ (H : List ℕ → List ℕ) (sized : (x : List ℕ) → length (H x) �
     unfolding inputs
     day-input L c m g k =
         let b = inside c m g k in
-        Memᴰ·append-left (chainInputs H start L chains) (Memᴰ·map (λ (x : ℕ). 0 ∷ dayOf L x) (upFrom-mem 1 d g (omega arith) (omega arith)))
+        Memᴰ·append-left (flatMap (linkInputs H start L) chains) (Memᴰ·map (λ (x : ℕ). 0 ∷ dayOf L x) (upFrom-mem 1 d g (omega arith) (omega arith)))
 
     told : (c : List ℕ) → c among chains → DaysTold A B c
     told c m g k e =

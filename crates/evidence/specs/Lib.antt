@@ -1,3 +1,1 @@
-pub mod Lists
-pub mod Tables
-pub mod Values
+pub mod Evidence

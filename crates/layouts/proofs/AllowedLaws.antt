@@ -12,10 +12,9 @@ use lib.Dec.{eqb, leb}
 use lib.ListN.{length, length-map, length-append}
 use lib.Pow.{pow-pos, pow-mono}
 use borrow.Author.Tests.{eqb-true, eq-eqb, leb-true, not-true, not-false}
-use Rattle.evidence.specs.Lists.{_among_, has, upFrom}
+use Rattle.evidence.specs.Evidence.{_among_, has, upFrom}
 use Rattle.evidence.proofs.ListLaws.{split, true-or-false, and-both, bool-ext, has-mem, upFrom-mem}
-use Rattle.layouts.specs.Allowed.{bookLimit, divides, allowedScheme, allowedN, allowedF, allowedD, unless, orElse, setupRefusal, layoutRefusal}
-use Rattle.layouts.specs.Layouts.{lgIn, lg, Name, black, covers, named, cover, closing, chains, position}
+use Rattle.layouts.specs.Layouts.{bookLimit, divides, allowedScheme, allowedN, allowedF, allowedD, unless, orElse, setupRefusal, layoutRefusal, lgIn, lg, Name, black, covers, named, cover, closing, chains, position}
 use Rattle.layouts.proofs.Coverage.{chains-suc}
 use Rattle.layouts.proofs.Counts.{lg-unique, ones-small, digits, digits-small, through, count-through}
 

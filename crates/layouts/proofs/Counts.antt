@@ -2,22 +2,20 @@
 use mathlib.Core.Path.{_≡_, refl, sym, ap, _∙_}
 use mathlib.Core.Logic.{_⊎_, inl, inr}
 use mathlib.Core.Bool.{Bool, true, false, not, _&&_, cond}
-use mathlib.Core.List.{List, [], _∷_, _++_, map, append-assoc, append-nil, List·Memᴰ, List·Memᴰ·head, List·Memᴰ·tail, Memᴰ·map, Memᴰ·of-map, Memᴰ·cast}
+use mathlib.Core.List.{List, [], _∷_, _++_, map, flatMap, append-assoc, append-nil, List·Memᴰ, List·Memᴰ·head, List·Memᴰ·tail, Memᴰ·map, Memᴰ·of-map, Memᴰ·cast}
 use Prim.Native.Nat.{ℕ, zero, suc, pred, _+_, _-_, _*_, _/_, _%_, _^_, _≤_, _<_}
 use native.Mathlib.Nat.{mod-one, mod-lt, div-eq-of-lt, mod-self, div-add-mod', suc-mul, add-zero, add-suc, pow-succ', eq-of-mul-eq-mul-left, mul-le-mul-left, mul-comm, lt-of-not-le, le-antisymm}
 use native.Mathlib.Decide.{decLt, decLe, ℕ-discrete}
 use native.Mathlib.Omega.{arith}
-use lib.Dec.{eqb, lit<, lit≤}
+use lib.Dec.{eqb, leb, lit<}
 use lib.Arith.{digits-div, digits-mod, half-le}
 use lib.Pow.{pow-pos, pow-mono, pow-add}
 use lib.Count.{ones, ones-step, ones-le}
 use lib.ListN.{length, length-append, length-map}
-use borrow.Author.Tests.{eqb-true, eq-eqb, ne-eqb}
-use Rattle.evidence.specs.Lists.{_among_, has, upFrom, push, keep}
-use Rattle.evidence.specs.Tables.{days}
+use borrow.Author.Tests.{eqb-true, eq-eqb, ne-eqb, leb-true, leb-false}
+use Rattle.evidence.specs.Evidence.{_among_, has, upFrom, keep, days}
 use Rattle.evidence.proofs.ListLaws.{split, true-or-false, bool-ext, has-mem, mem-has, upFrom-mem, keep-mem, mem-keep}
-use Rattle.layouts.specs.Allowed.{divides}
-use Rattle.layouts.specs.Layouts.{lgIn, lg, Name, black, tile, tree, levels, storedOnce, only, names, named, cover, closing, chains, valueCount}
+use Rattle.layouts.specs.Layouts.{divides, lgIn, lg, Name, black, tile, levels, storedOnce, names, named, cover, chains, valueCount}
 use Rattle.layouts.proofs.Coverage.{named-suc}
 
 abbrev pub bit : Bool → ℕ
@@ -51,23 +49,23 @@ div-step n d p = go (decLt (suc (d % n)) n)
         let d : suc d / n ≡ suc (d / n) = ap (λ (x : ℕ). x / n) e ∙ digits-div (suc (d / n)) p in
         rw f (omega arith)
 
-length-only : (b : Bool) (x : Name) → length (only b (x ∷ [])) ≡ bit b
-length-only true x = refl
-length-only false x = refl
+length-cond : (b : Bool) (x : Name) → length (cond b (x ∷ []) []) ≡ bit b
+length-cond true x = refl
+length-cond false x = refl
 
 count-black : (n d : ℕ) → 0 < n → length (named 1 n d) ≡ d / n
-unfolding named
+unfolding named flatMap
 count-black n zero p = sym (div-eq-of-lt p)
-count-black n (suc d) p = count-suc 1 n d ∙ (let r = count-black n d p in omega (arith, div-step n d p, length-only (divides n (suc d)) (black (suc d))))
+count-black n (suc d) p = count-suc 1 n d ∙ (let r = count-black n d p in omega (arith, div-step n d p, length-cond (divides n (suc d)) (black (suc d))))
 
-length-tiles : (b : Bool) (n g : ℕ) → length (only b (map (λ i. tile i g) (upFrom 0 (suc (lg n))) ++ (black g ∷ []))) ≡ bit b * (2 + lg n)
+length-tiles : (b : Bool) (n g : ℕ) → length (cond b (map (λ i. tile i g) (upFrom 0 (suc (lg n))) ++ (black g ∷ [])) []) ≡ bit b * (2 + lg n)
 length-tiles true n g =
     let e : length (map (λ (i : ℕ). tile i g) (upFrom 0 (suc (lg n))) ++ (black g ∷ [])) ≡ suc (lg n) + 1 = simp (length-append, length-map, length-upFrom) in
     omega arith
 length-tiles false n g = omega arith
 
 count-tile : (n d : ℕ) → 0 < n → length (named 2 n d) ≡ d / n * (2 + lg n)
-unfolding named
+unfolding named flatMap
 count-tile n zero p = rw (div-eq-of-lt p) (omega arith)
 count-tile n (suc d) p =
     count-suc 2 n d ∙ (let r = count-tile n d p in rw (r, length-tiles (divides n (suc d)) n (suc d), div-step n d p) (omega arith))
@@ -77,9 +75,9 @@ count-tile n (suc d) p =
 count : ℕ → ℕ → ℕ → ℕ
 count g n i = length (keep (λ l. divides (2 ^ l) g) (upFrom i n))
 
-length-push : (b : Bool) (x : ℕ) (r : List ℕ) → length (push b x r) ≡ bit b + length r
-length-push true x r = omega arith
-length-push false x r = omega arith
+length-keep : (b : Bool) (x : ℕ) (r : List ℕ) → length (cond b (x ∷ r) r) ≡ bit b + length r
+length-keep true x r = omega arith
+length-keep false x r = omega arith
 
 -- twice a number has the powers of its half, doubled; an odd number has none but 1
 double-mod : (h w : ℕ) → 0 < w → 2 * h % (2 * w) ≡ 2 * (h % w)
@@ -106,7 +104,7 @@ unfolding count
 count-even h zero i = refl
 count-even h (suc n) i =
     let r = count-even h n (suc i) in
-    rw (length-push (divides (2 ^ suc i) (2 * h)) (suc i), length-push (divides (2 ^ i) h) i, double-divides i h) (ap (λ (x : ℕ). bit (divides (2 ^ i) h) + x) r)
+    rw (length-keep (divides (2 ^ suc i) (2 * h)) (suc i), length-keep (divides (2 ^ i) h) i, double-divides i h) (ap (λ (x : ℕ). bit (divides (2 ^ i) h) + x) r)
 
 count-odd : (h n i : ℕ) → count (2 * h + 1) n (suc i) ≡ 0
 unfolding count
@@ -195,13 +193,17 @@ once-scale k m p = bool-ext (storedOnce (2 ^ k * m)) (storedOnce m) (λ e. down 
 
 lgIn-bounds : (f n : ℕ) → 1 ≤ n → n ≤ f → (2 ^ lgIn f n ≤ n) × (n < 2 ^ suc (lgIn f n))
 lgIn-bounds zero n p l = absurd (omega arith)
-lgIn-bounds (suc f) zero p l = absurd (omega arith)
-lgIn-bounds (suc f) (suc zero) p l = (lit≤ tt, lit< tt)
-lgIn-bounds (suc f) (suc (suc n)) p l =
-    let r = lgIn-bounds f (suc (suc n) / 2) (omega arith) (omega arith) in
-    let a : 2 ^ suc (lgIn f (suc (suc n) / 2)) ≤ suc (suc n) = omega arith in
-    let b : suc (suc n) < 2 ^ suc (suc (lgIn f (suc (suc n) / 2))) = omega arith in
-    (a, b)
+lgIn-bounds (suc f) n p l = go (leb n 1) refl (λ a b. lgIn-bounds f (n / 2) a b)
+  where
+    go : (b : Bool) → leb n 1 ≡ b → (1 ≤ n / 2 → n / 2 ≤ f → (2 ^ lgIn f (n / 2) ≤ n / 2) × (n / 2 < 2 ^ suc (lgIn f (n / 2)))) →
+        (2 ^ cond b 0 (suc (lgIn f (n / 2))) ≤ n) × (n < 2 ^ suc (cond b 0 (suc (lgIn f (n / 2)))))
+    go true e rec = let h : n ≤ 1 = leb-true n 1 e in (p, omega arith)
+    go false e rec =
+        let h : 1 < n = leb-false n 1 e in
+        let r = rec (omega arith) (omega arith) in
+        let a : 2 ^ suc (lgIn f (n / 2)) ≤ n = omega arith in
+        let b : n < 2 ^ suc (suc (lgIn f (n / 2))) = omega arith in
+        (a, b)
 
 pub lg-bounds : (n : ℕ) → 1 ≤ n → (2 ^ lg n ≤ n) × (n < 2 ^ suc (lg n))
 unfolding lg
@@ -269,7 +271,7 @@ stored-step k d = go (split (divides (2 ^ k) (suc d)))
         rw (e, s, add-zero) (omega arith)
 
 length-tree : (n g : ℕ) → length (names 3 n g) ≡ length (levels g) + bit (divides n g && not (storedOnce g))
-length-tree n g = simp (length-append, length-map, length-only)
+length-tree n g = simp (length-append, length-map, length-cond)
 
 bits : (a b : Bool) → bit (a && not b) + bit (a && b) ≡ bit a
 bits true true = refl
@@ -281,7 +283,7 @@ unfolding ones
 ones-zero = refl
 
 count-tree-sum : (k d : ℕ) → length (named 3 (2 ^ k) d) + ones d + digits (d / 2 ^ k) ≡ 2 * d + d / 2 ^ k
-unfolding named
+unfolding named flatMap
 count-tree-sum k zero = rw (div-eq-of-lt (pow-pos k)) (omega (arith, ones-zero))
 count-tree-sum k (suc d) =
     omega (

@@ -2,19 +2,17 @@
 -- are the front of those of more.
 use mathlib.Core.Path.{_≡_, refl, sym, ap, _∙_}
 use mathlib.Core.Logic.{_⊎_, inl, inr}
-use mathlib.Core.Bool.{Bool, true, false, not, _&&_}
-use mathlib.Core.List.{List, [], _∷_, _++_, map, map-append, append-assoc, append-nil, List·Memᴰ, List·Memᴰ·head, List·Memᴰ·tail, List·Memᴰ·cases-cons, List·Memᴰ·append-cases, List·Memᴰ·eq-of-singleton, Memᴰ·append-left, Memᴰ·append-right, Memᴰ·map, Memᴰ·of-map, Memᴰ·cast}
+use mathlib.Core.Bool.{Bool, true, false, not, _&&_, cond}
+use mathlib.Core.List.{List, [], _∷_, _++_, map, flatMap, map-append, append-assoc, append-nil, List·Memᴰ, List·Memᴰ·head, List·Memᴰ·tail, List·Memᴰ·cases-cons, List·Memᴰ·append-cases, List·Memᴰ·eq-of-singleton, Memᴰ·append-left, Memᴰ·append-right, Memᴰ·map, Memᴰ·of-map, Memᴰ·cast}
 use Prim.Native.Nat.{ℕ, zero, suc, pred, _+_, _-_, _*_, _/_, _%_, _^_, _≤_, _<_}
 use native.Mathlib.Nat.{mod-eq-of-lt, mod-one, lt-of-not-le, add-zero, add-suc}
 use native.Mathlib.Decide.{decLe}
 use native.Mathlib.Omega.{arith}
 use lib.Dec.{eqb, leb, ltb}
 use borrow.Author.Tests.{eqb-true, eq-eqb}
-use Rattle.evidence.specs.Lists.{_among_, has, upFrom, keep}
-use Rattle.evidence.specs.Tables.{days, Within}
+use Rattle.evidence.specs.Evidence.{_among_, has, upFrom, keep, days, Within}
 use Rattle.evidence.proofs.ListLaws.{has-mem, upFrom-mem, upFrom-bounds, keep-mem, mem-keep}
-use Rattle.layouts.specs.Allowed.{divides}
-use Rattle.layouts.specs.Layouts.{lg, Name, black, tile, tree, ending, offset, covers, cover, levels, storedOnce, blackToo, only, names, namesOf, named, closing, chains}
+use Rattle.layouts.specs.Layouts.{divides, lg, Name, black, tile, tree, ending, offset, covers, cover, levels, storedOnce, blackToo, names, named, closing, chains}
 
 -- a divisor of a number that is not 0 is no greater
 pub divisor-le : (w g : ℕ) → 1 ≤ g → divides w g ≡ true → w ≤ g
@@ -27,9 +25,9 @@ divisor-le w g p e = go (decLe w g)
 ending-within : (n g : ℕ) → n ≤ g → Within g (ending n g)
 ending-within n g l x m = let b = upFrom-bounds (suc (g - n)) n x m in omega arith
 
-pub only-mem : (b : Bool) (xs : List Name) {x : Name} → x among only b xs → (b ≡ true) × (x among xs)
-only-mem true xs m = (refl, m)
-only-mem false xs m = elim m [ ]
+pub cond-mem : (b : Bool) (xs : List Name) {x : Name} → x among cond b xs [] → (b ≡ true) × (x among xs)
+cond-mem true xs m = (refl, m)
+cond-mem false xs m = elim m [ ]
 
 -- ---- the names that close at g: which they are, by cases
 
@@ -37,13 +35,13 @@ only-mem false xs m = elim m [ ]
 pub names-within : (s n g : ℕ) → 1 ≤ g → (x : Name) → x among names s n g → Within g (cover n x)
 names-within zero n g p x m = elim m [ ]
 names-within (suc zero) n g p x m =
-    let r = only-mem (divides n g) (black g ∷ []) m in
+    let r = cond-mem (divides n g) (black g ∷ []) m in
     rw (List·Memᴰ·eq-of-singleton (r .1)) (ending-within g g (omega arith))
 names-within (suc (suc zero)) n g p x m =
-    go (List·Memᴰ·append-cases (map (λ (i : ℕ). tile i g) (upFrom 0 (suc (lg n)))) (only-mem (divides n g) (map (λ i. tile i g) (upFrom 0 (suc (lg n))) ++ (black g ∷ [])) m .1))
+    go (List·Memᴰ·append-cases (map (λ (i : ℕ). tile i g) (upFrom 0 (suc (lg n)))) (cond-mem (divides n g) (map (λ i. tile i g) (upFrom 0 (suc (lg n))) ++ (black g ∷ [])) m .1))
   where
     small : n ≤ g
-    small = divisor-le n g p (only-mem (divides n g) (map (λ i. tile i g) (upFrom 0 (suc (lg n))) ++ (black g ∷ [])) m .0)
+    small = divisor-le n g p (cond-mem (divides n g) (map (λ i. tile i g) (upFrom 0 (suc (lg n))) ++ (black g ∷ [])) m .0)
 
     part : (i : ℕ) × (i among upFrom 0 (suc (lg n))) × (tile i g ≡ x) → Within g (cover n x)
     part r = rw (← (r .2)) (λ d k. ending-within n g small d (keep-mem (λ day. covers n (r .0) (offset n day)) (ending n g) d k .0))
@@ -56,34 +54,36 @@ names-within (suc (suc (suc zero))) n g p x m = go (List·Memᴰ·append-cases (
     part : (l : ℕ) × (l among levels g) × (tree l g ≡ x) → Within g (cover n x)
     part r = rw (← (r .2)) (ending-within (2 ^ (r .0)) g (divisor-le (2 ^ (r .0)) g p (keep-mem (λ l. divides (2 ^ l) g) (upFrom 0 g) (r .0) (r .1) .1)))
 
-    go : (x among map (λ (l : ℕ). tree l g) (levels g)) ⊎ (x among only (blackToo n g) (black g ∷ [])) → Within g (cover n x)
+    go : (x among map (λ (l : ℕ). tree l g) (levels g)) ⊎ (x among cond (blackToo n g) (black g ∷ []) []) → Within g (cover n x)
     go (inl k) = part (Memᴰ·of-map (λ (l : ℕ). tree l g) (levels g) k)
-    go (inr k) = rw (List·Memᴰ·eq-of-singleton (only-mem (blackToo n g) (black g ∷ []) k .1)) (ending-within g g (omega arith))
+    go (inr k) = rw (List·Memᴰ·eq-of-singleton (cond-mem (blackToo n g) (black g ∷ []) k .1)) (ending-within g g (omega arith))
 names-within (suc (suc (suc (suc s)))) n g p x m = elim m [ ]
 
 -- a name of the layout closes at one of its days
-names-at : (s n : ℕ) (gs : List ℕ) (x : Name) → x among namesOf s n gs → (g : ℕ) × (g among gs) × (x among names s n g)
+names-at : (s n : ℕ) (gs : List ℕ) (x : Name) → x among flatMap (names s n) gs → (g : ℕ) × (g among gs) × (x among names s n g)
+unfolding flatMap
 names-at s n [] x m = elim m [ ]
 names-at s n (g ∷ gs) x m = go (λ k. names-at s n gs x k) (List·Memᴰ·append-cases (names s n g) m)
   where
     later : (y : ℕ) × (y among gs) × (x among names s n y) → (y : ℕ) × (y among (g ∷ gs)) × (x among names s n y)
     later r = (r .0, List·Memᴰ·tail (r .1), r .2)
 
-    go : (x among namesOf s n gs → (y : ℕ) × (y among gs) × (x among names s n y)) → (x among names s n g) ⊎ (x among namesOf s n gs) →
+    go : (x among flatMap (names s n) gs → (y : ℕ) × (y among gs) × (x among names s n y)) → (x among names s n g) ⊎ (x among flatMap (names s n) gs) →
         (y : ℕ) × (y among (g ∷ gs)) × (x among names s n y)
     go rec (inl k) = (g, List·Memᴰ·head refl, k)
     go rec (inr k) = later (rec k)
 
-names-in : (s n : ℕ) {g : ℕ} {gs : List ℕ} → g among gs → (x : Name) → x among names s n g → x among namesOf s n gs
-names-in s n (List·Memᴰ·head {x = y} {xs = xs} e) x m = Memᴰ·append-left (namesOf s n xs) (rw e at m)
+names-in : (s n : ℕ) {g : ℕ} {gs : List ℕ} → g among gs → (x : Name) → x among names s n g → x among flatMap (names s n) gs
+unfolding flatMap
+names-in s n (List·Memᴰ·head {x = y} {xs = xs} e) x m = Memᴰ·append-left (flatMap (names s n) xs) (rw e at m)
 names-in s n (List·Memᴰ·tail {x = y} {xs = xs} h) x m = Memᴰ·append-right (names s n y) (names-in s n h x m)
 
 pub named-at : (s n d : ℕ) (x : Name) → x among named s n d → (g : ℕ) × (g among days d) × (x among names s n g)
-unfolding named
+unfolding named flatMap
 named-at s n d x m = names-at s n (days d) x m
 
 pub named-in : (s n d : ℕ) {g : ℕ} → g among days d → (x : Name) → x among names s n g → x among named s n d
-unfolding named
+unfolding named flatMap
 named-in s n d m x k = names-in s n m x k
 
 -- ---- chains lie within 1 to d
@@ -114,7 +114,7 @@ black-closes (suc (suc (suc zero))) n g a b p e = go (storedOnce g) refl
     once : (l : ℕ) × (l among levels g) × (2 ^ l ≡ g) → (x : Name) × (x among names 3 n g) × (cover n x ≡ ending g g)
     once r = (
       tree (r .0) g,
-      Memᴰ·append-left (only (blackToo n g) (black g ∷ [])) (Memᴰ·map (λ (l : ℕ). tree l g) (r .1)),
+      Memᴰ·append-left (cond (blackToo n g) (black g ∷ []) []) (Memᴰ·map (λ (l : ℕ). tree l g) (r .1)),
       ap (λ (w : ℕ). ending w g) (r .2),
     )
 
@@ -139,7 +139,7 @@ pub tree-single : (n d g : ℕ) → g among days d → (g ∷ []) among chains 3
 unfolding chains
 tree-single n d g m =
     let b = upFrom-bounds 1 d g m in
-    Memᴰ·cast (lone b) (Memᴰ·map (cover n) (named-in 3 n d m (tree 0 g) (Memᴰ·append-left (only (blackToo n g) (black g ∷ [])) (Memᴰ·map (λ (l : ℕ). tree l g) (none b)))))
+    Memᴰ·cast (lone b) (Memᴰ·map (cover n) (named-in 3 n d m (tree 0 g) (Memᴰ·append-left (cond (blackToo n g) (black g ∷ []) []) (Memᴰ·map (λ (l : ℕ). tree l g) (none b)))))
   where
     lone : (1 ≤ g) × (g < 1 + d) → g ∷ [] ≡ ending 1 g
     lone b = let q : g ≡ suc (g - 1) = omega arith in ap (λ (x : ℕ). x ∷ []) q
@@ -155,14 +155,15 @@ upFrom-snoc i (suc k) =
     let e : suc i + k ≡ i + suc k = omega arith in
     ap (λ (r : List ℕ). i ∷ r) (upFrom-snoc (suc i) k ∙ ap (λ (x : ℕ). upFrom (suc i) k ++ (x ∷ [])) e)
 
-namesOf-append : (s n : ℕ) (xs ys : List ℕ) → namesOf s n (xs ++ ys) ≡ namesOf s n xs ++ namesOf s n ys
-namesOf-append s n [] ys = refl
-namesOf-append s n (x ∷ xs) ys = rw (namesOf-append s n xs ys, append-assoc)
+names-append : (s n : ℕ) (xs ys : List ℕ) → flatMap (names s n) (xs ++ ys) ≡ flatMap (names s n) xs ++ flatMap (names s n) ys
+unfolding flatMap
+names-append s n [] ys = refl
+names-append s n (x ∷ xs) ys = rw (names-append s n xs ys, append-assoc)
 
 pub named-suc : (s n d : ℕ) → named s n (suc d) ≡ named s n d ++ names s n (suc d)
-unfolding named
+unfolding named flatMap
 named-suc s n d =
-    ap (namesOf s n) (upFrom-snoc 1 d) ∙ namesOf-append s n (upFrom 1 d) ((1 + d) ∷ []) ∙
+    ap (flatMap (names s n)) (upFrom-snoc 1 d) ∙ names-append s n (upFrom 1 d) ((1 + d) ∷ []) ∙
     (let e : 1 + d ≡ suc d = omega arith in rw (e, append-nil))
 
 -- the names of k more days

@@ -1,5 +1,4 @@
 pub mod Coverage
 pub mod Counts
 pub mod AllowedLaws
-pub mod Marked
 pub mod Positions

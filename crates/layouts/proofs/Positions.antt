@@ -1,25 +1,21 @@
 -- Where values stand in the book: the position of a name indexes the chains.
 use mathlib.Core.Path.{_≡_, refl, sym, ap, _∙_}
 use mathlib.Core.Logic.{_⊎_, inl, inr}
-use mathlib.Core.Bool.{Bool, true, false, not, _&&_}
-use mathlib.Core.List.{List, [], _∷_, _++_, map, map-append, append-nil, List·Memᴰ, List·Memᴰ·head, List·Memᴰ·tail, Memᴰ·map, Memᴰ·of-map}
-use Prim.Native.Nat.{ℕ, zero, suc, pred, _+_, _-_, _*_, _/_, _%_, _^_, _≤_, _<_}
-use native.Mathlib.Nat.{pow-succ', mod-self, div-add-mod', mul-comm, mul-assoc, zero-add}
-use native.Mathlib.Decide.{decLt}
+use mathlib.Core.Bool.{Bool, true, false, cond}
+use mathlib.Core.List.{List, [], _∷_, _++_, map}
+use Prim.Native.Nat.{ℕ, zero, suc, _+_, _-_, _*_, _/_, _%_, _^_, _≤_, _<_}
+use native.Mathlib.Nat.{pow-succ', div-add-mod', mul-assoc, zero-add}
 use native.Mathlib.Omega.{arith}
 use lib.Arith.{digits-mod}
-use lib.Dec.{eqb}
 use lib.ListN.{length, getD, length-append, length-map, List·getD-append, List·getD-map}
-use lib.Pow.{pow-pos, pow-mono}
-use lib.Seq.{getD-append-add, getD-at}
+use lib.Pow.{pow-pos}
+use lib.Seq.{getD-append-add}
 use borrow.Author.Tests.{eqb-true, eq-eqb}
-use Rattle.evidence.specs.Lists.{_among_, has, upFrom, push, keep}
-use Rattle.evidence.proofs.ListLaws.{split, true-or-false, and-both, has-mem, upFrom-mem, upFrom-bounds, keep-mem, mem-keep}
-use Rattle.layouts.specs.Allowed.{divides}
-use Rattle.layouts.specs.Layouts.{lg, Name, black, tile, tree, ending, cover, levels, storedOnce, blackToo, only, names, named, closing, chains, position}
-use Rattle.layouts.specs.Reading.{blackAt}
-use Rattle.layouts.proofs.Coverage.{divisor-le, upFrom-snoc, named-suc, named-add}
-use Rattle.layouts.proofs.Counts.{length-upFrom, below-pow, power-of}
+use Rattle.evidence.specs.Evidence.{_among_, upFrom, keep}
+use Rattle.evidence.proofs.ListLaws.{split, true-or-false, upFrom-mem, upFrom-bounds, mem-keep}
+use Rattle.layouts.specs.Layouts.{divides, lg, Name, black, tile, tree, cover, levels, blackToo, names, named, chains, position}
+use Rattle.layouts.proofs.Coverage.{divisor-le, named-suc, named-add}
+use Rattle.layouts.proofs.Counts.{length-upFrom, below-pow}
 
 -- ---- the numbers that pass a test are the first ones, where each number below one that passes does
 
@@ -36,7 +32,7 @@ keep-first p down i zero = refl
 keep-first p down i (suc k) = go (p i) refl (keep-first p down (suc i) k)
   where
     go : (b : Bool) → p i ≡ b → keep p (upFrom (suc i) k) ≡ upFrom (suc i) (length (keep p (upFrom (suc i) k))) →
-        push b i (keep p (upFrom (suc i) k)) ≡ upFrom i (length (push b i (keep p (upFrom (suc i) k))))
+        cond b (i ∷ keep p (upFrom (suc i) k)) (keep p (upFrom (suc i) k)) ≡ upFrom i (length (cond b (i ∷ keep p (upFrom (suc i) k)) (keep p (upFrom (suc i) k))))
     go true e rec = ap (λ (r : List ℕ). i ∷ r) rec
     go false e rec = rw (keep-none p down (suc i) k (up (split (p (suc i)))))
       where
@@ -68,7 +64,7 @@ getD-upFrom i (suc k) zero d l = omega arith
 getD-upFrom i (suc k) (suc j) d l = getD-upFrom (suc i) k j d (omega arith) ∙ (let e : suc i + j ≡ i + suc j = omega arith in e)
 
 -- the place of a name among the values of its day goes over to the book
-in-day : (s n g d i : ℕ) (z : Name) → g < d → i < length (names s n (suc g)) → getD (named s n d) (length (named s n g) + i) z ≡ getD (names s n (suc g)) i z
+pub in-day : (s n g d i : ℕ) (z : Name) → g < d → i < length (names s n (suc g)) → getD (named s n d) (length (named s n g) + i) z ≡ getD (names s n (suc g)) i z
 in-day s n g d i z l h =
     let r = named-add s n (suc g) (d - suc g) in
     let q : d ≡ suc g + (d - suc g) = omega arith in
@@ -82,7 +78,7 @@ getD-map-in f [] i d z h = absurd (omega arith)
 getD-map-in f (x ∷ xs) zero d z h = refl
 getD-map-in f (x ∷ xs) (suc i) d z h = getD-map-in f xs i d z (omega arith)
 
-to-chains : (s n d p : ℕ) (z x : Name) → cover n z ≡ [] → getD (named s n d) p z ≡ x → getD (chains s n d) p [] ≡ cover n x
+pub to-chains : (s n d p : ℕ) (z x : Name) → cover n z ≡ [] → getD (named s n d) p z ≡ x → getD (chains s n d) p [] ≡ cover n x
 unfolding chains
 to-chains s n d p z x e h =
     ap (λ (r : List ℕ). getD (map (cover n) (named s n d)) p r) (sym e) ∙ List·getD-map (cover n) (named s n d) p z ∙ ap (cover n) h
@@ -107,7 +103,7 @@ tile-place n g i z l =
 
 tree-place : (n g l : ℕ) (z : Name) → l < length (levels g) → getD (names 3 n g) l z ≡ tree l g
 tree-place n g l z h =
-    List·getD-append (map (λ (j : ℕ). tree j g) (levels g)) (only (blackToo n g) (black g ∷ [])) z l (rw length-map h) ∙
+    List·getD-append (map (λ (j : ℕ). tree j g) (levels g)) (cond (blackToo n g) (black g ∷ []) []) z l (rw length-map h) ∙
     getD-map-in (λ (j : ℕ). tree j g) (levels g) l 0 z h ∙
     ap (λ (j : ℕ). tree j g) (ap (λ (r : List ℕ). getD r l 0) (levels-run g) ∙ getD-upFrom 0 (length (levels g)) l 0 h ∙ zero-add l)
 
@@ -125,62 +121,3 @@ tree-position n (suc g) l d p le e =
     let h = level-in l (suc g) (omega arith) e in
     to-chains 3 n d (length (named 3 n g) + l) (black 0) (tree l (suc g)) refl
     (in-day 3 n g d l (black 0) (omega arith) (rw (length-append, length-map) (omega arith)) ∙ tree-place n (suc g) l (black 0) h)
-
--- ---- black
-
--- where n divides the day, the last value that closes is over days 1 to g
-pub black-last : (s n g : ℕ) → 1 ≤ s → s ≤ 3 → 1 ≤ g → divides n g ≡ true →
-    (xs : List Name) × (x : Name) × (names s n g ≡ xs ++ (x ∷ [])) × (blackAt g x ≡ true)
-black-last zero n g a b p e = absurd (omega arith)
-black-last (suc zero) n g a b p e = ([], black g, rw e, eq-eqb g g refl)
-black-last (suc (suc zero)) n g a b p e = (map (λ i. tile i g) (upFrom 0 (suc (lg n))), black g, rw e, eq-eqb g g refl)
-black-last (suc (suc (suc zero))) n g a b p e = go (storedOnce g) refl
-  where
-    top : (l : ℕ) × (2 ^ l ≡ g) → (k : ℕ) → length (levels g) ≡ k → (xs : List Name) × (x : Name) × (map (λ (j : ℕ). tree j g) (levels g) ≡ xs ++ (x ∷ [])) × (blackAt g x ≡ true)
-    top r zero q = absurd (omega (arith, level-in (r .0) g p (eq-eqb (g % 2 ^ (r .0)) 0 (rw (r .1) (mod-self g)))))
-    top r (suc k) q =
-        let m : k among levels g = rw (levels-run g, q) (upFrom-mem 0 (suc k) k (omega arith) (omega arith)) in
-        let c : 2 ^ k ≤ g = divisor-le (2 ^ k) g p (keep-mem (λ l. divides (2 ^ l) g) (upFrom 0 g) k m .1) in
-        let h = level-in (r .0) g p (eq-eqb (g % 2 ^ (r .0)) 0 (rw (r .1) (mod-self g))) in
-        let t : 2 ^ (r .0) ≤ 2 ^ k = pow-mono (omega arith) in
-        let w : 2 ^ k ≡ g = omega (arith, r .1) in (
-          map (λ j. tree j g) (upFrom 0 k),
-          tree k g,
-          ap (map (λ (j : ℕ). tree j g)) (levels-run g ∙ ap (upFrom 0) q ∙ upFrom-snoc 0 k ∙ ap (λ (x : ℕ). upFrom 0 k ++ (x ∷ [])) (zero-add k)) ∙
-              map-append (λ (j : ℕ). tree j g) (upFrom 0 k) (k ∷ []),
-          rw (eq-eqb g g refl, eq-eqb (2 ^ k) g w),
-        )
-
-    go : (b : Bool) → storedOnce g ≡ b → (xs : List Name) × (x : Name) × (names 3 n g ≡ xs ++ (x ∷ [])) × (blackAt g x ≡ true)
-    go true h =
-        let r = top (power-of g h) (length (levels g)) refl in
-        (r .0, r .1, rw (e, h, append-nil) (r .2), r .3)
-    go false h = (map (λ j. tree j g) (levels g), black g, rw (e, h), eq-eqb g g refl)
-black-last (suc (suc (suc (suc s)))) n g a b p e = absurd (omega arith)
-
--- a black value covers days 1 to its day
-pub black-cover : (n g : ℕ) (x : Name) → blackAt g x ≡ true → cover n x ≡ ending g g
-black-cover n g (black h) e = ap (λ (y : ℕ). ending y y) (eqb-true h g e)
-black-cover n g (tile i h) e = absurd (true-or-false e refl)
-black-cover n g (tree l h) e =
-    let b = and-both (eqb h g) (eqb (2 ^ l) g) e in
-    rw (eqb-true h g (b .0), eqb-true (2 ^ l) g (b .1))
-
-pub black-position : (s n g d : ℕ) → 1 ≤ s → s ≤ 3 → 1 ≤ g → g ≤ d → divides n g ≡ true →
-    (position s n (black g) < length (chains s n d)) × (getD (chains s n d) (position s n (black g)) [] ≡ cover n (black g))
-unfolding chains
-black-position s n zero d a b p l e = absurd (omega arith)
-black-position s n (suc g) d a b p l e =
-    let r = black-last s n (suc g) a b p e in
-    let c : length (names s n (suc g)) ≡ length (r .0) + 1 = rw (r .2, length-append) in
-    let f : length (named s n (suc g)) ≡ length (named s n g) + length (names s n (suc g)) = rw (named-suc s n g, length-append) in
-    let q : pred (length (named s n (suc g))) ≡ length (named s n g) + length (r .0) = omega arith in
-    let m = named-add s n (suc g) (d - suc g) in
-    let w : d ≡ suc g + (d - suc g) = omega arith in
-    let v : length (named s n d) ≡ length (named s n (suc g)) + length (m .0) = ap (λ (x : ℕ). length (named s n x)) w ∙ rw (m .1, length-append) in
-    let at : getD (named s n d) (length (named s n g) + length (r .0)) (black 0) ≡ r .1 =
-    in-day s n g d (length (r .0)) (black 0) (omega arith) (omega arith) ∙ rw (r .2) (getD-at (r .0) (r .1) [] (black 0) (length (r .0)) refl) in (
-      rw length-map (omega arith),
-      ap (λ (x : ℕ). getD (chains s n d) x []) q ∙ to-chains s n d (length (named s n g) + length (r .0)) (black 0) (r .1) refl at ∙
-          black-cover n (suc g) (r .1) (r .3),
-    )

@@ -1,21 +1,41 @@
--- The three layouts of 01: the chains that close at a day, by name and by the days that they cover, and the chains over d
--- days in book order. Definitions only.
-use mathlib.Core.Bool.{Bool, true, false, not, _&&_}
-use mathlib.Core.List.{List, [], _∷_, _++_, map}
+-- 01's three layouts: what is allowed; the chains in book order, their number and places; refusals 1 2 3 7. Definitions only.
+use mathlib.Core.Bool.{Bool, true, not, _&&_, _||_, cond}
+use mathlib.Core.List.{List, [], _∷_, _++_, map, flatMap}
 use Prim.Native.Nat.{ℕ, zero, suc, pred, _+_, _-_, _*_, _/_, _%_, _^_}
 use lib.Count.{ones}
-use lib.Dec.{eqb}
+use lib.Dec.{eqb, leb}
 use lib.ListN.{length}
-use Rattle.evidence.specs.Lists.{has, upFrom, keep}
-use Rattle.evidence.specs.Tables.{days}
-use Rattle.layouts.specs.Allowed.{divides}
+use Rattle.evidence.specs.Evidence.{has, upFrom, keep, days}
+
+abbrev pub divides : ℕ → ℕ → Bool  -- n divides g
+divides n g = eqb (g % n) 0
+
+-- 01's schemes: 1 to 3
+abbrev pub allowedScheme : ℕ → Bool
+allowedScheme scheme = leb 1 scheme && leb scheme 3
+
+-- 01's N: the days in a notarisation interval, a power of two from 1 to 256
+abbrev pub allowedN : ℕ → Bool
+allowedN n = has n (1 ∷ 2 ∷ 4 ∷ 8 ∷ 16 ∷ 32 ∷ 64 ∷ 128 ∷ 256 ∷ [])
+
+-- 01's F: intervals per validation, 1 to 64, and 1 under scheme 3
+abbrev pub allowedF : ℕ → ℕ → Bool
+allowedF scheme f = (leb 1 f && leb f 64) && (not (eqb scheme 3) || eqb f 1)
+
+-- 01's limit of the days in a book
+abbrev pub bookLimit : ℕ
+bookLimit = 65536
+
+-- 01's D: the days sealed, 1 to 65,536, a multiple of f · n
+abbrev pub allowedD : ℕ → ℕ → ℕ → Bool
+allowedD n f d = (leb 1 d && leb d bookLimit) && divides (f * n) d
+
+-- ---- chains
 
 -- 01's lg: the base-2 logarithm, rounded down
 abbrev pub lgIn : ℕ → ℕ → ℕ
 lgIn zero x = 0
-lgIn (suc fuel) zero = 0
-lgIn (suc fuel) (suc zero) = 0
-lgIn (suc fuel) (suc (suc x)) = suc (lgIn fuel (suc (suc x) / 2))
+lgIn (suc fuel) x = cond (leb x 1) 0 (suc (lgIn fuel (x / 2)))
 
 unfoldable pub lg : ℕ → ℕ
 lg x = lgIn x x
@@ -23,59 +43,47 @@ lg x = lgIn x x
 -- a value's chain, by name: black at day g, tile chain c(i) of the tile that ends at g, the tree's level l that ends at g
 pub data Name : Type 0 where
   black : ℕ → Name
-  tile : ℕ → ℕ → Name
-  tree : ℕ → ℕ → Name
+  tile tree : ℕ → ℕ → Name
 
--- the k days that end at g
-abbrev pub ending : ℕ → ℕ → List ℕ
+abbrev pub ending : ℕ → ℕ → List ℕ  -- the k days that end at g
 ending k g = upFrom (suc (g - k)) k
 
 -- 01's offset of a day in its tile
 abbrev pub offset : ℕ → ℕ → ℕ
 offset n day = pred day % n
 
--- whether c(i) covers an offset: c(0) all, c(i) from i = 1 those whose bit of weight n / 2^i is 0
+-- whether 01's c(i) covers an offset: c(0) all, c(i) from i = 1 those whose bit of weight n / 2^i is 0
 abbrev pub covers : ℕ → ℕ → ℕ → Bool
 covers n zero o = true
 covers n (suc i) o = eqb (o / (n / 2 ^ suc i) % 2) 0
 
--- the days that a named chain covers
-abbrev pub cover : ℕ → Name → List ℕ
+abbrev pub cover : ℕ → Name → List ℕ  -- the days that a named chain covers
 cover n (black g) = ending g g
 cover n (tile i g) = keep (λ day. covers n i (offset n day)) (ending n g)
 cover n (tree l g) = ending (2 ^ l) g
 
--- the levels of the tree's chains that end at g: l from 0 up while 2^l divides g
+-- the levels of 01's tree chains that end at g: l from 0 up while 2^l divides g
 abbrev pub levels : ℕ → List ℕ
 levels g = keep (λ l. divides (2 ^ l) g) (upFrom 0 g)
 
--- the last of these chains covers what black covers, days 1 to g
+-- 01's "stored once": the last of these chains covers what black covers, days 1 to g
 abbrev pub storedOnce : ℕ → Bool
 storedOnce g = has g (map (λ l. 2 ^ l) (levels g))
 
--- whether black is a value of its own at g under scheme 3
-abbrev pub blackToo : ℕ → ℕ → Bool
+abbrev pub blackToo : ℕ → ℕ → Bool  -- whether black is a value of its own at g under scheme 3
 blackToo n g = divides n g && not (storedOnce g)
 
-abbrev pub only : Bool → List Name → List Name
-only true xs = xs
-only false xs = []
-
--- the chains that close at day g, in order
+-- 01's three schemes: the chains that close at day g, in order
 abbrev pub names : ℕ → ℕ → ℕ → List Name
 names zero n g = []
-names (suc zero) n g = only (divides n g) (black g ∷ [])
-names (suc (suc zero)) n g = only (divides n g) (map (λ i. tile i g) (upFrom 0 (suc (lg n))) ++ (black g ∷ []))
-names (suc (suc (suc zero))) n g = map (λ l. tree l g) (levels g) ++ only (blackToo n g) (black g ∷ [])
+names (suc zero) n g = cond (divides n g) (black g ∷ []) []
+names (suc (suc zero)) n g = cond (divides n g) (map (λ i. tile i g) (upFrom 0 (suc (lg n))) ++ (black g ∷ [])) []
+names (suc (suc (suc zero))) n g = map (λ l. tree l g) (levels g) ++ cond (blackToo n g) (black g ∷ []) []
 names (suc (suc (suc (suc s)))) n g = []
-
-abbrev pub namesOf : ℕ → ℕ → List ℕ → List Name
-namesOf scheme n [] = []
-namesOf scheme n (g ∷ gs) = names scheme n g ++ namesOf scheme n gs
 
 -- 01's book order: the names of the values over d days
 unfoldable pub named : ℕ → ℕ → ℕ → List Name
-named scheme n d = namesOf scheme n (days d)
+named scheme n d = flatMap (names scheme n) (days d)
 
 -- the days covered by each chain that closes at day g, and by each over d days
 unfoldable pub closing : ℕ → ℕ → ℕ → List (List ℕ)
@@ -97,3 +105,20 @@ abbrev pub position : ℕ → ℕ → Name → ℕ
 position scheme n (black g) = pred (length (named scheme n g))
 position scheme n (tile i g) = length (named scheme n (pred g)) + i
 position scheme n (tree l g) = length (named scheme n (pred g)) + l
+
+-- ---- refusals: the number of the first test that finds its cause, 0 where none does
+
+abbrev pub unless : Bool → ℕ → ℕ  -- the number, if the test fails
+unless ok number = cond ok 0 number
+
+abbrev pub orElse : ℕ → ℕ → ℕ  -- the first of two refusals
+orElse zero y = y
+orElse (suc x) y = suc x
+
+-- 01's tests 1 2 3
+unfoldable pub setupRefusal : ℕ → ℕ → ℕ → ℕ
+setupRefusal scheme n f = orElse (unless (allowedScheme scheme) 1) (orElse (unless (allowedN n) 2) (unless (allowedF scheme f) 3))
+
+-- 01's tests 1 2 3 7
+unfoldable pub layoutRefusal : ℕ → ℕ → ℕ → ℕ → ℕ
+layoutRefusal scheme n f d = orElse (setupRefusal scheme n f) (unless (allowedD n f d) 7)

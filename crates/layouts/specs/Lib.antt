@@ -1,4 +1,1 @@
-pub mod Allowed
 pub mod Layouts
-pub mod Reading
-pub mod Examples

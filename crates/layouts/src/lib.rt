@@ -4,9 +4,8 @@ ghost use mathlib.Core.Path.{_≡_};
 ghost use mathlib.Core.Bool.{true};
 ghost use Prim.Native.Nat.{_+_, _≤_, _<_, pred};
 ghost use lib.ListN.{length};
-ghost use Rattle.layouts.specs.Allowed.{allowedScheme, allowedN, allowedF, allowedD, setupRefusal, layoutRefusal, bookLimit};
+ghost use Rattle.layouts.specs.Layouts.{allowedScheme, allowedN, allowedF, allowedD, setupRefusal, layoutRefusal, bookLimit, black, tile, tree, chains, closing, named, position};
 ghost use Rattle.layouts.specs.Layouts as spec;
-ghost use Rattle.layouts.specs.Layouts.{black, tile, tree, chains, closing, named, position};
 
 fn allowed_scheme(scheme: u32) -> bool
     ensures { λ r. ⌜ r ≡ allowedScheme scheme ⌝ }

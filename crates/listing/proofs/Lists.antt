@@ -10,11 +10,9 @@ use lib.Dec.{eqb}
 use lib.ListN.{length}
 use lib.Pow.{shr-shr}
 use borrow.Author.Tests.{eq-eqb, ne-eqb}
-use Rattle.evidence.specs.Lists.{upFrom, keep}
-use Rattle.evidence.specs.Tables.{days}
+use Rattle.evidence.specs.Evidence.{upFrom, keep, days}
 use Rattle.evidence.proofs.ListLaws.{and-both}
-use Rattle.layouts.specs.Allowed.{divides, allowedScheme}
-use Rattle.layouts.specs.Layouts.{lg, black, tile, ending}
+use Rattle.layouts.specs.Layouts.{divides, allowedScheme, lg, black, tile, ending}
 use Rattle.layouts.proofs.AllowedLaws.{allowed-n-is, allowed-scheme-is}
 use Rattle.layouts.proofs.Coverage.{divisor-le}
 use Rattle.layouts.proofs.Counts.{length-upFrom}

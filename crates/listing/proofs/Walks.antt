@@ -8,8 +8,7 @@ use native.Mathlib.Nat.{suc-mul, pow-succ', mul-assoc}
 use native.Mathlib.Omega.{arith}
 use lib.Arith.{digits-div}
 use lib.Dec.{eqb}
-use Rattle.evidence.specs.Lists.{_among_, upFrom, keep}
-use Rattle.evidence.specs.Tables.{days}
+use Rattle.evidence.specs.Evidence.{_among_, upFrom, keep, days}
 use Rattle.evidence.proofs.ListLaws.{split, true-or-false, upFrom-bounds, keep-congr, keep-append}
 use Rattle.layouts.specs.Layouts.{lg, black, tile, tree, ending}
 use Rattle.layouts.proofs.AllowedLaws.{Power}

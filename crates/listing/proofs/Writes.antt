@@ -8,7 +8,7 @@ use native.Mathlib.Omega.{arith}
 use lib.ListN.{length, take, drop, set, length-append, length-drop, take-append-drop}
 use lib.Pow.{pow-pos}
 use lib.Seq.{length-take-le, take-at, drop-at, drop-drop, set-split}
-use Rattle.evidence.specs.Lists.{upFrom}
+use Rattle.evidence.specs.Evidence.{upFrom}
 use Rattle.layouts.specs.Layouts.{lg, tree}
 use Rattle.layouts.proofs.AllowedLaws.{allowed-n-is}
 use Rattle.layouts.proofs.Coverage.{upFrom-snoc}

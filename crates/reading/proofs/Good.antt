@@ -9,15 +9,13 @@ use native.Mathlib.Nat.{mul-le-mul-right, div-mul-le-self, suc-mul, div-add-mod'
 use native.Mathlib.Decide.{decLt}
 use native.Mathlib.Omega.{arith}
 use lib.Dec.{eqb}
-use Rattle.evidence.specs.Lists.{_among_, keep, Ascends}
-use Rattle.evidence.specs.Tables.{days, meets, outcome, tableOf, Gives, listing}
+use Rattle.evidence.specs.Evidence.{_among_, keep, Ascends, days, meets, outcome, tableOf, Gives, listing}
 use Rattle.evidence.proofs.ListLaws.{split, keep-congr}
 use Rattle.evidence.proofs.TableLaws.{meets-of, meets-day, gives-listing, listing-within, listing-ascends}
-use Rattle.layouts.specs.Allowed.{divides}
-use Rattle.layouts.specs.Layouts.{Name, ending, cover, named, chains}
-use Rattle.layouts.specs.Reading.{blackAt, blackPasses, lastOf, lastGood}
+use Rattle.layouts.specs.Layouts.{divides, Name, ending, cover, named, chains}
+use Rattle.rules.specs.Reading.{blackAt, blackPasses, lastOf, lastGood}
 use Rattle.layouts.proofs.Coverage.{named-in}
-use Rattle.layouts.proofs.Positions.{black-last, black-cover}
+use Rattle.rules.proofs.BlackLaws.{black-last, black-cover}
 use Rattle.rules.proofs.Runs.{last-keep, ending-mem, ending-bounds, days-bounds, divides-multiple, div-whole}
 
 -- n divides day g, and S has no day of 1 to g

@@ -9,12 +9,10 @@ use native.Mathlib.Omega.{arith}
 use lib.Dec.{eqb}
 use lib.ListN.{length, getD, take, drop}
 use borrow.Author.Tests.{le-leb}
-use Rattle.evidence.specs.Lists.{_among_, keep}
-use Rattle.evidence.specs.Tables.{days, meets, tableOf, Gives, listing, accepted}
+use Rattle.evidence.specs.Evidence.{_among_, keep, days, meets, tableOf, Gives, listing, accepted}
 use Rattle.evidence.proofs.TableLaws.{accepted-gives, given-iff-accepted, listed-iff, listing-within}
-use Rattle.layouts.specs.Allowed.{allowedScheme, allowedN, layoutRefusal}
-use Rattle.layouts.specs.Layouts.{chains}
-use Rattle.layouts.specs.Reading.{lowOf, lastGood}
+use Rattle.layouts.specs.Layouts.{allowedScheme, allowedN, layoutRefusal, chains}
+use Rattle.rules.specs.Reading.{lowOf, lastGood}
 use Rattle.layouts.proofs.AllowedLaws.{allowed-n-is, allowed-scheme-is, allowed-d-is, layout-is}
 use Rattle.layouts.proofs.Coverage.{divisor-le}
 use Rattle.layouts.proofs.Counts.{length-upFrom}

@@ -9,10 +9,9 @@ use lib.Dec.{eqb, leb}
 use lib.ListN.{length, getD, take}
 use lib.Seq.{length-take-le, take-suc, take-all}
 use borrow.Author.Tests.{eqb-true, le-leb, lt-leb, leb-true, not-true, not-false}
-use Rattle.evidence.specs.Tables.{accepted}
+use Rattle.evidence.specs.Evidence.{accepted}
 use Rattle.evidence.proofs.ListLaws.{split, or-split, and-both}
-use Rattle.layouts.specs.Allowed.{allowedScheme, allowedN, orElse, unless, layoutRefusal}
-use Rattle.layouts.specs.Layouts.{chains}
+use Rattle.layouts.specs.Layouts.{allowedScheme, allowedN, orElse, unless, layoutRefusal, chains}
 use Rattle.layouts.proofs.AllowedLaws.{allowed-n-is, allowed-d-is, divides-factor, layout-is}
 use Rattle.reading.specs.Answers.{tableIn, bits, readRefusal}
 use Rattle.rules.specs.Rules.{Table, Bits, rules}

@@ -4,10 +4,9 @@ use mathlib.Core.List.{List, [], _∷_, _++_}
 use Prim.Native.Nat.{ℕ, zero, suc}
 use lib.Dec.{eqb, leb}
 use lib.ListN.{length, take, drop}
-use Rattle.evidence.specs.Tables.{listing, accepted}
-use Rattle.layouts.specs.Allowed.{unless, orElse, layoutRefusal}
-use Rattle.layouts.specs.Layouts.{chains}
-use Rattle.layouts.specs.Reading.{lowOf, lastGood}
+use Rattle.evidence.specs.Evidence.{listing, accepted}
+use Rattle.layouts.specs.Layouts.{unless, orElse, layoutRefusal, chains}
+use Rattle.rules.specs.Reading.{lowOf, lastGood}
 use Rattle.reading.specs.declared.Reading.{Reading}
 use Rattle.reading.specs.declared.Reading.the-variants.{Clean, Changed, Refused}
 

@@ -1,7 +1,7 @@
 -- The numbers of a changed table as they are worked out. Definitions only; a private contract cites them, and the law
 -- `said-changed` leads them back to 01's.
 use Prim.Native.Nat.{ℕ, _-_, _*_, _/_}
-use Rattle.layouts.specs.Reading.{lowOf}
+use Rattle.rules.specs.Reading.{lowOf}
 use Rattle.reading.specs.declared.Numbers.{Numbers}
 
 -- by how many days are listed and the first of them

@@ -2,10 +2,9 @@
 ghost use mathlib.Core.Path.{_≡_};
 ghost use Prim.Native.Nat.{_*_, _≤_};
 ghost use lib.ListN.{length};
-ghost use Rattle.evidence.specs.Tables.{accepted};
-ghost use Rattle.layouts.specs.Allowed.{orElse, unless};
-ghost use Rattle.layouts.specs.Layouts.{chains};
-ghost use Rattle.layouts.specs.Reading.{lowOf};
+ghost use Rattle.evidence.specs.Evidence.{accepted};
+ghost use Rattle.layouts.specs.Layouts.{orElse, unless, chains};
+ghost use Rattle.rules.specs.Reading.{lowOf};
 ghost use Rattle.rules.specs.Rules.{Table};
 ghost use Rattle.reading.specs.Answers as answer;
 ghost use Rattle.reading.specs.Answers.{saidOf, readRefusal, says, listAfter};

@@ -9,12 +9,10 @@ use native.Mathlib.Omega.{arith}
 use lib.Dec.{eqb}
 use lib.Pow.{pow-pos}
 use borrow.Author.Tests.{eq-eqb, not-false}
-use Rattle.evidence.specs.Lists.{_among_, upFrom, keep}
-use Rattle.evidence.specs.Tables.{days, Within, Gives, cleared, listing, accepted}
+use Rattle.evidence.specs.Evidence.{_among_, upFrom, keep, days, Within, Gives, cleared, listing, accepted}
 use Rattle.evidence.proofs.ListLaws.{split, true-or-false, and-both, bool-ext, upFrom-bounds, keep-mem, mem-keep, keep-congr}
 use Rattle.evidence.proofs.TableLaws.{meets-of, lists-all, listed-iff, given-iff-accepted, accepted-gives}
-use Rattle.layouts.specs.Allowed.{divides}
-use Rattle.layouts.specs.Layouts.{lg, Name, black, tile, tree, ending, offset, covers, cover, named, chains}
+use Rattle.layouts.specs.Layouts.{divides, lg, Name, black, tile, tree, ending, offset, covers, cover, named, chains}
 use Rattle.layouts.proofs.AllowedLaws.{Power, allowed-n-is, allowed-scheme-is}
 use Rattle.layouts.proofs.Coverage.{chains-within}
 use Rattle.rules.specs.Rules.{Table, Bits, passes, levelsRule, blocksRule, rules, endOf, tileBit, bitRule, bitsRule, local}

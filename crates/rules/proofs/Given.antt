@@ -8,12 +8,10 @@ use native.Mathlib.Omega.{arith}
 use lib.Dec.{eqb}
 use lib.Pow.{pow-pos}
 use borrow.Author.Tests.{eqb-true, le-leb, lt-leb}
-use Rattle.evidence.specs.Lists.{_among_, upFrom, keep}
-use Rattle.evidence.specs.Tables.{meets, Gives}
+use Rattle.evidence.specs.Evidence.{_among_, upFrom, keep, meets, Gives}
 use Rattle.evidence.proofs.ListLaws.{and-of, upFrom-bounds, keep-mem}
 use Rattle.evidence.proofs.TableLaws.{meets-of, meets-day}
-use Rattle.layouts.specs.Allowed.{divides}
-use Rattle.layouts.specs.Layouts.{lg, black, tile, tree, ending, offset, covers, cover, chains}
+use Rattle.layouts.specs.Layouts.{divides, lg, black, tile, tree, ending, offset, covers, cover, chains}
 use Rattle.layouts.proofs.AllowedLaws.{Power}
 use Rattle.layouts.proofs.Positions.{divides-half}
 use Rattle.rules.specs.Rules.{every, alike, passes, prior, tileRule, blockRule, blockAt, halvesRule, halvesAt, levelRule, levelsRule, blocksRule, rules}

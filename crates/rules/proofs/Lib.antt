@@ -1,3 +1,4 @@
+pub mod BlackLaws
 pub mod Runs
 pub mod Lookup
 pub mod Given

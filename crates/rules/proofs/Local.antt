@@ -9,11 +9,9 @@ use native.Mathlib.Omega.{arith}
 use lib.Arith.{digits-div, digits-mod}
 use lib.Dec.{eqb}
 use lib.Pow.{pow-pos, pow-lt, pow-add}
-use Rattle.evidence.specs.Lists.{_among_, upFrom, keep}
-use Rattle.evidence.specs.Tables.{days}
+use Rattle.evidence.specs.Evidence.{_among_, upFrom, keep, days}
 use Rattle.evidence.proofs.ListLaws.{true-or-false, and-both, upFrom-mem, upFrom-bounds, keep-mem, mem-keep}
-use Rattle.layouts.specs.Allowed.{divides}
-use Rattle.layouts.specs.Layouts.{lg, black, tile, tree, ending, offset, covers, cover}
+use Rattle.layouts.specs.Layouts.{divides, lg, black, tile, tree, ending, offset, covers, cover}
 use Rattle.layouts.proofs.AllowedLaws.{Power}
 use Rattle.rules.specs.Rules.{every, alike, passes, prior, tileRule, blockRule, blockAt, halvesRule, halvesAt, levelRule, levelsRule, blocksRule, rules, endOf, tileBit, bitRule, bitsRule, local}
 use Rattle.rules.proofs.Runs.{every-at, every-of, every-fails, some, some-append, some-of, some-none, some-same, keep-all, ending-bounds, ending-mem, days-bounds, bit-low, divides-multiple, div-whole}

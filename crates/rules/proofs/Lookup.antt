@@ -2,21 +2,20 @@
 use mathlib.Core.Path.{_≡_, refl, sym, ap, _∙_}
 use mathlib.Core.Logic.{_⊎_, inl, inr}
 use mathlib.Core.Bool.{Bool, true, false, not, _&&_, cond}
-use mathlib.Core.List.{List, [], _∷_, _++_, map, map-append, append-nil, List·Memᴰ·head, List·Memᴰ·tail, List·Memᴰ·append-cases, List·Memᴰ·eq-of-singleton, Memᴰ·append-left, Memᴰ·map, Memᴰ·of-map}
+use mathlib.Core.List.{List, [], _∷_, _++_, map, flatMap, map-append, append-nil, List·Memᴰ·head, List·Memᴰ·tail, List·Memᴰ·append-cases, List·Memᴰ·eq-of-singleton, Memᴰ·append-left, Memᴰ·map, Memᴰ·of-map}
 use Prim.Native.Nat.{ℕ, zero, suc, pred, _+_, _^_, _≤_, _<_}
 use native.Mathlib.Nat.{zero-add, add-zero}
 use native.Mathlib.Omega.{arith}
 use lib.Dec.{eqb}
 use lib.ListN.{length, getD, length-append, length-map}
-use Rattle.evidence.specs.Lists.{_among_, upFrom}
-use Rattle.evidence.specs.Tables.{days, Within, meets, outcome, tableOf, Gives}
+use Rattle.evidence.specs.Evidence.{_among_, upFrom, days, Within, meets, outcome, tableOf, Gives}
 use Rattle.evidence.proofs.ListLaws.{true-or-false, and-both, upFrom-mem, upFrom-bounds, keep-mem, mem-keep, map-same}
-use Rattle.layouts.specs.Allowed.{divides}
-use Rattle.layouts.specs.Layouts.{lg, Name, black, tile, tree, ending, cover, levels, storedOnce, only, names, named, chains, position}
-use Rattle.layouts.proofs.Coverage.{divisor-le, only-mem, named-suc, named-at, named-in}
+use Rattle.layouts.specs.Layouts.{divides, lg, Name, black, tile, tree, ending, cover, levels, storedOnce, names, named, chains, position}
+use Rattle.layouts.proofs.Coverage.{divisor-le, cond-mem, named-suc, named-at, named-in}
 use Rattle.layouts.proofs.Counts.{length-upFrom, below-pow}
-use Rattle.layouts.proofs.Positions.{levels-run, black-position}
+use Rattle.layouts.proofs.Positions.{levels-run}
 use Rattle.rules.specs.Rules.{Bits, passes}
+use Rattle.rules.proofs.BlackLaws.{black-position}
 use Rattle.rules.proofs.Runs.{upFrom-append}
 
 -- ---- the positions of the names in book order are 0, 1 and so on
@@ -31,25 +30,25 @@ map-map f g (x ∷ xs) = ap (λ r. f (g x) ∷ r) (map-map f g xs)
 
 -- a day's values: k that are counted from the day's first place on, and then perhaps black
 run-then : (s n g k : ℕ) (f : ℕ → Name) (b : Bool) → ((i : ℕ) → position s n (f i) ≡ length (named s n g) + i) →
-    names s n (suc g) ≡ map f (upFrom 0 k) ++ only b (black (suc g) ∷ []) →
+    names s n (suc g) ≡ map f (upFrom 0 k) ++ cond b (black (suc g) ∷ []) [] →
     map (position s n) (names s n (suc g)) ≡ upFrom (length (named s n g)) (length (names s n (suc g)))
 run-then s n g k f b h e =
-    ap (map (position s n)) e ∙ map-append (position s n) (map f (upFrom 0 k)) (only b (black (suc g) ∷ [])) ∙
-    ap (λ (r : List ℕ). r ++ map (position s n) (only b (black (suc g) ∷ []))) front ∙ back b e
+    ap (map (position s n)) e ∙ map-append (position s n) (map f (upFrom 0 k)) (cond b (black (suc g) ∷ []) []) ∙
+    ap (λ (r : List ℕ). r ++ map (position s n) (cond b (black (suc g) ∷ []) [])) front ∙ back b e
   where
     front : map (position s n) (map f (upFrom 0 k)) ≡ upFrom (length (named s n g)) k
     front =
         map-map (position s n) f (upFrom 0 k) ∙ map-same (λ (i : ℕ). position s n (f i)) (λ (i : ℕ). length (named s n g) + i) (upFrom 0 k) (λ i m. h i) ∙
         map-add (length (named s n g)) 0 k ∙ ap (λ (x : ℕ). upFrom x k) (add-zero (length (named s n g)))
 
-    count : (c : Bool) → names s n (suc g) ≡ map f (upFrom 0 k) ++ only c (black (suc g) ∷ []) → length (names s n (suc g)) ≡ k + length (only c (black (suc g) ∷ []))
+    count : (c : Bool) → names s n (suc g) ≡ map f (upFrom 0 k) ++ cond c (black (suc g) ∷ []) [] → length (names s n (suc g)) ≡ k + length (cond c (black (suc g) ∷ []) [])
     count c q = ap length q ∙ rw (length-append, length-map, length-upFrom)
 
     total : length (named s n (suc g)) ≡ length (named s n g) + length (names s n (suc g))
     total = ap length (named-suc s n g) ∙ length-append (named s n g) (names s n (suc g))
 
-    back : (c : Bool) → names s n (suc g) ≡ map f (upFrom 0 k) ++ only c (black (suc g) ∷ []) →
-        upFrom (length (named s n g)) k ++ map (position s n) (only c (black (suc g) ∷ [])) ≡ upFrom (length (named s n g)) (length (names s n (suc g)))
+    back : (c : Bool) → names s n (suc g) ≡ map f (upFrom 0 k) ++ cond c (black (suc g) ∷ []) [] →
+        upFrom (length (named s n g)) k ++ map (position s n) (cond c (black (suc g) ∷ []) []) ≡ upFrom (length (named s n g)) (length (names s n (suc g)))
     back true q =
         let c = count true q in
         let w = total in
@@ -71,11 +70,11 @@ day-positions (suc (suc zero)) n g = go (divides n (suc g)) refl
     go false e = rw e
 day-positions (suc (suc (suc zero))) n g =
     run-then 3 n g (length (levels (suc g))) (λ l. tree l (suc g)) (divides n (suc g) && not (storedOnce (suc g))) (λ i. refl)
-    (ap (λ (r : List ℕ). map (λ (l : ℕ). tree l (suc g)) r ++ only (divides n (suc g) && not (storedOnce (suc g))) (black (suc g) ∷ [])) (levels-run (suc g)))
+    (ap (λ (r : List ℕ). map (λ (l : ℕ). tree l (suc g)) r ++ cond (divides n (suc g) && not (storedOnce (suc g))) (black (suc g) ∷ []) []) (levels-run (suc g)))
 day-positions (suc (suc (suc (suc s)))) n g = refl
 
 positions : (s n d : ℕ) → map (position s n) (named s n d) ≡ upFrom 0 (length (named s n d))
-unfolding named
+unfolding named flatMap
 positions s n zero = refl
 positions s n (suc d) =
     ap (map (position s n)) (named-suc s n d) ∙ map-append (position s n) (named s n d) (names s n (suc d)) ∙
@@ -184,7 +183,7 @@ tree-named n d g l p h e =
     let b : 2 ^ l ≤ g = divisor-le (2 ^ l) g p e in
     let w = below-pow l in
     named-in 3 n d (upFrom-mem 1 d g p (omega arith)) (tree l g)
-    (Memᴰ·append-left (only (divides n g && not (storedOnce g)) (black g ∷ []))
+    (Memᴰ·append-left (cond (divides n g && not (storedOnce g)) (black g ∷ []) [])
     (Memᴰ·map (λ (j : ℕ). tree j g) (mem-keep (λ x. divides (2 ^ x) g) (upFrom 0 g) l (upFrom-mem 0 g l (omega arith) (omega arith)) e)))
 
 -- what holds of each name holds of all
@@ -199,7 +198,7 @@ each-1 P n d f x m = at (named-at 1 n d x m)
     at : (g : ℕ) × (g among days d) × (x among names 1 n g) → P x
     at r =
         let b = upFrom-bounds 1 d (r .0) (r .1) in
-        let o = only-mem (divides n (r .0)) (black (r .0) ∷ []) (r .2) in
+        let o = cond-mem (divides n (r .0)) (black (r .0) ∷ []) (r .2) in
         rw (List·Memᴰ·eq-of-singleton (o .1)) (f (r .0) (record { some = b .0; most = omega arith; whole = o .0 }))
 
 pub each-2 : (P : Name → Type 0) (n d : ℕ) → ((g : ℕ) → Block n d g → P (black g)) → ((g i : ℕ) → Block n d g → i ≤ lg n → P (tile i g)) → (x : Name) → x among named 2 n d → P x
@@ -215,7 +214,7 @@ each-2 P n d f h x m = at (named-at 2 n d x m)
     at : (g : ℕ) × (g among days d) × (x among names 2 n g) → P x
     at r =
         let b = upFrom-bounds 1 d (r .0) (r .1) in
-        let o = only-mem (divides n (r .0)) (map (λ (i : ℕ). tile i (r .0)) (upFrom 0 (suc (lg n))) ++ (black (r .0) ∷ [])) (r .2) in
+        let o = cond-mem (divides n (r .0)) (map (λ (i : ℕ). tile i (r .0)) (upFrom 0 (suc (lg n))) ++ (black (r .0) ∷ [])) (r .2) in
         go (r .0) (record { some = b .0; most = omega arith; whole = o .0 }) (List·Memᴰ·append-cases (map (λ (i : ℕ). tile i (r .0)) (upFrom 0 (suc (lg n)))) (o .1))
 
 pub each-3 : (P : Name → Type 0) (n d : ℕ) → ((g : ℕ) → Block n d g → P (black g)) → ((g l : ℕ) → Block (2 ^ l) d g → P (tree l g)) → (x : Name) → x among named 3 n d → P x
@@ -228,9 +227,9 @@ each-3 P n d f h x m = at (named-at 3 n d x m)
     last g p q r =
         rw (List·Memᴰ·eq-of-singleton (r .1)) (f g (record { some = p; most = q; whole = and-both (divides n g) (not (storedOnce g)) (r .0) .0 }))
 
-    go : (g : ℕ) → 1 ≤ g → g ≤ d → (x among map (λ (l : ℕ). tree l g) (levels g)) ⊎ (x among only (divides n g && not (storedOnce g)) (black g ∷ [])) → P x
+    go : (g : ℕ) → 1 ≤ g → g ≤ d → (x among map (λ (l : ℕ). tree l g) (levels g)) ⊎ (x among cond (divides n g && not (storedOnce g)) (black g ∷ []) []) → P x
     go g p q (inl k) = part g p q (Memᴰ·of-map (λ (l : ℕ). tree l g) (levels g) k)
-    go g p q (inr k) = last g p q (only-mem (divides n g && not (storedOnce g)) (black g ∷ []) k)
+    go g p q (inr k) = last g p q (cond-mem (divides n g && not (storedOnce g)) (black g ∷ []) k)
 
     at : (g : ℕ) × (g among days d) × (x among names 3 n g) → P x
     at r =

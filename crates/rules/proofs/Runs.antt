@@ -1,7 +1,7 @@
 -- Laws of tests over lists and of runs of days.
 use mathlib.Core.Path.{_≡_, refl, sym, ap, _∙_}
 use mathlib.Core.Logic.{_⊎_, inl, inr}
-use mathlib.Core.Bool.{Bool, true, false, _&&_, _||_}
+use mathlib.Core.Bool.{Bool, true, false, _&&_, _||_, cond}
 use mathlib.Core.List.{List, [], _∷_, _++_, append-nil, List·Memᴰ·head, List·Memᴰ·tail}
 use Prim.Native.Nat.{ℕ, zero, suc, _+_, _-_, _*_, _/_, _%_, _^_, _≤_, _<_}
 use native.Mathlib.Nat.{div-add-mod'}
@@ -11,12 +11,10 @@ use lib.Arith.{digits-mod}
 use lib.ListN.{length}
 use lib.Pow.{field, mod-mod-pow}
 use borrow.Author.Tests.{eqb-true, eq-eqb}
-use Rattle.evidence.specs.Lists.{_among_, has, upFrom, push, keep}
-use Rattle.evidence.specs.Tables.{days, Within, meets}
+use Rattle.evidence.specs.Evidence.{_among_, has, upFrom, keep, days, Within, meets}
 use Rattle.evidence.proofs.ListLaws.{split, true-or-false, and-both, and-of, mem-has, upFrom-mem, upFrom-bounds, has-keep, keep-append}
-use Rattle.layouts.specs.Allowed.{divides}
-use Rattle.layouts.specs.Layouts.{ending}
-use Rattle.layouts.specs.Reading.{lastOf}
+use Rattle.layouts.specs.Layouts.{divides, ending}
+use Rattle.rules.specs.Reading.{lastOf}
 use Rattle.layouts.proofs.Coverage.{upFrom-snoc}
 use Rattle.rules.specs.Rules.{every}
 
@@ -120,7 +118,7 @@ pub keep-length : (p : ℕ → Bool) (xs : List ℕ) → length (keep p xs) ≤ 
 keep-length p [] = omega arith
 keep-length p (x ∷ xs) = go (p x) (keep-length p xs)
   where
-    go : (b : Bool) → length (keep p xs) ≤ length xs → length (push b x (keep p xs)) ≤ length (x ∷ xs)
+    go : (b : Bool) → length (keep p xs) ≤ length xs → length (cond b (x ∷ keep p xs) (keep p xs)) ≤ length (x ∷ xs)
     go true h = omega arith
     go false h = omega arith
 
@@ -193,7 +191,7 @@ last-keep p (suc d) g l a f =
     found e (inl z) = absurd (omega arith)
     found e (inr t) = ap p (same ∙ sym e) ∙ t
 
-    go : (g ≤ d → lastOf 0 (keep p (days d)) ≡ g) → Dec (g ≡ suc d) → lastOf 0 (keep p (days d) ++ push (p (1 + d)) (1 + d) []) ≡ g
+    go : (g ≤ d → lastOf 0 (keep p (days d)) ≡ g) → Dec (g ≡ suc d) → lastOf 0 (keep p (days d) ++ cond (p (1 + d)) ((1 + d) ∷ []) []) ≡ g
     go rec (yes e) = rw (found e a) (last-append 0 (keep p (days d)) (1 + d) ∙ same ∙ sym e)
     go rec (no h) =
         let q : p (1 + d) ≡ false = ap p same ∙ f (suc d) (omega arith) (omega arith) in

@@ -9,14 +9,14 @@ use lib.Dec.{eqb}
 use lib.ListN.{length, getD, length-append}
 use lib.Pow.{pow-pos}
 use borrow.Author.Tests.{eq-eqb, ne-eqb, le-leb, lt-leb, not-true, not-false}
-use Rattle.evidence.specs.Lists.{upFrom}
+use Rattle.evidence.specs.Evidence.{upFrom}
 use Rattle.evidence.proofs.ListLaws.{upFrom-mem}
-use Rattle.layouts.specs.Allowed.{divides, allowedScheme, allowedN}
-use Rattle.layouts.specs.Layouts.{lg, Name, black, tile, tree, chains, position}
+use Rattle.layouts.specs.Layouts.{divides, allowedScheme, allowedN, lg, Name, black, tile, tree, chains, position}
 use Rattle.layouts.proofs.AllowedLaws.{allowed-n-is, allowed-scheme-is}
 use Rattle.layouts.proofs.Coverage.{divisor-le, chains-front}
-use Rattle.layouts.proofs.Positions.{divides-half, black-position}
+use Rattle.layouts.proofs.Positions.{divides-half}
 use Rattle.rules.specs.Rules.{Table, Has, Interval, Chain, every, alike, passes, prior, tileRule, blockRule, blockAt, halvesRule, halvesAt, levelRule, levelsRule, blocksRule, rules, tileBit}
+use Rattle.rules.proofs.BlackLaws.{black-position}
 use Rattle.rules.proofs.Runs.{every-more, every-fails, divides-multiple}
 use Rattle.rules.proofs.Lookup.{position-bound, tile-named, tree-named}
 use Rattle.rules.proofs.Given.{half-point}

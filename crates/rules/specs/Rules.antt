@@ -7,9 +7,8 @@ use mathlib.Core.List.{List, [], _∷_}
 use Prim.Native.Nat.{ℕ, zero, suc, pred, _-_, _*_, _/_, _%_, _^_, _≤_}
 use lib.Dec.{eqb, leb}
 use lib.ListN.{length, getD}
-use Rattle.evidence.specs.Lists.{upFrom}
-use Rattle.layouts.specs.Allowed.{divides, allowedScheme, allowedN}
-use Rattle.layouts.specs.Layouts.{lg, Name, black, tile, tree, chains, position}
+use Rattle.evidence.specs.Evidence.{upFrom}
+use Rattle.layouts.specs.Layouts.{divides, allowedScheme, allowedN, lg, Name, black, tile, tree, chains, position}
 
 -- what the tests 1 2 3 7 12 leave of a table
 pub record Table (scheme n d : ℕ) (t : List ℕ) : Type 0 where

@@ -4,7 +4,7 @@ ghost use mathlib.Core.Bool.{not, _&&_, _||_};
 ghost use Prim.Native.Nat.{suc, _^_, _≤_, _<_};
 ghost use lib.Dec.{eqb};
 ghost use lib.ListN.{length, getD};
-ghost use Rattle.evidence.specs.Lists.{upFrom};
+ghost use Rattle.evidence.specs.Evidence.{upFrom};
 ghost use Rattle.layouts.specs.Layouts.{black, tile, tree};
 ghost use Rattle.layouts.specs.Layouts as layout;
 ghost use Rattle.rules.specs.Rules as rule;

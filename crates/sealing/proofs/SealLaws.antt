@@ -9,9 +9,8 @@ use lib.Dec.{leb, ltb}
 use lib.ListN.{length, take, drop, length-append, length-drop}
 use borrow.Author.Tests.{leb-true, le-leb, lt-ltb, lt-leb}
 use borrow.Rule.Slice.PartMut.{midOf, putMid}
-use Rattle.evidence.specs.Values.{values}
-use Rattle.layouts.specs.Allowed.{bookLimit, allowedScheme, allowedN, allowedD, unless, orElse, setupRefusal, layoutRefusal}
-use Rattle.layouts.specs.Layouts.{chains, closing}
+use Rattle.evidence.specs.Evidence.{values}
+use Rattle.layouts.specs.Layouts.{bookLimit, allowedScheme, allowedN, allowedD, unless, orElse, setupRefusal, layoutRefusal, chains, closing}
 use Rattle.layouts.proofs.AllowedLaws.{unless-zero, or-else-zero, layout-is, allowed-d-is, Setup, Days}
 use Rattle.layouts.proofs.Coverage.{chains-front, chains-suc}
 use Rattle.ledger.specs.Ledger.{dayLimit, startOf, endOf, dayAt, daysOf, endsRefusal, EndsHold}

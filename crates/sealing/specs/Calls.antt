@@ -4,8 +4,7 @@ use Prim.Native.Nat.{ℕ, zero, suc, _*_}
 use lib.Dec.{leb}
 use lib.ListN.{length, drop}
 use Rattle.chains.specs.Book.{bookOf}
-use Rattle.layouts.specs.Allowed.{unless, orElse, layoutRefusal}
-use Rattle.layouts.specs.Layouts.{chains}
+use Rattle.layouts.specs.Layouts.{unless, orElse, layoutRefusal, chains}
 use Rattle.ledger.specs.Ledger.{daysOf, endsRefusal}
 use Rattle.sealing.specs.declared.Sealed.{Sealed}
 use Rattle.sealing.specs.declared.Sealed.the-variants.{Done, Refused}

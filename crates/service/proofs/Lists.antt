@@ -9,10 +9,9 @@ use lib.Dec.{eqb, leb, ltb}
 use lib.ListN.{length, take, drop, length-append, replicate}
 use lib.Seq.{take-at}
 use borrow.Author.Tests.{eqb-true, eq-eqb, leb-true, le-leb, ltb-true}
-use Rattle.evidence.specs.Values.{digest, values}
+use Rattle.evidence.specs.Evidence.{digest, values}
 use Rattle.evidence.proofs.ListLaws.{split}
-use Rattle.layouts.specs.Allowed.{bookLimit, unless, orElse, setupRefusal}
-use Rattle.layouts.specs.Layouts.{closing}
+use Rattle.layouts.specs.Layouts.{bookLimit, unless, orElse, setupRefusal, closing}
 use Rattle.layouts.proofs.AllowedLaws.{unless-zero, or-else-zero, setup-is}
 use Rattle.ledger.specs.Ledger.{dayLimit}
 use Rattle.sha256.specs.Sha256.{sha256, hashed, bytesOf}

@@ -9,8 +9,7 @@ use lib.Dec.{eqb, leb, ltb}
 use lib.ListN.{length, take, drop}
 use borrow.Author.Tests.{eqb-true, eq-eqb, ne-eqb, leb-true, leb-false, le-leb, lt-leb, ltb-true, lt-ltb, le-ltb}
 use Rattle.evidence.proofs.ListLaws.{split, true-or-false, and-both}
-use Rattle.layouts.specs.Allowed.{bookLimit, allowedScheme, allowedN, unless, orElse, setupRefusal}
-use Rattle.layouts.specs.Layouts.{names, closing}
+use Rattle.layouts.specs.Layouts.{bookLimit, allowedScheme, allowedN, unless, orElse, setupRefusal, names, closing}
 use Rattle.layouts.proofs.AllowedLaws.{unless-zero, or-else-zero, setup-is}
 use Rattle.chains.specs.declared.Value.{Value}
 use Rattle.chains.specs.declared.DayStep.{DayStep}

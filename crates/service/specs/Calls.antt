@@ -8,8 +8,7 @@ use Rattle.chains.specs.declared.Value.{Value}
 use Rattle.chains.specs.Step.{startValue, linked, linkedSlots, restarted, dayValues, valueBytes}
 use Rattle.hasher.specs.declared.Hasher.{Hasher}
 use Rattle.hasher.specs.Hasher.{begun, absorbed, finished}
-use Rattle.layouts.specs.Allowed.{bookLimit, unless, orElse, setupRefusal}
-use Rattle.layouts.specs.Layouts.{closing}
+use Rattle.layouts.specs.Layouts.{bookLimit, unless, orElse, setupRefusal, closing}
 use Rattle.ledger.specs.Ledger.{dayLimit}
 use Rattle.service.specs.declared.Record.{Record}
 use Rattle.service.specs.declared.Answer.{Answer}

@@ -4,8 +4,7 @@ use mathlib.Core.List.{List, [], _∷_, _++_}
 use Prim.Native.Nat.{ℕ, zero, suc, _+_, _*_}
 use lib.Dec.{leb, ltb}
 use lib.ListN.{length}
-use Rattle.layouts.specs.Allowed.{bookLimit, unless, orElse}
-use Rattle.layouts.specs.Layouts.{closing}
+use Rattle.layouts.specs.Layouts.{bookLimit, unless, orElse, closing}
 use Rattle.ledger.specs.Ledger.{dayLimit}
 
 -- one entry for each closed day, its bytes; and the open day's bytes

@@ -8,7 +8,7 @@ ghost use mathlib.Core.List.{_++_};
 ghost use Prim.Native.Nat.{_+_, _*_, _≤_, _<_};
 ghost use lib.ListN.{length, take, drop};
 ghost use Rattle.chains.specs.Step.{startValue, valueBytes, Stepped};
-ghost use Rattle.layouts.specs.Allowed.{setupRefusal};
+ghost use Rattle.layouts.specs.Layouts.{setupRefusal};
 ghost use Rattle.service.specs.Calls as spec;
 ghost use Rattle.service.specs.Calls.{numberOf, writingNumber, opened, recordRefusal, addRefusal, added, closeRefusal, closed, written};
 

@@ -1,6 +1,6 @@
 -- From the tests and from what reading says to the text.
 use mathlib.Core.Path.{_≡_, refl, sym, ap, ap₂, _∙_}
-use mathlib.Core.Bool.{Bool, true, false, not, _&&_}
+use mathlib.Core.Bool.{Bool, true, false, not, _&&_, cond}
 use mathlib.Core.List.{List, [], _∷_, _++_, map}
 use Prim.Native.Nat.{ℕ, zero, suc, _+_, _-_, _≤_, _<_}
 use native.Mathlib.Omega.{arith}
@@ -8,12 +8,10 @@ use lib.Dec.{leb}
 use lib.ListN.{length, take, drop, length-append, length-map, length-drop}
 use lib.Seq.{take-at, length-take-le}
 use borrow.Author.Tests.{le-leb, lt-leb, leb-true}
-use Rattle.evidence.specs.Lists.{upFrom, keep, push}
-use Rattle.evidence.specs.Tables.{days, listing, cleared}
+use Rattle.evidence.specs.Evidence.{upFrom, keep, days, listing, cleared}
 use Rattle.evidence.proofs.ListLaws.{and-both}
-use Rattle.layouts.specs.Allowed.{unless, layoutRefusal}
-use Rattle.layouts.specs.Layouts.{chains}
-use Rattle.layouts.specs.Reading.{lastGood}
+use Rattle.layouts.specs.Layouts.{unless, layoutRefusal, chains}
+use Rattle.rules.specs.Reading.{lastGood}
 use Rattle.layouts.proofs.Counts.{length-upFrom}
 use Rattle.rules.proofs.Runs.{keep-length}
 use Rattle.reading.specs.Answers as answer
@@ -69,7 +67,7 @@ days-kept p (x ∷ xs) = go (p x) (days-kept p xs)
     L : List ℕ
     L = line (68 ∷ 65 ∷ 89 ∷ []) (x ∷ [])
 
-    go : (b : Bool) → length (dayLines (keep p xs)) ≤ length (dayLines xs) → length (dayLines (push b x (keep p xs))) ≤ length (L ++ dayLines xs)
+    go : (b : Bool) → length (dayLines (keep p xs)) ≤ length (dayLines xs) → length (dayLines (cond b (x ∷ keep p xs) (keep p xs))) ≤ length (L ++ dayLines xs)
     go true h = omega (arith, length-append L (dayLines (keep p xs)), length-append L (dayLines xs))
     go false h = omega (arith, length-append L (dayLines xs))
 

@@ -1,10 +1,9 @@
 -- 01's example of the program, and a refusal, computed from the definitions.
 use mathlib.Core.Path.{_≡_, refl}
-use mathlib.Core.List.{[], _∷_}
-use Rattle.evidence.specs.Tables.{tableOf, listing, accepted}
-use Rattle.layouts.specs.Allowed.{setupRefusal, layoutRefusal}
-use Rattle.layouts.specs.Layouts.{lg, named, closing, chains}
-use Rattle.layouts.specs.Reading.{lastGood}
+use mathlib.Core.List.{[], _∷_, flatMap}
+use Rattle.evidence.specs.Evidence.{tableOf, listing, accepted}
+use Rattle.layouts.specs.Layouts.{setupRefusal, layoutRefusal, lg, named, closing, chains}
+use Rattle.rules.specs.Reading.{lastGood}
 use Rattle.reading.specs.Answers.{readRefusal, listedIn, found, says}
 use Rattle.table_text.specs.Text.{afterDigits, isNumber, isField, valueIn, afterField, isFormed, outcomesIn, formRefusal, extraRefusal, tableRefusal, textRefusal, decimal, line, noLine, refLine, dayLines, lines, report, textOf}
 
@@ -12,10 +11,10 @@ use Rattle.table_text.specs.Text.{afterDigits, isNumber, isField, valueI
 pub paper :
     textOf (50 ∷ 44 ∷ 52 ∷ 44 ∷ 49 ∷ 44 ∷ 56 ∷ 10 ∷ 49 ∷ 49 ∷ 49 ∷ 49 ∷ 48 ∷ 48 ∷ 49 ∷ 48 ∷ 10 ∷ []) ≡
     82 ∷ 69 ∷ 70 ∷ 44 ∷ 50 ∷ 44 ∷ 50 ∷ 44 ∷ 54 ∷ 44 ∷ 53 ∷ 44 ∷ 56 ∷ 44 ∷ 52 ∷ 10 ∷ 68 ∷ 65 ∷ 89 ∷ 44 ∷ 54 ∷ 10 ∷ 68 ∷ 65 ∷ 89 ∷ 44 ∷ 56 ∷ 10 ∷ []
-unfolding textOf textRefusal formRefusal isFormed isField isNumber afterDigits afterField valueIn outcomesIn tableRefusal extraRefusal layoutRefusal setupRefusal readRefusal report says found listedIn listing accepted tableOf lastGood chains closing named lg lines refLine dayLines line decimal
+unfolding textOf textRefusal formRefusal isFormed isField isNumber afterDigits afterField valueIn outcomesIn tableRefusal extraRefusal layoutRefusal setupRefusal readRefusal report says found listedIn listing accepted tableOf lastGood chains closing named flatMap lg lines refLine dayLines line decimal
 paper = refl
 
 -- `1,2,1,2` and `22` print `NO,15`: the extra digit is found before the digit over 1
 pub extra-first : textOf (49 ∷ 44 ∷ 50 ∷ 44 ∷ 49 ∷ 44 ∷ 50 ∷ 10 ∷ 50 ∷ 50 ∷ 10 ∷ []) ≡ 78 ∷ 79 ∷ 44 ∷ 49 ∷ 53 ∷ 10 ∷ []
-unfolding textOf textRefusal formRefusal isFormed isField isNumber afterDigits afterField valueIn outcomesIn tableRefusal extraRefusal layoutRefusal setupRefusal readRefusal noLine chains closing named lg line decimal
+unfolding textOf textRefusal formRefusal isFormed isField isNumber afterDigits afterField valueIn outcomesIn tableRefusal extraRefusal layoutRefusal setupRefusal readRefusal noLine chains closing named flatMap lg line decimal
 extra-first = refl

@@ -4,9 +4,8 @@ use mathlib.Core.List.{List, [], _∷_, _++_, map}
 use Prim.Native.Nat.{ℕ, zero, suc, _+_, _-_, _*_, _/_, _%_}
 use lib.Dec.{eqb, leb, ltb}
 use lib.ListN.{length, take, drop, getD}
-use Rattle.evidence.specs.Lists.{same}
-use Rattle.layouts.specs.Allowed.{unless, orElse, layoutRefusal}
-use Rattle.layouts.specs.Layouts.{chains}
+use Rattle.evidence.specs.Evidence.{same}
+use Rattle.layouts.specs.Layouts.{unless, orElse, layoutRefusal, chains}
 use Rattle.reading.specs.Answers.{Said, readRefusal, says, listedIn}
 
 abbrev pub comma : ℕ

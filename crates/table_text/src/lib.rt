@@ -5,7 +5,7 @@ ghost use mathlib.Core.Bool.{_&&_};
 ghost use mathlib.Core.List.{_∷_, [], _++_, map};
 ghost use Prim.Native.Nat.{_+_, _-_, _*_, _≤_, _<_};
 ghost use lib.ListN.{length, take, drop};
-ghost use Rattle.evidence.specs.Lists.{same};
+ghost use Rattle.evidence.specs.Evidence.{same};
 ghost use Rattle.listing.specs.Walks.{Wrote};
 ghost use Rattle.reading.specs.Answers.{saidOf};
 ghost use Rattle.table_text.specs.Text as spec;

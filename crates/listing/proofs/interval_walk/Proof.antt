@@ -3,8 +3,7 @@ use Rattle.rules.proofs.Steps.{interval-of, interval-end, count-fits, product-f
 use Rattle.rules.specs.Rules.{local}
 use Rattle.listing.specs.Walks.{Wrote}
 use Rattle.layouts.proofs.AllowedLaws.{allowed-n-is}
-use Rattle.evidence.specs.Tables.{days}
-use Rattle.evidence.specs.Lists.{keep}
+use Rattle.evidence.specs.Evidence.{days, keep}
 use native.Mathlib.Omega.{arith}
 use native.Mathlib.Nat.{zero-mul}
 use Prim.Native.Nat.{_+_, _-_, _*_, _≤_}

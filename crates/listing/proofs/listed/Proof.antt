@@ -1,7 +1,7 @@
 use Rattle.listing.proofs.Lists.{local-as, below-third, rules-levels}
 use Rattle.listing.proofs.Writes.{wrote-as}
 use Rattle.rules.proofs.Steps.{table-as}
-use Rattle.evidence.specs.Tables.{days}
+use Rattle.evidence.specs.Evidence.{days}
 use borrow.Author.Needs.{needs}
 use Rattle.listing.proofs.listed.Statement.{statement}
 use Rattle.listing.proofs.listed.Tie as tie

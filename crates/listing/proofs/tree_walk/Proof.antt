@@ -1,8 +1,7 @@
 use Rattle.listing.proofs.Lists.{none-yet, no-level, level-place, next-level, level-length, all-levels}
 use Rattle.rules.specs.Rules.{local}
 use Rattle.listing.specs.Walks.{Wrote}
-use Rattle.evidence.specs.Tables.{days}
-use Rattle.evidence.specs.Lists.{keep}
+use Rattle.evidence.specs.Evidence.{days, keep}
 use native.Mathlib.Omega.{arith}
 use Prim.Native.Nat.{_*_, _/_, _^_, _≤_}
 use Rattle.listing.proofs.tree_walk.Statement.{statement}

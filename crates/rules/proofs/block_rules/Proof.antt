@@ -1,7 +1,7 @@
 use Rattle.rules.proofs.Steps.{every-next, every-stop, every-done, block-at-by, blocks-by, interval-of, product-fits, count-fits}
 use Rattle.rules.specs.Rules.{every, blockAt}
 use Rattle.layouts.proofs.AllowedLaws.{allowed-n-is}
-use Rattle.evidence.specs.Lists.{upFrom}
+use Rattle.evidence.specs.Evidence.{upFrom}
 use native.Mathlib.Omega.{arith}
 use Prim.Native.Nat.{_+_, _-_, _/_, _≤_}
 use mathlib.Core.Bool.{true}

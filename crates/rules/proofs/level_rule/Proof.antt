@@ -1,6 +1,6 @@
 use Rattle.rules.proofs.Steps.{count-fits, every-next, every-stop, every-done, halves-at-by, level-by, chain-next-of, weight-positive, product-fits}
 use Rattle.rules.specs.Rules.{every, halvesAt}
-use Rattle.evidence.specs.Lists.{upFrom}
+use Rattle.evidence.specs.Evidence.{upFrom}
 use borrow.Author.Needs.{needs}
 use native.Mathlib.Omega.{arith}
 use Prim.Native.Nat.{_+_, _-_, _/_, _≤_}

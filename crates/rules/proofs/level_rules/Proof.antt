@@ -1,6 +1,6 @@
 use Rattle.rules.proofs.Steps.{every-next, every-stop, every-done, levels-by}
 use Rattle.rules.specs.Rules.{every, levelRule}
-use Rattle.evidence.specs.Lists.{upFrom}
+use Rattle.evidence.specs.Evidence.{upFrom}
 use native.Mathlib.Omega.{arith}
 use Prim.Native.Nat.{_-_, _≤_}
 use mathlib.Core.Bool.{true}

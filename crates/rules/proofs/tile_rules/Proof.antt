@@ -2,7 +2,7 @@ use Rattle.rules.proofs.Steps.{every-next, every-stop, every-done}
 use Rattle.rules.specs.Rules.{every, tileRule}
 use Rattle.layouts.proofs.AllowedLaws.{allowed-n-is}
 use Rattle.layouts.specs.Layouts.{lg}
-use Rattle.evidence.specs.Lists.{upFrom}
+use Rattle.evidence.specs.Evidence.{upFrom}
 use native.Mathlib.Omega.{arith}
 use Prim.Native.Nat.{_+_, _-_, _≤_}
 use mathlib.Core.Bool.{true}

@@ -1,12 +1,10 @@
 -- The numbers that reading gives beside the listed days. Definitions only.
-use mathlib.Core.Bool.{Bool, true, false, _&&_, _||_}
+use mathlib.Core.Bool.{Bool, false, _&&_, _||_}
 use mathlib.Core.List.{List, [], _∷_}
-use Prim.Native.Nat.{ℕ, zero, suc, pred, _-_, _*_, _^_, max}
+use Prim.Native.Nat.{ℕ, pred, _-_, _*_, _^_, max}
 use lib.Dec.{eqb}
-use Rattle.evidence.specs.Lists.{keep}
-use Rattle.evidence.specs.Tables.{days}
-use Rattle.layouts.specs.Allowed.{divides}
-use Rattle.layouts.specs.Layouts.{Name, black, tile, tree, named}
+use Rattle.evidence.specs.Evidence.{keep, days}
+use Rattle.layouts.specs.Layouts.{divides, Name, black, tile, tree, named}
 
 -- the first of the listed days, 0 if there is none
 abbrev pub firstOf : List ℕ → ℕ

@@ -1,18 +1,15 @@
 -- The marked examples hold: antt computes the listing and the acceptance, and the laws of tables turn them into statements
 -- about the sets that give a table.
-use mathlib.Core.Path.{_≡_, refl, sym, ap, _∙_}
-use mathlib.Core.Logic.{_↔_}
-use mathlib.Core.Bool.{Bool, true, false}
-use mathlib.Core.List.{List, [], _∷_}
+use mathlib.Core.Path.{_≡_, refl}
+use mathlib.Core.Bool.{true, false}
+use mathlib.Core.List.{List, flatMap}
 use Prim.Native.Nat.{ℕ}
-use lib.ListN.{length}
-use Rattle.evidence.specs.Lists.{_among_, Ascends}
-use Rattle.evidence.specs.Tables.{tableOf, Gives, listing, accepted}
+use Rattle.evidence.specs.Evidence.{tableOf, listing, accepted}
 use Rattle.evidence.proofs.ListLaws.{true-or-false}
-use Rattle.evidence.proofs.TableLaws.{listing-ascends, accepted-gives, given-iff-accepted, listed-iff}
-use Rattle.layouts.specs.Layouts.{lg, named, chains, valueCount}
-use Rattle.layouts.specs.Reading.{firstOf, lowOf, lastGood}
-use Rattle.layouts.specs.Examples.{Lists, NotGiven, Counts, Reads, Examples}
+use Rattle.evidence.proofs.TableLaws.{listing-ascends, given-iff-accepted, listed-iff}
+use Rattle.layouts.specs.Layouts.{lg, named, chains}
+use Rattle.rules.specs.Reading.{lastGood}
+use Rattle.examples.specs.Examples.{Lists, NotGiven, Examples}
 
 lists : (s n d : ℕ) (table list : List ℕ) → accepted (chains s n d) d table ≡ true → listing (chains s n d) d table ≡ list → Lists s n d table list
 lists s n d table list a e =
@@ -26,7 +23,7 @@ refused : (s n d : ℕ) (table : List ℕ) → accepted (chains s n d) d table �
 refused s n d table e S h = true-or-false (given-iff-accepted (chains s n d) d table .0 (S, h)) e
 
 pub examples : Examples
-unfolding listing accepted tableOf lg named chains lastGood lib.Count.ones lib.Count.onesIn
+unfolding listing accepted tableOf lg named flatMap chains lastGood lib.Count.ones lib.Count.onesIn
 examples =
     record {
       figure = record { lists = lists 2 16 64 _ _ refl refl; low-is = refl; good-is = refl };
