@@ -2,7 +2,7 @@
 // whether a tile chain covers a day.
 ghost use mathlib.Core.Path.{_≡_};
 ghost use mathlib.Core.Bool.{true};
-ghost use Prim.Native.Nat.{_+_, _≤_, _<_, pred};
+ghost use Prim.Native.Nat.{_+_, _/_, _≤_, _<_, pred};
 ghost use lib.ListN.{length};
 ghost use Rattle.layouts.specs.Layouts.{allowedScheme, allowedN, allowedF, allowedD, setupRefusal, layoutRefusal, bookLimit, black, tile, tree, chains, closing, named, position};
 ghost use Rattle.layouts.specs.Layouts as spec;
@@ -91,13 +91,21 @@ pub fn lg(x: u32) -> u32
     31 - u32::leading_zeros(x)
 }
 
+// g / n, by a shift: n is a power of two.
+fn intervals(n: u32, g: u32) -> u32
+    requires { ⌜ allowedN n ≡ true ⌝ }
+    ensures { λ r. ⌜ r ≡ g / n ⌝ }
+{
+    g >> lg(n)
+}
+
 // The values of the days 1 to g under scheme 3. Of black those stored once, at the powers of two, are not counted again: as
 // many as b = g / n has binary digits, which is 1 + lg b, and 0 of 0.
 fn tree_through(n: u32, g: u32) -> u32
     requires { ⌜ (allowedN n ≡ true) × (g ≤ 65536) ⌝ }
     ensures { λ r. ⌜ r ≡ length (chains 3 n g) ⌝ }
 {
-    let b = g / n;
+    let b = intervals(n, g);
     2 * g - u32::count_ones(g) + b - (32 - u32::leading_zeros(b))
 }
 
@@ -107,10 +115,10 @@ pub fn values_through(scheme: u32, n: u32, g: u32) -> u32
     ensures { λ r. ⌜ r ≡ length (chains scheme n g) ⌝ }
 {
     if scheme == 1 {
-        return g / n;
+        return intervals(n, g);
     }
     if scheme == 2 {
-        return g / n * (2 + lg(n));
+        return intervals(n, g) * (2 + lg(n));
     }
     tree_through(n, g)
 }

@@ -3,27 +3,35 @@ use borrow.Author.Needs.{needs}
 use Rattle.layouts.proofs.tree_through.Statement.{statement}
 use Rattle.layouts.proofs.tree_through.Tie as tie
 
-div-b : tie.Need-div-b
-div-b c = tree-sum-is (c .args .n) (c .args .g) (c .pre .0) (c .pre .1) .positive
+intervals-requires : tie.Need-intervals-requires
+intervals-requires c κs = search needs
 
 mul-result : tie.Need-mul-result
 mul-result c = search needs
 
 sub-result : tie.Need-sub-result
-sub-result c = tree-sum-is (c .args .n) (c .args .g) (c .pre .0) (c .pre .1) .first
+sub-result c = tree-sum-is (c .before .args .n) (c .before .args .g) (c .before .pre .0) (c .before .pre .1) .first
 
 add-result : tie.Need-add-result
-add-result c = record { fits = tree-sum-is (c .args .n) (c .args .g) (c .pre .0) (c .pre .1) .second }
+add-result c = record { fits = rw (c .intervals .ensures) (tree-sum-is (c .before .args .n) (c .before .args .g) (c .before .pre .0) (c .before .pre .1) .second) }
 
 sub-result-2 : tie.Need-sub-result-2
-sub-result-2 c = tree-sum-is (c .args .n) (c .args .g) (c .pre .0) (c .pre .1) .third
+sub-result-2 c = rw (c .intervals .ensures) (tree-sum-is (c .before .args .n) (c .before .args .g) (c .before .pre .0) (c .before .pre .1) .third)
 
 sub-result-3 : tie.Need-sub-result-3
-sub-result-3 c = tree-sum-is (c .args .n) (c .args .g) (c .pre .0) (c .pre .1) .fourth
+sub-result-3 c = rw (c .intervals .ensures) (tree-sum-is (c .before .args .n) (c .before .args .g) (c .before .pre .0) (c .before .pre .1) .fourth)
 
 returns : tie.Need-returns
-returns c = tree-sum-is (c .args .n) (c .args .g) (c .pre .0) (c .pre .1) .whole
+returns c = rw (c .intervals .ensures) (tree-sum-is (c .before .args .n) (c .before .args .g) (c .before .pre .0) (c .before .pre .1) .whole)
 
 pub tree-through-spec : {M : Type 1} → statement M
 tree-through-spec =
-    tie.close (tie.spec div-b mul-result sub-result add-result sub-result-2 sub-result-3 returns)
+    tie.close
+    (tie.spec
+    intervals-requires
+    mul-result
+    sub-result
+    add-result
+    sub-result-2
+    sub-result-3
+    returns)

@@ -1,30 +1,30 @@
+use Prim.Native.Nat.{ℕ, _+_, _*_}
+use mathlib.Core.Path.{ap, _∙_}
 use Rattle.layouts.proofs.AllowedLaws.{lg-fits, allowed-n-is, tile-bound, through-1, through-2, through-3}
-use mathlib.Core.Path.{sym, ap, _∙_}
-use native.Mathlib.Omega.{arith}
 use borrow.Author.Needs.{needs}
 use Rattle.layouts.proofs.values_through.Statement.{statement}
 use Rattle.layouts.proofs.values_through.Tie as tie
 
-div-result : tie.Need-div-result
-div-result c = allowed-n-is _ (c .before .pre .1) .some
+intervals-requires : tie.Need-intervals-requires
+intervals-requires c κs = search needs
 
 returns : tie.Need-returns
-returns c = through-1 _ _ _ (c .if1 .taken) (c .before .pre .1)
+returns c = c .intervals .ensures ∙ through-1 _ _ _ (c .before .if1 .taken) (c .before .before .pre .1)
 
-div-result-2 : tie.Need-div-result-2
-div-result-2 c = allowed-n-is _ (c .before .before .pre .1) .some
+intervals-requires-2 : tie.Need-intervals-requires-2
+intervals-requires-2 c κs = search needs
 
 lg-requires : tie.Need-lg-requires
-lg-requires c κs = allowed-n-is _ (c .before .before .pre .1) .some
+lg-requires c κs = allowed-n-is _ (c .before .before .before .pre .1) .some
 
 add-result : tie.Need-add-result
-add-result c = record { fits = lg-fits _ _ (c .before .before .before .pre .1) (c .lg .ensures) }
+add-result c = record { fits = lg-fits _ _ (c .before .before .before .before .pre .1) (c .lg .ensures) }
 
 mul-result : tie.Need-mul-result
-mul-result c = record { fits = rw (c .lg .ensures) (tile-bound _ _ (c .before .before .before .pre .1) (c .before .before .before .pre .2)) }
+mul-result c = record { fits = rw (c .before .intervals2 .ensures, c .lg .ensures) (tile-bound _ _ (c .before .before .before .before .pre .1) (c .before .before .before .before .pre .2)) }
 
 returns-2 : tie.Need-returns-2
-returns-2 c = through-2 _ _ _ _ (c .before .if2 .taken) (c .before .before .before .pre .1) (c .lg .ensures)
+returns-2 c = ap (λ (x : ℕ). x * (2 + c .lg .result)) (c .before .intervals2 .ensures) ∙ through-2 _ _ _ _ (c .before .before .if2 .taken) (c .before .before .before .before .pre .1) (c .lg .ensures)
 
 tree-through-requires : tie.Need-tree-through-requires
 tree-through-requires c κs = search needs
@@ -36,9 +36,9 @@ pub values-through-spec : {M : Type 1} → statement M
 values-through-spec =
     tie.close
     (tie.spec
-    div-result
+    intervals-requires
     returns
-    div-result-2
+    intervals-requires-2
     lg-requires
     add-result
     mul-result
