@@ -5,9 +5,10 @@ use mathlib.Core.Path.{_≡_, refl, sym, ap, ap₂, _∙_}
 use mathlib.Core.List.{List, [], _∷_, _++_, append-assoc, append-nil}
 use native.Mathlib.Omega.{arith}
 use native.Mathlib.Numerals.{add-one, towards-suc}
-use lib.ListN.{length, getD, take, drop, length-append, length-drop, take-append-drop}
+use lib.ListN.{length, getD, take, drop, length-append, length-drop, take-append-drop, replicate}
 use lib.Seq.{take-all, take-at, drop-at, drop-drop, drop-cons, take-add, getD-append-seam, getD-append-add}
 use Rattle.chains.specs.declared.Value.{Value}
+use Rattle.service.specs.Calls.{noValue, zeros}
 use Rattle.service.specs.declared.Record.{Record}
 use Rattle.record_bytes.specs.Bytes.{numbersBytes, slotsBytes, recordBytes, numberAt, numbersAt, valueAt, slotsAt, recordOf, Words, Slots, Fits}
 
@@ -186,3 +187,8 @@ record-back r fits =
     let block : take 64 (drop 628 b) ≡ r .block =
     ap (λ (l : List ℕ). take 64 (drop 628 l)) (sym b₄) ∙ ap (take 64) (drop-at (((cs ++ hs) ++ ks) ++ ss) (r .block) 628 p₄) ∙ take-all 64 (r .block) (let e = fits .block-many in omega arith) in
     same-record b r (n .0) (n .1) (n .2) (n .3) (n .4) hash block black running
+
+-- a refused open's record, as bytes
+pub zeros-bytes : recordBytes zeros ≡ replicate 692 0
+unfolding recordBytes numbersBytes slotsBytes zeros noValue
+zeros-bytes = refl

@@ -38,7 +38,7 @@ unfoldable pub slotsAt : ℕ → List ℕ → ℕ → List Value
 slotsAt zero b i = []
 slotsAt (suc k) b i = valueAt b i ∷ slotsAt k b (i + 32)
 
--- the record that 692 bytes say, whatever they are
+-- the record that 692 bytes say, whatever they are; the laws `bytes-back` and `record-back`: the two undo each other
 unfoldable pub recordOf : List ℕ → Record
 recordOf b =
     record {
