@@ -1,0 +1,60 @@
+/* Short days: the cost of a day beside its compressions. */
+#include "calls.h"
+#include "report.h"
+#include "timing.h"
+
+#include <stdio.h>
+
+#define SECONDS 3.0
+#define DAYS 64
+#define N 8
+
+enum { BARE, SEAL, CHECK, CLOSE, JOBS };
+
+/* One long day whose digest and link are so many blocks: its bytes, the byte before them and nine bytes
+ * of padding and length fill the blocks of the digest; the link has two. */
+static struct ledger bare_ledger(size_t blocks) { return make_ledger(1, 64 * (blocks - 2) - 10); }
+
+static double over(double time, double bare) { return 100 * (time / bare - 1); }
+
+static void print_row(uint32_t scheme, size_t size, size_t blocks, const double *t) {
+  printf("| %s | %zu | %.2f | %+.1f %% | %+.1f %% | %+.1f %% | %.2f |\n", scheme_name(scheme), size,
+         (double)blocks / DAYS, over(t[SEAL], t[BARE]), over(t[CHECK], t[BARE]), over(t[CLOSE], t[BARE]),
+         t[CHECK] / t[SEAL]);
+}
+
+static void note_targets(uint32_t scheme, const double *t) {
+  target_at_most("check against seal, time", t[CHECK] / t[SEAL], 1.1);
+  if (scheme == 3) {
+    target_at_most("tree: seal against its compressions", t[SEAL] / t[BARE], 1.1);
+    target_at_most("tree: close against its compressions", t[CLOSE] / t[BARE], 1.1);
+  }
+}
+
+static void row(uint32_t scheme, size_t size) {
+  size_t blocks = model_blocks(scheme, N, DAYS);
+  struct ledger ledger = make_ledger(DAYS, size), one = bare_ledger(blocks);
+  struct books books = make_books(scheme, N, ledger), bare = make_books(1, 1, one);
+  struct job jobs[JOBS] = {{seal_job, &bare, 1}, {seal_job, &books, 1}, {check_job, &books, 1}, {close_job, &books, 1}};
+  double t[JOBS];
+  compare_books(&books);
+  compare_books(&bare);
+  least_times(jobs, JOBS, SECONDS, t);
+  print_row(scheme, size, blocks, t);
+  note_targets(scheme, t);
+  drop_books(&books);
+  drop_books(&bare);
+  drop_ledger(&ledger);
+  drop_ledger(&one);
+}
+
+void short_days(void) {
+  printf("\n### Short days\n\nTime beyond the bare compressions: the same number of blocks in one long day. "
+         "N %d, F 1, %d days.\nClose is the call with its record in bytes, with an add before it where the day "
+         "has bytes.\n\n", N, DAYS);
+  printf("| layout | bytes a day | blocks a day | seal | check | close | check / seal |\n|---|---|---|---|---|---|---|\n");
+  for (uint32_t scheme = 1; scheme <= SCHEMES; scheme++) {
+    row(scheme, 0);
+    row(scheme, 40);
+  }
+}

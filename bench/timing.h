@@ -1,0 +1,15 @@
+/* Times of jobs that are run by turns. */
+#ifndef TIMING_H
+#define TIMING_H
+
+struct job {
+  void (*run)(void *arg);
+  void *arg;
+  int times; /* runs in a turn */
+};
+
+/* Runs the jobs by turns for some seconds, eight rounds at least. Gives each job's least time of one run,
+ * in seconds of the processor: what other programs take is not in it. */
+void least_times(const struct job *jobs, int count, double seconds, double *least);
+
+#endif
