@@ -3,17 +3,19 @@ use mathlib.Core.Path.{_≡_, refl, sym, ap, _∙_}
 use mathlib.Core.Logic.{_⊎_, inl, inr}
 use mathlib.Core.Bool.{Bool, true, false, not, _&&_, _||_}
 use mathlib.Core.List.{List, [], _∷_, _++_}
-use Prim.Native.Nat.{ℕ, zero, suc, _+_, _≤_, _<_}
+use Prim.Native.Nat.{ℕ, zero, suc, _+_, _≤_, _<_, min, max}
 use native.Mathlib.Omega.{arith}
 use lib.Dec.{eqb, leb}
 use lib.ListN.{length, getD, take}
 use lib.Seq.{length-take-le, take-suc, take-all}
-use borrow.Author.Tests.{eqb-true, le-leb, lt-leb, leb-true, not-true, not-false}
-use Rattle.evidence.specs.Evidence.{accepted}
-use Rattle.evidence.proofs.ListLaws.{split, or-split, and-both}
+use borrow.Author.Tests.{eqb-true, ne-eqb, le-leb, lt-leb, leb-true, not-true, not-false}
+use Rattle.evidence.specs.Evidence.{meets, tableOf, Gives, accepted}
+use Rattle.evidence.proofs.ListLaws.{true-or-false, or-split, and-both, bool-ext, mem-has}
+use Rattle.evidence.proofs.TableLaws.{given-iff-accepted}
 use Rattle.layouts.specs.Layouts.{allowedScheme, allowedN, orElse, unless, layoutRefusal, chains}
 use Rattle.layouts.proofs.AllowedLaws.{allowed-n-is, allowed-d-is, divides-factor, layout-is}
 use Rattle.reading.specs.Answers.{tableIn, bits, readRefusal}
+use Rattle.reading.specs.Changed.{greatest, least}
 use Rattle.rules.specs.Rules.{Table, Bits, rules}
 use Rattle.rules.proofs.Accepted.{accepted-rules}
 
@@ -28,37 +30,65 @@ bits-at (o ∷ t) e zero = go (or-split (eqb o 0) (eqb o 1) (and-both (eqb o 0 |
     go (inr h) = inr (eqb-true o 1 h)
 bits-at (o ∷ t) e (suc p) = bits-at t (and-both (eqb o 0 || eqb o 1) (bits t) e .1) p
 
-bits-append : (xs ys : List ℕ) → bits (xs ++ ys) ≡ bits xs && bits ys
-bits-append [] ys = refl
-bits-append (x ∷ xs) ys = rw (bits-append xs ys) (assoc (eqb x 0 || eqb x 1))
-  where
-    assoc : (b : Bool) → b && (bits xs && bits ys) ≡ (b && bits xs) && bits ys
-    assoc true = refl
-    assoc false = refl
+-- ---- the greatest and the least outcome
 
-is-bit : (x : ℕ) → x ≤ 1 → eqb x 0 || eqb x 1 ≡ true
-is-bit zero l = refl
-is-bit (suc zero) l = refl
-is-bit (suc (suc x)) l = absurd (omega arith)
+greatest-append : (xs ys : List ℕ) → greatest (xs ++ ys) ≡ max (greatest xs) (greatest ys)
+greatest-append [] ys = omega arith
+greatest-append (x ∷ xs) ys = let e = greatest-append xs ys in omega arith
 
-pub bits-next : (t : List ℕ) (i : ℕ) → i < length t → bits (take i t) ≡ true → getD t i 0 ≤ 1 → bits (take (i + 1) t) ≡ true
-bits-next t i l h b =
+least-one : (l : List ℕ) → least l ≤ 1
+least-one [] = omega arith
+least-one (x ∷ l) = let e = least-one l in omega arith
+
+least-append : (xs ys : List ℕ) → least (xs ++ ys) ≡ min (least xs) (least ys)
+least-append [] ys = let e = least-one ys in omega arith
+least-append (x ∷ xs) ys = let e = least-append xs ys in omega arith
+
+pub greatest-next : (t : List ℕ) (i m : ℕ) → i < length t → m ≡ max (greatest (take i t)) (getD t i 0) → m ≡ greatest (take (i + 1) t)
+greatest-next t i m l h =
     let e : i + 1 ≡ suc i = omega arith in
-    rw e (ap bits (take-suc t i 0 l) ∙ bits-append (take i t) (getD t i 0 ∷ []) ∙ rw (h, is-bit (getD t i 0) b))
+    let a = greatest-append (take i t) (getD t i 0 ∷ []) in
+    rw (e, take-suc t i 0 l) (omega arith)
 
-pub bits-stop : (t : List ℕ) (i : ℕ) → 1 < getD t i 0 → false ≡ bits t
-bits-stop t i b = go (split (bits t))
-  where
-    refute : (getD t i 0 ≡ 0) ⊎ (getD t i 0 ≡ 1) → ⊥
-    refute (inl e) = omega arith
-    refute (inr e) = omega arith
+pub least-next : (t : List ℕ) (i m : ℕ) → i < length t → m ≡ min (least (take i t)) (getD t i 0) → m ≡ least (take (i + 1) t)
+least-next t i m l h =
+    let e : i + 1 ≡ suc i = omega arith in
+    let a = least-append (take i t) (getD t i 0 ∷ []) in
+    let b = least-one (take i t) in
+    rw (e, take-suc t i 0 l) (omega arith)
 
-    go : (bits t ≡ true) ⊎ (bits t ≡ false) → false ≡ bits t
-    go (inl e) = absurd (refute (bits-at t e i))
-    go (inr e) = sym e
+same-test : (a b : ℕ) → (a ≤ 1 → b ≤ 1) → (b ≤ 1 → a ≤ 1) → leb a 1 ≡ leb b 1
+same-test a b f g = bool-ext (leb a 1) (leb b 1) (λ e. le-leb b 1 (f (leb-true a 1 e))) (λ e. le-leb a 1 (g (leb-true b 1 e)))
 
-pub bits-done : (t : List ℕ) (i : ℕ) → length t ≤ i → bits (take i t) ≡ true → true ≡ bits t
-bits-done t i l h = sym (rw (take-all i t l) at h)
+-- each outcome is 0 or 1 exactly if the greatest is at most 1
+pub bits-by : (t : List ℕ) → leb (greatest t) 1 ≡ bits t
+bits-by [] = refl
+bits-by (zero ∷ t) = same-test (max 0 (greatest t)) (greatest t) (λ l. omega arith) (λ l. omega arith) ∙ bits-by t
+bits-by (suc zero ∷ t) = same-test (max 1 (greatest t)) (greatest t) (λ l. omega arith) (λ l. omega arith) ∙ bits-by t
+bits-by (suc (suc o) ∷ t) = rw (ne-eqb (suc (suc o)) 0 (λ e. omega arith), ne-eqb (suc (suc o)) 1 (λ e. omega arith)) (lt-leb (max (suc (suc o)) (greatest t)) 1 (omega arith))
+
+none-met : (c : List ℕ) → meets [] c ≡ false
+none-met [] = refl
+none-met (g ∷ c) = none-met c
+
+-- no changed day gives a table of passes
+pass-table : (cs : List (List ℕ)) (t : List ℕ) → length t ≡ length cs → greatest t ≤ 1 → least t ≡ 1 → tableOf cs [] ≡ t
+unfolding tableOf
+pass-table [] [] l a b = refl
+pass-table [] (o ∷ t) l a b = absurd (omega arith)
+pass-table (c ∷ cs) [] l a b = absurd (omega arith)
+pass-table (c ∷ cs) (o ∷ t) l a b =
+    let e : o ≡ 1 = omega arith in
+    rw (none-met c, e) (ap (λ (x : List ℕ). 1 ∷ x) (pass-table cs t (omega arith) (omega arith) (let u = least-one t in omega arith)))
+
+pass-accepted : (cs : List (List ℕ)) (d : ℕ) (t : List ℕ) → length t ≡ length cs → greatest t ≤ 1 → least t ≡ 1 → accepted cs d t ≡ true
+pass-accepted cs d t l a b = given-iff-accepted cs d t .0 ([], record { within = λ g m. absurd (true-or-false (mem-has m) refl); gives = pass-table cs t l a b })
+
+pub refuse-none : (s n d : ℕ) (t : List ℕ) {b : Bool} {m : ℕ} → Table s n d t → b ≡ bits t → not b ≡ false → m ≡ least t → m ≡ 1 →
+    0 ≡ orElse (unless (bits t) 13) (unless (accepted (chains s n d) d t) 14)
+refuse-none s n d t {b} T e f h k =
+    let q : bits t ≡ true = sym e ∙ not-false b f in
+    rw (q, pass-accepted (chains s n d) d t (T .size) (leb-true (greatest t) 1 (bits-by t ∙ q)) (sym h ∙ k))
 
 -- ---- tests 13 14
 

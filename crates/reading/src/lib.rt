@@ -1,6 +1,6 @@
 // Reading: from a table of outcomes to the days that may have been changed.
 ghost use mathlib.Core.Path.{_≡_};
-ghost use Prim.Native.Nat.{_*_, _≤_};
+ghost use Prim.Native.Nat.{_*_, _≤_, min, max};
 ghost use lib.ListN.{length};
 ghost use Rattle.evidence.specs.Evidence.{accepted};
 ghost use Rattle.layouts.specs.Layouts.{orElse, unless, chains};
@@ -8,6 +8,7 @@ ghost use Rattle.rules.specs.Reading.{lowOf};
 ghost use Rattle.rules.specs.Rules.{Table};
 ghost use Rattle.reading.specs.Answers as answer;
 ghost use Rattle.reading.specs.Answers.{saidOf, readRefusal, says, listAfter};
+ghost use Rattle.reading.specs.Changed as changed;
 ghost use Rattle.reading.specs.Changed.{numbersOf};
 
 // 01's numbers of a changed table.
@@ -27,26 +28,66 @@ pub enum Reading {
 
 // ---- the tests
 
+fn larger(a: u8, b: u8) -> u8
+    ensures { λ r. ⌜ r ≡ max a b ⌝ }
+{
+    if a < b {
+        return b;
+    }
+    a
+}
+
+fn smaller(a: u8, b: u8) -> u8
+    ensures { λ r. ⌜ r ≡ min a b ⌝ }
+{
+    if b < a {
+        return b;
+    }
+    a
+}
+
+// The greatest outcome. No early end, so that the compiler takes many at a time.
+fn greatest(t: &[u8]) -> u8
+    ensures { λ r. ⌜ r ≡ changed.greatest (now (t .entry)) ⌝ }
+{
+    let mut m = 0u8;
+    let mut i = 0;
+    while i < t.len() {
+        m = larger(m, t[i]);
+        i += 1;
+    }
+    m
+}
+
+// The least of the outcomes and 1.
+fn least(t: &[u8]) -> u8
+    ensures { λ r. ⌜ r ≡ changed.least (now (t .entry)) ⌝ }
+{
+    let mut m = 1u8;
+    let mut i = 0;
+    while i < t.len() {
+        m = smaller(m, t[i]);
+        i += 1;
+    }
+    m
+}
+
 fn bits(t: &[u8]) -> bool
     ensures { λ r. ⌜ r ≡ answer.bits (now (t .entry)) ⌝ }
 {
-    let mut i = 0;
-    while i < t.len() {
-        if 1 < t[i] {
-            return false;
-        }
-        i += 1;
-    }
-    true
+    greatest(t) <= 1
 }
 
-// Tests 13 14.
+// Tests 13 14. A table of passes, the usual one, needs no other test.
 fn table_refusal(scheme: u32, n: u32, d: u32, t: &[u8]) -> u32
     requires { ⌜ Table scheme n d (now t) ⌝ }
     ensures { λ r. ⌜ r ≡ orElse (unless (answer.bits (now (t .entry))) 13) (unless (accepted (chains scheme n d) d (now (t .entry))) 14) ⌝ }
 {
     if !bits(t) {
         return 13;
+    }
+    if least(t) == 1 {
+        return 0;
     }
     if !rules::hold(scheme, n, d, t) {
         return 14;

@@ -11,10 +11,11 @@ fn plus(a: u32, b: u32) -> u32
     std::num::wrapping_add_u32(a, b)
 }
 
+// The standard's (x & y) ^ (!x & z), with one operation less.
 fn ch(x: u32, y: u32, z: u32) -> u32
     ensures { λ r. ⌜ r ≡ spec.ch x y z ⌝ }
 {
-    (x & y) ^ (!x & z)
+    z ^ (x & (y ^ z))
 }
 
 fn maj(x: u32, y: u32, z: u32) -> u32

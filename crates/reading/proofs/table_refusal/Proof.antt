@@ -1,4 +1,4 @@
-use Rattle.reading.proofs.Tests.{refuse-13, refuse-14, refuse-0}
+use Rattle.reading.proofs.Tests.{refuse-none, refuse-13, refuse-14, refuse-0}
 use borrow.Author.Needs.{needs}
 use Rattle.reading.proofs.table_refusal.Statement.{statement}
 use Rattle.reading.proofs.table_refusal.Tie as tie
@@ -11,14 +11,20 @@ returns c =
     let args = c .before .before .before .args in
     refuse-13 (args .scheme) (args .n) (args .d) (args .t .now) (c .before .bits .ensures) (c .if1 .taken)
 
+least-requires : tie.Need-least-requires
+least-requires c κs = search needs
+
+returns-2 : tie.Need-returns-2
+returns-2 c = refuse-none _ _ _ _ (c .before .before .before .before .before .pre) (c .before .before .before .bits .ensures) (c .before .before .if1 .left) (c .before .least .ensures) (c .if2 .taken)
+
 hold-requires : tie.Need-hold-requires
 hold-requires c κs = search needs
 
-returns-2 : tie.Need-returns-2
-returns-2 c = refuse-14 _ _ _ _ (c .before .before .before .before .before .pre) (c .before .before .before .bits .ensures) (c .before .before .if1 .left) (c .before .hold .ensures) (c .if2 .taken)
-
 returns-3 : tie.Need-returns-3
-returns-3 c = refuse-0 _ _ _ _ (c .before .before .before .before .before .pre) (c .before .before .before .bits .ensures) (c .before .before .if1 .left) (c .before .hold .ensures) (c .if2 .left)
+returns-3 c = refuse-14 _ _ _ _ (c .before .before .before .before .before .before .before .pre) (c .before .before .before .before .before .bits .ensures) (c .before .before .before .before .if1 .left) (c .before .hold .ensures) (c .if3 .taken)
+
+returns-4 : tie.Need-returns-4
+returns-4 c = refuse-0 _ _ _ _ (c .before .before .before .before .before .before .before .pre) (c .before .before .before .before .before .bits .ensures) (c .before .before .before .before .if1 .left) (c .before .hold .ensures) (c .if3 .left)
 
 pub table-refusal-spec : {M : Type 1} → statement M
-table-refusal-spec = tie.close (tie.spec bits-requires returns hold-requires returns-2 returns-3)
+table-refusal-spec = tie.close (tie.spec bits-requires returns least-requires returns-2 hold-requires returns-3 returns-4)
