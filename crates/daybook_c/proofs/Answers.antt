@@ -24,14 +24,14 @@ use Rattle.service.specs.declared.Closed.{Closed}
 use Rattle.daybook_c.specs.Calls as spec
 use Rattle.daybook_c.specs.Calls.{recordAfterAdd, recordAfterClose, valuesAfterClose, numbersAfter, valuesAfter}
 
-done : {A : Type 0} {x k : ℕ} (new old : A) → x ≡ k → x ≡ 0 → new ≡ spec.unlessRefused k new old
-done new old e z = ap (λ k. spec.unlessRefused k new old) (sym z ∙ e)
+done : {A : Type 0} {x k : ℕ} (new old : A) → x ≡ k → x ≡ 0 → new ≡ spec.keptIfRefused k new old
+done new old e z = ap (λ k. spec.keptIfRefused k new old) (sym z ∙ e)
 
-kept-suc : {A : Type 0} (k : ℕ) (new old : A) → (k ≡ 0 → ⊥) → old ≡ spec.unlessRefused k new old
+kept-suc : {A : Type 0} (k : ℕ) (new old : A) → (k ≡ 0 → ⊥) → old ≡ spec.keptIfRefused k new old
 kept-suc zero new old some = absurd (some refl)
 kept-suc (suc k) new old some = refl
 
-kept : {A : Type 0} {x k : ℕ} (new old : A) → x ≡ k → (x ≡ 0 → ⊥) → old ≡ spec.unlessRefused k new old
+kept : {A : Type 0} {x k : ℕ} (new old : A) → x ≡ k → (x ≡ 0 → ⊥) → old ≡ spec.keptIfRefused k new old
 kept {k} new old e some = kept-suc k new old (λ z. some (e ∙ z))
 
 -- ---- add

@@ -9,25 +9,25 @@ use Rattle.record_bytes.specs.Bytes.{recordBytes, recordOf}
 use Rattle.service.specs.Calls.{countOf, addRefusal, added, closeRefusal, closed}
 
 -- what stands in an array after a call: the new contents, or on a refusal x what stood there
-abbrev pub unlessRefused : {A : Type 0} → ℕ → A → A → A
-unlessRefused zero new old = new
-unlessRefused (suc x) new old = old
+abbrev pub keptIfRefused : {A : Type 0} → ℕ → A → A → A
+keptIfRefused zero new old = new
+keptIfRefused (suc x) new old = old
 
 -- the record's bytes after add, and after close with a part of size bytes
 unfoldable pub recordAfterAdd : List ℕ → List ℕ → List ℕ
-recordAfterAdd b piece = unlessRefused (addRefusal (recordOf b) (length piece)) (recordBytes (added (recordOf b) piece .state)) b
+recordAfterAdd b piece = keptIfRefused (addRefusal (recordOf b) (length piece)) (recordBytes (added (recordOf b) piece .state)) b
 
 unfoldable pub recordAfterClose : List ℕ → ℕ → List ℕ
-recordAfterClose b size = unlessRefused (closeRefusal (recordOf b) size) (recordBytes (closed (recordOf b) size .state)) b
+recordAfterClose b size = keptIfRefused (closeRefusal (recordOf b) size) (recordBytes (closed (recordOf b) size .state)) b
 
 -- the number of values after close
 unfoldable pub valuesAfterClose : List ℕ → ℕ → ℕ → ℕ
-valuesAfterClose b size old = unlessRefused (closeRefusal (recordOf b) size) (countOf (closed (recordOf b) size .answer)) old
+valuesAfterClose b size old = keptIfRefused (closeRefusal (recordOf b) size) (countOf (closed (recordOf b) size .answer)) old
 
 -- listed, first listed, low, high, last good
 unfoldable pub numbersAfter : Said → List ℕ → List ℕ
-numbersAfter said old = unlessRefused (said .refusal) (said .listed ∷ said .first ∷ said .low ∷ said .high ∷ said .good ∷ []) old
+numbersAfter said old = keptIfRefused (said .refusal) (said .listed ∷ said .first ∷ said .low ∷ said .high ∷ said .good ∷ []) old
 
 -- 01's number of values for d days
 unfoldable pub valuesAfter : ℕ → ℕ → ℕ → ℕ → ℕ → ℕ
-valuesAfter scheme n f d old = unlessRefused (layoutRefusal scheme n f d) (valueCount scheme n d) old
+valuesAfter scheme n f d old = keptIfRefused (layoutRefusal scheme n f d) (valueCount scheme n d) old
