@@ -5,10 +5,10 @@ use Prim.Native.Nat.{ℕ, zero, suc, pred, _+_, _-_, _*_, _≤_, _<_}
 use native.Mathlib.Omega.{arith}
 use lib.ListN.{length, getD, take, length-append, List·getD-append}
 use lib.Seq.{take-length}
-use Rattle.evidence.specs.Evidence.{_among_, days, Within, tableOf, dayOf, changed, value, values, outcomes, NoCollision}
+use Rattle.evidence.specs.Evidence.{_among_, days, Within, tableOf, dayOf, changed, value, values, checkOutcomes, NoCollision}
 use Rattle.evidence.proofs.ListLaws.{upFrom-bounds}
 use Rattle.evidence.proofs.ValueLaws.{values-append, values-same, value-same, length-values, check-table, check-unaltered}
-use Rattle.layouts.specs.Layouts.{chains, closing}
+use Rattle.layouts.specs.Layouts.{chains, chainsOfDay}
 use Rattle.layouts.proofs.Coverage.{chains-within, chains-suc, chains-front}
 use Rattle.sha256.specs.Sha256.{sha256}
 use Rattle.sha256.proofs.Laws.{sha256-length}
@@ -17,12 +17,12 @@ use Rattle.chains.proofs.Running.{start-length}
 
 -- the book of one more day: what stood there stays, and the values that close at the day follow
 pub book-suc : (s n : ℕ) (E : List (List ℕ)) (day : List ℕ) →
-    bookOf s n (E ++ (day ∷ [])) ≡ bookOf s n E ++ values sha256 (start s n) (E ++ (day ∷ [])) (closing s n (suc (length E)))
+    bookOf s n (E ++ (day ∷ [])) ≡ bookOf s n E ++ values sha256 (start s n) (E ++ (day ∷ [])) (chainsOfDay s n (suc (length E)))
 unfolding bookOf
 book-suc s n E day =
     ap (λ (k : ℕ). values sha256 (start s n) F (chains s n k)) l ∙ ap (values sha256 (start s n) F) (chains-suc s n (length E)) ∙
-    values-append sha256 (start s n) F (chains s n (length E)) (closing s n (suc (length E))) ∙
-    ap (λ (x : List ℕ). x ++ values sha256 (start s n) F (closing s n (suc (length E)))) (values-same sha256 (start s n) F E (chains s n (length E)) old)
+    values-append sha256 (start s n) F (chains s n (length E)) (chainsOfDay s n (suc (length E))) ∙
+    ap (λ (x : List ℕ). x ++ values sha256 (start s n) F (chainsOfDay s n (suc (length E)))) (values-same sha256 (start s n) F E (chains s n (length E)) old)
   where
     F : List (List ℕ)
     F = E ++ (day ∷ [])
@@ -35,7 +35,7 @@ book-suc s n E day =
 
 -- no day, no value
 pub book-none : (s n : ℕ) → bookOf s n [] ≡ []
-unfolding bookOf chains Rattle.layouts.specs.Layouts.named mathlib.Core.List.flatMap
+unfolding bookOf chains Rattle.layouts.specs.Layouts.namesThrough mathlib.Core.List.flatMap
 book-none s n = refl
 
 pub book-length : (s n : ℕ) (E : List (List ℕ)) → length (bookOf s n E) ≡ 32 * length (chains s n (length E))
@@ -54,11 +54,11 @@ book-front s n d E h =
 
 -- a check against a book that begins with the values of the days E finds the table of the changed days
 pub check-finds : (s n d : ℕ) (E ledger : List (List ℕ)) (rest : List ℕ) → NoCollision sha256 (inputsOf s n d E) (inputsOf s n d ledger) →
-    outcomes sha256 (start s n) ledger (chains s n d) (values sha256 (start s n) E (chains s n d) ++ rest) ≡ tableOf (chains s n d) (changed d E ledger)
+    checkOutcomes sha256 (start s n) ledger (chains s n d) (values sha256 (start s n) E (chains s n d) ++ rest) ≡ tableOf (chains s n d) (changed d E ledger)
 unfolding inputsOf
 check-finds s n d E ledger rest nc = check-table sha256 sha256-length (start s n) (start-length s n) (chains s n d) d (chains-within s n d) E ledger nc rest
 
 -- and with no premise, where no day of 1 to d differs, that each value passes
 pub check-passes : (s n d : ℕ) (E ledger : List (List ℕ)) (rest : List ℕ) → ((g : ℕ) → g among days d → dayOf E g ≡ dayOf ledger g) →
-    outcomes sha256 (start s n) ledger (chains s n d) (values sha256 (start s n) E (chains s n d) ++ rest) ≡ tableOf (chains s n d) []
+    checkOutcomes sha256 (start s n) ledger (chains s n d) (values sha256 (start s n) E (chains s n d) ++ rest) ≡ tableOf (chains s n d) []
 check-passes s n d E ledger rest same = check-unaltered sha256 sha256-length (start s n) (start-length s n) (chains s n d) d (chains-within s n d) E ledger same rest

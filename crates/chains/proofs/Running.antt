@@ -15,7 +15,7 @@ use borrow.Author.Tests.{eqb-true, leb-true, le-leb}
 use Rattle.evidence.specs.Evidence.{_among_, upFrom, keep, days, Within, dayOf, digest, linkInput, value, values}
 use Rattle.evidence.proofs.ListLaws.{split, true-or-false, and-both, upFrom-bounds, keep-mem, keep-append}
 use Rattle.evidence.proofs.ValueLaws.{value-append, value-same}
-use Rattle.layouts.specs.Layouts.{divides, allowedScheme, allowedN, lg, Name, black, tile, tree, ending, offset, covers, cover, levels, blackToo, names, closing}
+use Rattle.layouts.specs.Layouts.{divides, allowedScheme, allowedN, lg, Name, black, tile, tree, lastDays, offset, covers, coveredDays, levels, storesBlackOfTree, namesOfDay, chainsOfDay}
 use Rattle.layouts.proofs.AllowedLaws.{allowed-scheme-is, allowed-n-is}
 use Rattle.layouts.proofs.Counts.{bit, div-step}
 use Rattle.layouts.proofs.Coverage.{upFrom-snoc, cond-mem}
@@ -67,7 +67,7 @@ module _ (w d : ℕ) (p : 0 < w) where
       let r = next-in e in
       rw (r .0, r .1) (upFrom-snoc (suc (d / w * w)) (d % w) ∙ ap (λ (x : ℕ). since w d ++ (x ∷ [])) last-is)
 
-  since-end : divides w (suc d) ≡ true → since w d ++ (suc d ∷ []) ≡ ending w (suc d)
+  since-end : divides w (suc d) ≡ true → since w d ++ (suc d ∷ []) ≡ lastDays w (suc d)
   since-end e =
       let r = next-end e in
       ap (λ (x : ℕ). since w d ++ (x ∷ [])) (sym last-is) ∙ sym (upFrom-snoc (suc (d / w * w)) (d % w)) ∙
@@ -118,7 +118,7 @@ tile-grown n d i u = rw u (go (covers n i (offset n (suc d))) refl)
 
 -- a chain that is a value of the day covers what its name says, and starts again
 ended : (s n d i : ℕ) → allowedN n ≡ true → usedSlot s n i ≡ true → storesSlot s n (suc d) i ≡ true →
-    (grown s n d i ≡ cover n (slotName s i (suc d))) × (openDays s n (suc d) i ≡ [])
+    (grown s n d i ≡ coveredDays n (slotName s i (suc d))) × (openDays s n (suc d) i ≡ [])
 ended zero n d i a u e = absurd (true-or-false u refl)
 ended (suc zero) n d i a u e = absurd (true-or-false u refl)
 ended (suc (suc zero)) n d i a u e =
@@ -264,26 +264,26 @@ module _ (s n : ℕ) (E : List (List ℕ)) (day : List ℕ) where
         }
 
     -- each named value of the day
-    all-days : ending (suc d) (suc d) ≡ days (suc d)
+    all-days : lastDays (suc d) (suc d) ≡ days (suc d)
     all-days = let e : suc (suc d - suc d) ≡ 1 = omega arith in ap (λ (x : ℕ). upFrom x (suc d)) e
 
     abbrev pub Right : Name → Type 0
-    Right x = bytesOf (current (linked b h) (linkedSlots s n (suc d) h slots) x .words) ≡ value sha256 (start s n) F (cover n x)
+    Right x = bytesOf (current (linked b h) (linkedSlots s n (suc d) h slots) x .words) ≡ value sha256 (start s n) F (coveredDays n x)
 
     black-right : (x : Name) → x among (black (suc d) ∷ []) → Right x
     black-right x m = rw (List·Memᴰ·eq-of-singleton m) (black-next ∙ ap (value sha256 (start s n) F) (sym all-days))
 
     slot-right : (i : ℕ) → usedSlot s n i ≡ true → storesSlot s n (suc d) i ≡ true →
-        bytesOf (getD (linkedSlots s n (suc d) h slots) i (linked b h) .words) ≡ value sha256 (start s n) F (cover n (slotName s i (suc d)))
+        bytesOf (getD (linkedSlots s n (suc d) h slots) i (linked b h) .words) ≡ value sha256 (start s n) F (coveredDays n (slotName s i (suc d)))
     slot-right i u e = slot-next i (linked b h) u ∙ ap (value sha256 (start s n) F) (ended s n d i a u e .0)
 
 -- each named value of the day is that of its chain
-pub names-right : (s n : ℕ) (E : List (List ℕ)) (day : List ℕ) (a : allowedN n ≡ true) (b : Value) (slots : List Value) (h : List ℕ) (held : Holds s n E b slots)
-    (hash : bytesOf h ≡ digest sha256 day) → suc (length E) ≤ 65536 → (x : Name) → x among names s n (suc (length E)) → Right s n E day a b slots h held hash x
-names-right zero n E day a b slots h held hash few x m = elim m [ ]
-names-right (suc zero) n E day a b slots h held hash few x m =
+pub namesOfDay-right : (s n : ℕ) (E : List (List ℕ)) (day : List ℕ) (a : allowedN n ≡ true) (b : Value) (slots : List Value) (h : List ℕ) (held : Holds s n E b slots)
+    (hash : bytesOf h ≡ digest sha256 day) → suc (length E) ≤ 65536 → (x : Name) → x among namesOfDay s n (suc (length E)) → Right s n E day a b slots h held hash x
+namesOfDay-right zero n E day a b slots h held hash few x m = elim m [ ]
+namesOfDay-right (suc zero) n E day a b slots h held hash few x m =
     black-right 1 n E day a b slots h held hash x (cond-mem (divides n (suc (length E))) (black (suc (length E)) ∷ []) m .1)
-names-right (suc (suc zero)) n E day a b slots h held hash few x m =
+namesOfDay-right (suc (suc zero)) n E day a b slots h held hash few x m =
     go (List·Memᴰ·append-cases (map (λ (i : ℕ). tile i g) (upFrom 0 (suc (lg n)))) (r .1))
   where
     g : ℕ
@@ -301,7 +301,7 @@ names-right (suc (suc zero)) n E day a b slots h held hash few x m =
     go : (x among map (λ (i : ℕ). tile i g) (upFrom 0 (suc (lg n)))) ⊎ (x among (black g ∷ [])) → Right 2 n E day a b slots h held hash x
     go (inl k) = part (Memᴰ·of-map (λ (i : ℕ). tile i g) (upFrom 0 (suc (lg n))) k)
     go (inr k) = black-right 2 n E day a b slots h held hash x k
-names-right (suc (suc (suc zero))) n E day a b slots h held hash few x m = go (List·Memᴰ·append-cases (map (λ (l : ℕ). tree l g) (levels g)) m)
+namesOfDay-right (suc (suc (suc zero))) n E day a b slots h held hash few x m = go (List·Memᴰ·append-cases (map (λ (l : ℕ). tree l g) (levels g)) m)
   where
     g : ℕ
     g = suc (length E)
@@ -312,23 +312,23 @@ names-right (suc (suc (suc zero))) n E day a b slots h held hash few x m = go (L
         let k = level-small (q .0) g (omega arith) few e in
         rw (← (q .2)) (slot-right 3 n E day a b slots h held hash (q .0) (le-leb (q .0) 16 k) e)
 
-    go : (x among map (λ (l : ℕ). tree l g) (levels g)) ⊎ (x among cond (blackToo n g) (black g ∷ []) []) → Right 3 n E day a b slots h held hash x
+    go : (x among map (λ (l : ℕ). tree l g) (levels g)) ⊎ (x among cond (storesBlackOfTree n g) (black g ∷ []) []) → Right 3 n E day a b slots h held hash x
     go (inl k) = part (Memᴰ·of-map (λ (l : ℕ). tree l g) (levels g) k)
-    go (inr k) = black-right 3 n E day a b slots h held hash x (cond-mem (blackToo n g) (black g ∷ []) k .1)
-names-right (suc (suc (suc (suc s)))) n E day a b slots h held hash few x m = elim m [ ]
+    go (inr k) = black-right 3 n E day a b slots h held hash x (cond-mem (storesBlackOfTree n g) (black g ∷ []) k .1)
+namesOfDay-right (suc (suc (suc (suc s)))) n E day a b slots h held hash few x m = elim m [ ]
 
-bytes-values : (n : ℕ) (first : List ℕ) (F : List (List ℕ)) (b : Value) (l : List Value) (xs : List Name) →
-    ((x : Name) → x among xs → bytesOf (current b l x .words) ≡ value sha256 first F (cover n x)) → valueBytes (map (current b l) xs) ≡ values sha256 first F (map (cover n) xs)
+bytes-values : (n : ℕ) (start : List ℕ) (F : List (List ℕ)) (b : Value) (l : List Value) (xs : List Name) →
+    ((x : Name) → x among xs → bytesOf (current b l x .words) ≡ value sha256 start F (coveredDays n x)) → valueBytes (map (current b l) xs) ≡ values sha256 start F (map (coveredDays n) xs)
 unfolding valueBytes
-bytes-values n first F b l [] f = refl
-bytes-values n first F b l (x ∷ xs) f = ap₂ (λ (p q : List ℕ). p ++ q) (f x (List·Memᴰ·head refl)) (bytes-values n first F b l xs (λ y m. f y (List·Memᴰ·tail m)))
+bytes-values n start F b l [] f = refl
+bytes-values n start F b l (x ∷ xs) f = ap₂ (λ (p q : List ℕ). p ++ q) (f x (List·Memᴰ·head refl)) (bytes-values n start F b l xs (λ y m. f y (List·Memᴰ·tail m)))
 
 -- the values of the day are those of the chains that close at it
 pub day-values-are : (s n : ℕ) (E : List (List ℕ)) (day : List ℕ) (a : allowedN n ≡ true) (b : Value) (slots : List Value) (h : List ℕ) → Holds s n E b slots →
     bytesOf h ≡ digest sha256 day → suc (length E) ≤ 65536 →
     valueBytes (dayValues s n (suc (length E)) (linked b h) (linkedSlots s n (suc (length E)) h slots)) ≡
-    values sha256 (start s n) (E ++ (day ∷ [])) (closing s n (suc (length E)))
-unfolding dayValues closing
+    values sha256 (start s n) (E ++ (day ∷ [])) (chainsOfDay s n (suc (length E)))
+unfolding dayValues chainsOfDay
 day-values-are s n E day a b slots h held hash few =
-    bytes-values n (start s n) (E ++ (day ∷ [])) (linked b h) (linkedSlots s n (suc (length E)) h slots) (names s n (suc (length E)))
-    (names-right s n E day a b slots h held hash few)
+    bytes-values n (start s n) (E ++ (day ∷ [])) (linked b h) (linkedSlots s n (suc (length E)) h slots) (namesOfDay s n (suc (length E)))
+    (namesOfDay-right s n E day a b slots h held hash few)

@@ -11,7 +11,7 @@ use lib.ListN.{length, getD, set}
 use lib.Pow.{pow-pos, pow-lt, pow-mono}
 use borrow.Author.Tests.{eqb-true, eq-eqb, ne-eqb, leb-true, leb-false, le-leb, lt-leb}
 use Rattle.evidence.proofs.ListLaws.{split, true-or-false, bool-ext}
-use Rattle.layouts.specs.Layouts.{divides, allowedScheme, allowedN, lg, offset, covers, storedOnce, blackToo}
+use Rattle.layouts.specs.Layouts.{divides, allowedScheme, allowedN, lg, offset, covers, storedOnce, storesBlackOfTree}
 use Rattle.layouts.proofs.AllowedLaws.{allowed-scheme-is, allowed-n-is}
 use Rattle.layouts.proofs.Counts.{lg-unique, lg-bounds, power-of, of-power}
 use Rattle.chains.specs.declared.Value.{Value}
@@ -133,6 +133,6 @@ pub linked-done : (s n g : ℕ) (h : List ℕ) (i : ℕ) (l : List Value) {r : L
 unfolding linkedSlots
 linked-done s n g h i l e p q = e ∙ upto-all (linkSlot s n g h) 0 i l (omega arith)
 
-pub restarted-done : (s n g : ℕ) (first : Value) (i : ℕ) (l : List Value) {r : List Value} → r ≡ upto (restartSlot s n g first) 0 i l → 17 ≤ i → length l ≡ 17 → r ≡ restarted s n g first l
+pub restarted-done : (s n g : ℕ) (start : Value) (i : ℕ) (l : List Value) {r : List Value} → r ≡ upto (restartSlot s n g start) 0 i l → 17 ≤ i → length l ≡ 17 → r ≡ restarted s n g start l
 unfolding restarted
-restarted-done s n g first i l e p q = e ∙ upto-all (restartSlot s n g first) 0 i l (omega arith)
+restarted-done s n g start i l e p q = e ∙ upto-all (restartSlot s n g start) 0 i l (omega arith)

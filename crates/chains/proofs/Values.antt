@@ -12,7 +12,7 @@ use lib.Seq.{take-suc, take-suc-set}
 use borrow.Author.Tests.{leb-true, leb-false}
 use Rattle.evidence.specs.Evidence.{_among_, upFrom, keep}
 use Rattle.evidence.proofs.ListLaws.{split, true-or-false, and-both, upFrom-mem, keep-mem}
-use Rattle.layouts.specs.Layouts.{divides, allowedScheme, allowedN, lg, Name, black, tile, tree, levels, storedOnce, blackToo, names, closing, cover}
+use Rattle.layouts.specs.Layouts.{divides, allowedScheme, allowedN, lg, Name, black, tile, tree, levels, storedOnce, storesBlackOfTree, namesOfDay, chainsOfDay, coveredDays}
 use Rattle.layouts.proofs.AllowedLaws.{allowed-scheme-is, allowed-n-is}
 use Rattle.layouts.proofs.Coverage.{divisor-le, upFrom-snoc}
 use Rattle.layouts.proofs.Counts.{of-power, length-upFrom}
@@ -25,7 +25,7 @@ pub record InSlots (s n g : ℕ) : Type 0 where
   pub many : ℕ
   pub few : many ≤ 17
   pub name : ℕ → Name
-  pub are : names s n g ≡ map name (upFrom 0 many) ++ cond (storesBlack s n g) (black g ∷ []) []
+  pub are : namesOfDay s n g ≡ map name (upFrom 0 many) ++ cond (storesBlack s n g) (black g ∷ []) []
   pub slot : (b : Value) (slots : List Value) (i : ℕ) → current b slots (name i) ≡ getD slots i b
   pub room : storesBlack s n g ≡ true → many ≤ 16
 
@@ -78,7 +78,7 @@ in-slots (suc (suc (suc zero))) n g a b p h =
       many = length (levels g);
       few = levels-few g p h;
       name = λ i. tree i g;
-      are = ap (λ (r : List ℕ). map (λ (i : ℕ). tree i g) r ++ cond (blackToo n g) (black g ∷ []) []) (levels-run g);
+      are = ap (λ (r : List ℕ). map (λ (i : ℕ). tree i g) r ++ cond (storesBlackOfTree n g) (black g ∷ []) []) (levels-run g);
       slot = λ v vs i. refl;
       room = λ e. levels-room g p h (once (divides n g) (storedOnce g) e);
     }
@@ -102,7 +102,7 @@ slots-front f b slots e (suc m) h =
     zero-plus = omega arith
 
 module _ (s n g : ℕ) (b : Value) (slots : List Value) (size : length slots ≡ 17) (at : InSlots s n g) where
-  count-of : (c : Bool) → storesBlack s n g ≡ c → length (names s n g) ≡ at .many + length (cond c (black g ∷ []) [])
+  count-of : (c : Bool) → storesBlack s n g ≡ c → length (namesOfDay s n g) ≡ at .many + length (cond c (black g ∷ []) [])
   count-of c e = rw (at .are, e, length-append, length-map, length-upFrom)
 
   front : (c : Bool) → storesBlack s n g ≡ c → dayValues s n g b slots ≡ take (at .many) slots ++ map (current b slots) (cond c (black g ∷ []) [])
@@ -113,48 +113,48 @@ module _ (s n g : ℕ) (b : Value) (slots : List Value) (size : length slots ≡
       (slots-front (at .name) b slots (at .slot b slots) (at .many) (omega (arith, at .few))))
 
   -- with black: it goes to the place after the slots
-  pub values-black : (k : ℕ) {r : List Value} → storesBlack s n g ≡ true → k ≡ length (names s n g) → r ≡ set slots (k - 1) b → take k r ≡ dayValues s n g b slots
+  pub values-black : (k : ℕ) {r : List Value} → storesBlack s n g ≡ true → k ≡ length (namesOfDay s n g) → r ≡ set slots (k - 1) b → take k r ≡ dayValues s n g b slots
   values-black k {r} e q w =
-      let c : length (names s n g) ≡ at .many + 1 = count-of true e in
+      let c : length (namesOfDay s n g) ≡ at .many + 1 = count-of true e in
       let v : k ≡ suc (at .many) = omega arith in
       let u : k - 1 ≡ at .many = omega arith in
       let room = at .room e in
       rw (w, u, v) (take-suc-set slots (at .many) b (omega arith) ∙ sym (front true e))
 
-  pub values-plain : (k : ℕ) {r : List Value} → storesBlack s n g ≡ false → k ≡ length (names s n g) → r ≡ slots → take k r ≡ dayValues s n g b slots
+  pub values-plain : (k : ℕ) {r : List Value} → storesBlack s n g ≡ false → k ≡ length (namesOfDay s n g) → r ≡ slots → take k r ≡ dayValues s n g b slots
   values-plain k {r} e q w =
-      let c : length (names s n g) ≡ at .many + 0 = count-of false e in
+      let c : length (namesOfDay s n g) ≡ at .many + 0 = count-of false e in
       let v : k ≡ at .many = omega arith in
       rw (w, v) (sym (front false e ∙ append-nil (take (at .many) slots)))
 
-  pub black-place : (k : ℕ) → storesBlack s n g ≡ true → k ≡ length (names s n g) → (1 ≤ k) × (k - 1 < 17)
+  pub black-place : (k : ℕ) → storesBlack s n g ≡ true → k ≡ length (namesOfDay s n g) → (1 ≤ k) × (k - 1 < 17)
   black-place k e q =
-      let c : length (names s n g) ≡ at .many + 1 = count-of true e in
+      let c : length (namesOfDay s n g) ≡ at .many + 1 = count-of true e in
       let room = at .room e in
       (omega arith, omega arith)
 
 -- a day has at most seventeen values
-pub day-few : (s n g : ℕ) → allowedScheme s ≡ true → allowedN n ≡ true → 1 ≤ g → g ≤ 65536 → length (names s n g) ≤ 17
+pub day-few : (s n g : ℕ) → allowedScheme s ≡ true → allowedN n ≡ true → 1 ≤ g → g ≤ 65536 → length (namesOfDay s n g) ≤ 17
 day-few s n g a b p h = go (storesBlack s n g) refl
   where
     at : InSlots s n g
     at = in-slots s n g a b p h
 
-    go : (c : Bool) → storesBlack s n g ≡ c → length (names s n g) ≤ 17
+    go : (c : Bool) → storesBlack s n g ≡ c → length (namesOfDay s n g) ≤ 17
     go true e = let room = at .room e in rw (at .are, e, length-append, length-map, length-upFrom) (omega arith)
     go false e = let w = at .few in rw (at .are, e, length-append, length-map, length-upFrom) (omega arith)
 
-pub closing-length : (s n g : ℕ) → length (closing s n g) ≡ length (names s n g)
-unfolding closing
-closing-length s n g = length-map (names s n g) (cover n)
+pub chainsOfDay-length : (s n g : ℕ) → length (chainsOfDay s n g) ≡ length (namesOfDay s n g)
+unfolding chainsOfDay
+chainsOfDay-length s n g = length-map (namesOfDay s n g) (coveredDays n)
 
-pub stepped : (s n g : ℕ) (first old : Value) (slots : List Value) (h : List ℕ) {b : Value} {l v next : List Value} {k : ℕ} → b ≡ linked old h → l ≡ linkedSlots s n g h slots →
-    k ≡ length (closing s n g) → take k v ≡ dayValues s n g b l → next ≡ restarted s n g first l →
-    Stepped s n g first old slots h (record { black = b; slots = next; values = v; count = k })
-stepped s n g first old slots h {b} {l} {v} {next} {k} eb el ek ev en =
+pub stepped : (s n g : ℕ) (start old : Value) (slots : List Value) (h : List ℕ) {b : Value} {l v next : List Value} {k : ℕ} → b ≡ linked old h → l ≡ linkedSlots s n g h slots →
+    k ≡ length (chainsOfDay s n g) → take k v ≡ dayValues s n g b l → next ≡ restarted s n g start l →
+    Stepped s n g start old slots h (record { black = b; slots = next; values = v; count = k })
+stepped s n g start old slots h {b} {l} {v} {next} {k} eb el ek ev en =
     record {
       black-is = eb;
-      slots-are = en ∙ ap (restarted s n g first) el;
-      count-is = ek ∙ closing-length s n g;
+      slots-are = en ∙ ap (restarted s n g start) el;
+      count-is = ek ∙ chainsOfDay-length s n g;
       values-are = ev ∙ ap₂ (dayValues s n g) eb el;
     }

@@ -6,7 +6,7 @@ use mathlib.Core.List.{List, [], _∷_, _++_, map}
 use Prim.Native.Nat.{ℕ, zero, suc, _^_}
 use lib.Dec.{leb}
 use lib.ListN.{length, getD, take, replicate}
-use Rattle.layouts.specs.Layouts.{divides, lg, Name, black, tile, tree, offset, covers, blackToo, names}
+use Rattle.layouts.specs.Layouts.{divides, lg, Name, black, tile, tree, offset, covers, storesBlackOfTree, namesOfDay}
 use Rattle.sha256.specs.Sha256.{hashed, bytesOf}
 use Rattle.chains.specs.declared.DayStep.{DayStep}
 use Rattle.chains.specs.declared.Value.{Value}
@@ -44,14 +44,14 @@ abbrev pub storesBlack : ℕ → ℕ → ℕ → Bool
 storesBlack zero n g = false
 storesBlack (suc zero) n g = divides n g
 storesBlack (suc (suc zero)) n g = divides n g
-storesBlack (suc (suc (suc zero))) n g = blackToo n g
+storesBlack (suc (suc (suc zero))) n g = storesBlackOfTree n g
 storesBlack (suc (suc (suc (suc s)))) n g = false
 
 abbrev pub linkSlot : ℕ → ℕ → ℕ → List ℕ → ℕ → Value → Value
 linkSlot scheme n g h i v = pick (linksSlot scheme n g i) (linked v h) v
 
 abbrev pub restartSlot : ℕ → ℕ → ℕ → Value → ℕ → Value → Value
-restartSlot scheme n g first i v = pick (storesSlot scheme n g i) first v
+restartSlot scheme n g start i v = pick (storesSlot scheme n g i) start v
 
 -- a function of the index and the value, at each slot from i on
 abbrev pub each : (ℕ → Value → Value) → ℕ → List Value → List Value
@@ -63,7 +63,7 @@ unfoldable pub linkedSlots : ℕ → ℕ → ℕ → List ℕ → List Value →
 linkedSlots scheme n g h slots = each (linkSlot scheme n g h) 0 slots
 
 unfoldable pub restarted : ℕ → ℕ → ℕ → Value → List Value → List Value
-restarted scheme n g first slots = each (restartSlot scheme n g first) 0 slots
+restarted scheme n g start slots = each (restartSlot scheme n g start) 0 slots
 
 -- the value of a named chain, from the running hashes that have day g linked
 abbrev pub current : Value → List Value → Name → Value
@@ -73,13 +73,13 @@ current b slots (tree l g) = getD slots l b
 
 -- the values of day g, in book order
 unfoldable pub dayValues : ℕ → ℕ → ℕ → Value → List Value → List Value
-dayValues scheme n g b slots = map (current b slots) (names scheme n g)
+dayValues scheme n g b slots = map (current b slots) (namesOfDay scheme n g)
 
 -- what one more day gives: the running hashes after it, the values of the day at the front of a list, and their number
-pub record Stepped (scheme n g : ℕ) (first b : Value) (slots : List Value) (h : List ℕ) (r : DayStep) : Type 0 where
+pub record Stepped (scheme n g : ℕ) (start b : Value) (slots : List Value) (h : List ℕ) (r : DayStep) : Type 0 where
   pub black-is : r .black ≡ linked b h
-  pub slots-are : r .slots ≡ restarted scheme n g first (linkedSlots scheme n g h slots)
-  pub count-is : r .count ≡ length (names scheme n g)
+  pub slots-are : r .slots ≡ restarted scheme n g start (linkedSlots scheme n g h slots)
+  pub count-is : r .count ≡ length (namesOfDay scheme n g)
   pub values-are : take (r .count) (r .values) ≡ dayValues scheme n g (linked b h) (linkedSlots scheme n g h slots)
 
 -- values as bytes, end to end

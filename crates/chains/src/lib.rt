@@ -5,7 +5,7 @@ ghost use mathlib.Core.Bool.{true};
 ghost use mathlib.Core.List.{_++_};
 ghost use Prim.Native.Nat.{_+_, _≤_, _<_, _^_};
 ghost use lib.ListN.{length, take, drop};
-ghost use Rattle.layouts.specs.Layouts.{allowedScheme, allowedN, names};
+ghost use Rattle.layouts.specs.Layouts.{allowedScheme, allowedN, namesOfDay};
 ghost use Rattle.chains.specs.Step as spec;
 ghost use Rattle.chains.specs.Step.{startValue, linked, linksSlot, storesSlot, storesBlack, linkSlot, restartSlot, linkedSlots, restarted, dayValues, Stepped};
 
@@ -95,12 +95,12 @@ fn slot_linked(scheme: u32, n: u32, g: u32, i: usize, v: Value, h: [u32; 8]) -> 
     v
 }
 
-fn slot_restarted(scheme: u32, n: u32, g: u32, first: Value, i: usize, v: Value) -> Value
+fn slot_restarted(scheme: u32, n: u32, g: u32, start: Value, i: usize, v: Value) -> Value
     requires { ⌜ (allowedN n ≡ true) × (i < 17) ⌝ }
-    ensures { λ r. ⌜ r ≡ restartSlot scheme n g first i v ⌝ }
+    ensures { λ r. ⌜ r ≡ restartSlot scheme n g start i v ⌝ }
 {
     if stores_slot(scheme, n, g, i as u32) {
-        return first;
+        return start;
     }
     v
 }
@@ -120,15 +120,15 @@ fn link_slots(scheme: u32, n: u32, g: u32, slots: [Value; 17], h: [u32; 8]) -> [
     r
 }
 
-fn restart_slots(scheme: u32, n: u32, g: u32, first: Value, slots: [Value; 17]) -> [Value; 17]
+fn restart_slots(scheme: u32, n: u32, g: u32, start: Value, slots: [Value; 17]) -> [Value; 17]
     requires { ⌜ allowedN n ≡ true ⌝ }
-    ensures { λ r. ⌜ r ≡ restarted scheme n g first slots ⌝ }
+    ensures { λ r. ⌜ r ≡ restarted scheme n g start slots ⌝ }
 {
     let mut r = slots;
     let mut i = 0usize;
     while i < 17 {
         let v = r[i];
-        let w = slot_restarted(scheme, n, g, first, i, v);
+        let w = slot_restarted(scheme, n, g, start, i, v);
         r[i] = w;
         i += 1;
     }
@@ -137,7 +137,7 @@ fn restart_slots(scheme: u32, n: u32, g: u32, first: Value, slots: [Value; 17]) 
 
 // The values of day g, k of them: the slots in their order, then black where it is one of its own.
 fn day_values(scheme: u32, n: u32, g: u32, k: u32, black: Value, slots: [Value; 17]) -> [Value; 17]
-    requires { ⌜ (allowedScheme scheme ≡ true) × (allowedN n ≡ true) × (1 ≤ g) × (g ≤ 65536) × (k ≡ length (names scheme n g)) ⌝ }
+    requires { ⌜ (allowedScheme scheme ≡ true) × (allowedN n ≡ true) × (1 ≤ g) × (g ≤ 65536) × (k ≡ length (namesOfDay scheme n g)) ⌝ }
     ensures { λ r. ⌜ take k r ≡ dayValues scheme n g black slots ⌝ }
 {
     let mut r = slots;
@@ -153,19 +153,19 @@ pub fn step(
     scheme: u32,
     n: u32,
     g: u32,
-    first: Value,
+    start: Value,
     black: Value,
     slots: [Value; 17],
     h: [u32; 8],
 ) -> DayStep
     requires { ⌜ (allowedScheme scheme ≡ true) × (allowedN n ≡ true) × (1 ≤ g) × (g ≤ 65536) ⌝ }
-    ensures { λ r. ⌜ Stepped scheme n g first black slots h r ⌝ }
+    ensures { λ r. ⌜ Stepped scheme n g start black slots h r ⌝ }
 {
     let b = link(black, h);
     let linked = link_slots(scheme, n, g, slots, h);
     let k = layouts::values_of_day(scheme, n, g);
     let values = day_values(scheme, n, g, k, b, linked);
-    let next = restart_slots(scheme, n, g, first, linked);
+    let next = restart_slots(scheme, n, g, start, linked);
     DayStep {
         black: b,
         slots: next,

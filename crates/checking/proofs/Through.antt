@@ -8,10 +8,10 @@ use native.Mathlib.Omega.{arith}
 use lib.ListN.{length, getD, take, drop, replicate, length-append, length-drop, List·getD-append}
 use lib.Seq.{drop-drop, getD-at, length-take-le}
 use borrow.Rule.Slice.PartMut.{midOf, putMid}
-use Rattle.evidence.specs.Evidence.{_among_, same, upFrom, days, Within, dayOf, digest, value, outcomes}
+use Rattle.evidence.specs.Evidence.{_among_, same, upFrom, days, Within, dayOf, digest, value, checkOutcomes}
 use Rattle.evidence.proofs.ListLaws.{upFrom-bounds}
 use Rattle.evidence.proofs.ValueLaws.{value-same}
-use Rattle.layouts.specs.Layouts.{allowedScheme, allowedN, Name, cover, names, named, closing, chains}
+use Rattle.layouts.specs.Layouts.{allowedScheme, allowedN, Name, coveredDays, namesOfDay, namesThrough, chainsOfDay, chains}
 use Rattle.layouts.proofs.Counts.{length-upFrom}
 use Rattle.layouts.proofs.Coverage.{chains-within, chains-front, chains-suc, upFrom-snoc}
 use Rattle.ledger.specs.Ledger.{startOf, endOf, dayAt, daysOf, EndsHold}
@@ -22,8 +22,8 @@ use Rattle.chains.specs.declared.Value.{Value}
 use Rattle.chains.specs.declared.DayStep.{DayStep}
 use Rattle.chains.specs.Book.{start}
 use Rattle.chains.specs.Step.{startValue, linked, linkedSlots, current, dayValues, Stepped}
-use Rattle.chains.proofs.Values.{closing-length}
-use Rattle.chains.proofs.Running.{Holds, holds-fresh, holds-next, names-right}
+use Rattle.chains.proofs.Values.{chainsOfDay-length}
+use Rattle.chains.proofs.Running.{Holds, holds-fresh, holds-next, namesOfDay-right}
 use Rattle.chains.proofs.Puts.{lent-put, lent-length}
 use Rattle.checking.proofs.Compares.{to-end}
 use Rattle.checking.specs.Calls.{digestsOf, outcomesOf, outcomeOf, compared, Ready}
@@ -49,26 +49,26 @@ digests-length L [] = refl
 digests-length L (x ∷ xs) = omega (arith, length-append (digest sha256 (dayOf L x)) (digestsIn L xs), sha256-length (0 ∷ dayOf L x), digests-length L xs)
 
 outcomes-append : (first : List ℕ) (L cs ds : List (List ℕ)) (book : List ℕ) →
-    outcomes sha256 first L (cs ++ ds) book ≡ outcomes sha256 first L cs book ++ outcomes sha256 first L ds (drop (32 * length cs) book)
+    checkOutcomes sha256 first L (cs ++ ds) book ≡ checkOutcomes sha256 first L cs book ++ checkOutcomes sha256 first L ds (drop (32 * length cs) book)
 outcomes-append first L [] ds book = refl
 outcomes-append first L (c ∷ cs) ds book =
     let e : 32 + 32 * length cs ≡ 32 * suc (length cs) = omega arith in
     ap (λ (r : List ℕ). cond (same (take 32 book) (value sha256 first L c)) 1 0 ∷ r)
-    (outcomes-append first L cs ds (drop 32 book) ∙ ap (λ (r : List ℕ). outcomes sha256 first L cs (drop 32 book) ++ outcomes sha256 first L ds r) (drop-drop (32 * length cs) 32 book ∙ ap (λ (k : ℕ). drop k book) e))
+    (outcomes-append first L cs ds (drop 32 book) ∙ ap (λ (r : List ℕ). checkOutcomes sha256 first L cs (drop 32 book) ++ checkOutcomes sha256 first L ds r) (drop-drop (32 * length cs) 32 book ∙ ap (λ (k : ℕ). drop k book) e))
 
 outcomes-same : (first : List ℕ) (A B cs : List (List ℕ)) (book : List ℕ) → ((c : List ℕ) → c among cs → value sha256 first A c ≡ value sha256 first B c) →
-    outcomes sha256 first A cs book ≡ outcomes sha256 first B cs book
+    checkOutcomes sha256 first A cs book ≡ checkOutcomes sha256 first B cs book
 outcomes-same first A B [] book f = refl
 outcomes-same first A B (c ∷ cs) book f =
     ap₂ (λ (v r : List ℕ). cond (same (take 32 book) v) 1 0 ∷ r) (f c (List·Memᴰ·head refl)) (outcomes-same first A B cs (drop 32 book) (λ d m. f d (List·Memᴰ·tail m)))
 
-pub outcomes-length : (first : List ℕ) (L cs : List (List ℕ)) (book : List ℕ) → length (outcomes sha256 first L cs book) ≡ length cs
+pub outcomes-length : (first : List ℕ) (L cs : List (List ℕ)) (book : List ℕ) → length (checkOutcomes sha256 first L cs book) ≡ length cs
 outcomes-length first L [] book = refl
 outcomes-length first L (c ∷ cs) book = ap suc (outcomes-length first L cs (drop 32 book))
 
 -- values of named chains, compared
 compared-names : (n : ℕ) (first : List ℕ) (F : List (List ℕ)) (b : Value) (l : List Value) (xs : List Name) (book : List ℕ) →
-    ((x : Name) → x among xs → bytesOf (current b l x .words) ≡ value sha256 first F (cover n x)) → compared (map (current b l) xs) book ≡ outcomes sha256 first F (map (cover n) xs) book
+    ((x : Name) → x among xs → bytesOf (current b l x .words) ≡ value sha256 first F (coveredDays n x)) → compared (map (current b l) xs) book ≡ checkOutcomes sha256 first F (map (coveredDays n) xs) book
 unfolding compared
 compared-names n first F b l [] book f = refl
 compared-names n first F b l (x ∷ xs) book f =
@@ -76,10 +76,10 @@ compared-names n first F b l (x ∷ xs) book f =
 
 compared-day : (s n : ℕ) (E : List (List ℕ)) (day : List ℕ) (a : allowedN n ≡ true) (b : Value) (slots : List Value) (h : List ℕ) → Holds s n E b slots → bytesOf h ≡ digest sha256 day →
     suc (length E) ≤ 65536 → (book : List ℕ) →
-    compared (dayValues s n (suc (length E)) (linked b h) (linkedSlots s n (suc (length E)) h slots)) book ≡ outcomes sha256 (start s n) (E ++ (day ∷ [])) (closing s n (suc (length E))) book
-unfolding dayValues closing
+    compared (dayValues s n (suc (length E)) (linked b h) (linkedSlots s n (suc (length E)) h slots)) book ≡ checkOutcomes sha256 (start s n) (E ++ (day ∷ [])) (chainsOfDay s n (suc (length E))) book
+unfolding dayValues chainsOfDay
 compared-day s n E day a b slots h held hash few book =
-    compared-names n (start s n) (E ++ (day ∷ [])) (linked b h) (linkedSlots s n (suc (length E)) h slots) (names s n (suc (length E))) book (names-right s n E day a b slots h held hash few)
+    compared-names n (start s n) (E ++ (day ∷ [])) (linked b h) (linkedSlots s n (suc (length E)) h slots) (namesOfDay s n (suc (length E))) book (namesOfDay-right s n E day a b slots h held hash few)
 
 -- ---- after i days
 
@@ -92,7 +92,7 @@ pub record Through (s n : ℕ) (ledger ends book oldWork oldOutcomes : List ℕ)
   pub outcomes-length-is : length outs ≡ length oldOutcomes
 
 pub none : (s n : ℕ) (ledger ends book work outs : List ℕ) (v : Value) → allowedN n ≡ true → v ≡ startValue s n → Through s n ledger ends book work outs 0 0 v (replicate 17 v) work outs
-unfolding digestsOf outcomesOf chains named flatMap
+unfolding digestsOf outcomesOf chains namesThrough flatMap
 none s n ledger ends book work outs v a e =
     record {
       holds = rw (days-none ledger ends, e) (holds-fresh s n a);
@@ -116,16 +116,16 @@ module _ (s n d : ℕ) (ledger ends book oldWork oldOutcomes : List ℕ) (ok : R
     days-are : length (E i) ≡ i
     days-are = days-length ledger ends i
 
-    next-count : length (chains s n (suc i)) ≡ length (chains s n i) + length (names s n (suc i))
-    next-count = ap length (chains-suc s n i) ∙ length-append (chains s n i) (closing s n (suc i)) ∙ ap (λ (x : ℕ). length (chains s n i) + x) (closing-length s n (suc i))
+    next-count : length (chains s n (suc i)) ≡ length (chains s n i) + length (namesOfDay s n (suc i))
+    next-count = ap length (chains-suc s n i) ∙ length-append (chains s n i) (chainsOfDay s n (suc i)) ∙ ap (λ (x : ℕ). length (chains s n i) + x) (chainsOfDay-length s n (suc i))
 
     -- what the day's call asks
     pub asks : (1 ≤ i + 1) × (i + 1 ≤ 65536) × (32 ≤ length (midOf (32 * i) (length work - 32 * i) work)) ×
-        (32 * length (names s n (i + 1)) ≤ length (take (length book - 32 * at) (drop (32 * at) book))) × (length (names s n (i + 1)) ≤ length (midOf at (length outs - at) outs))
+        (32 * length (namesOfDay s n (i + 1)) ≤ length (take (length book - 32 * at) (drop (32 * at) book))) × (length (namesOfDay s n (i + 1)) ≤ length (midOf at (length outs - at) outs))
     asks =
         let f = few-chains (suc i) h in
         let c = next-count in
-        let e : length (names s n (i + 1)) ≡ length (names s n (suc i)) = ap (λ (x : ℕ). length (names s n x)) (add-one i) in (
+        let e : length (namesOfDay s n (i + 1)) ≡ length (namesOfDay s n (suc i)) = ap (λ (x : ℕ). length (namesOfDay s n x)) (add-one i) in (
           omega arith,
           omega (arith, ok .days-most),
           rw (length-part work (32 * i)) (omega (arith, t .work-length, ok .work-long)),
@@ -163,14 +163,14 @@ module _ (s n d : ℕ) (ledger ends book oldWork oldOutcomes : List ℕ) (ok : R
     unfolding digestsOf
     digests-size = digests-length (E i) (days i) ∙ ap (λ (x : ℕ). 32 * x) (length-upFrom 1 i)
 
-    outcomes-next : outcomesOf s n (suc i) ledger ends book ≡ outcomesOf s n i ledger ends book ++ outcomes sha256 (start s n) (E i ++ (day ∷ [])) (closing s n (suc (length (E i)))) (drop (32 * at) book)
+    outcomes-next : outcomesOf s n (suc i) ledger ends book ≡ outcomesOf s n i ledger ends book ++ checkOutcomes sha256 (start s n) (E i ++ (day ∷ [])) (chainsOfDay s n (suc (length (E i)))) (drop (32 * at) book)
     unfolding outcomesOf
     outcomes-next =
-        ap (λ (cs : List (List ℕ)). outcomes sha256 (start s n) (E (suc i)) cs book) (chains-suc s n i) ∙
-        outcomes-append (start s n) (E (suc i)) (chains s n i) (closing s n (suc i)) book ∙
+        ap (λ (cs : List (List ℕ)). checkOutcomes sha256 (start s n) (E (suc i)) cs book) (chains-suc s n i) ∙
+        outcomes-append (start s n) (E (suc i)) (chains s n i) (chainsOfDay s n (suc i)) book ∙
         ap₂ (λ (p q : List ℕ). p ++ q) (outcomes-same (start s n) (E (suc i)) (E i) (chains s n i) book (λ c m. value-same sha256 (E (suc i)) (E i) c (start s n) (λ g k. old-days g (chains-within s n i c m g k))))
-        (ap₂ (λ (L : List (List ℕ)) (k : ℕ). outcomes sha256 (start s n) L (closing s n (suc k)) (drop (32 * length (chains s n i)) book)) snoc (sym days-are) ∙
-        ap (λ (k : ℕ). outcomes sha256 (start s n) (E i ++ (day ∷ [])) (closing s n (suc (length (E i)))) (drop (32 * k) book)) (sym (t .at-is)))
+        (ap₂ (λ (L : List (List ℕ)) (k : ℕ). checkOutcomes sha256 (start s n) L (chainsOfDay s n (suc k)) (drop (32 * length (chains s n i)) book)) snoc (sym days-are) ∙
+        ap (λ (k : ℕ). checkOutcomes sha256 (start s n) (E i ++ (day ∷ [])) (chainsOfDay s n (suc (length (E i)))) (drop (32 * k) book)) (sym (t .at-is)))
 
     outcomes-size : length (outcomesOf s n i ledger ends book) ≡ at
     unfolding outcomesOf
@@ -194,9 +194,9 @@ module _ (s n d : ℕ) (ledger ends book oldWork oldOutcomes : List ℕ) (ok : R
       room = omega (arith, days-are, ok .days-most)
 
       count-is : at + r .count ≡ length (chains s n (suc i))
-      count-is = omega (arith, t .at-is, next-count, stepped′ .count-is ∙ ap (λ (x : ℕ). length (names s n (suc x))) days-are)
+      count-is = omega (arith, t .at-is, next-count, stepped′ .count-is ∙ ap (λ (x : ℕ). length (namesOfDay s n (suc x))) days-are)
 
-      found-is : compared (take (r .count) (r .values)) (take (length book - 32 * at) (drop (32 * at) book)) ≡ outcomes sha256 (start s n) (E i ++ (day ∷ [])) (closing s n (suc (length (E i)))) (drop (32 * at) book)
+      found-is : compared (take (r .count) (r .values)) (take (length book - 32 * at) (drop (32 * at) book)) ≡ checkOutcomes sha256 (start s n) (E i ++ (day ∷ [])) (chainsOfDay s n (suc (length (E i)))) (drop (32 * at) book)
       found-is =
           ap₂ compared (stepped′ .values-are) (to-end book (32 * at)) ∙ compared-day s n (E i) day (ok .n-ok) b slots (hashed (0 ∷ bytes)) (t .holds) hash room (drop (32 * at) book)
 
@@ -214,8 +214,8 @@ module _ (s n d : ℕ) (ledger ends book oldWork oldOutcomes : List ℕ) (ok : R
 
       values-length : length (compared (take (r .count) (r .values)) (take (length book - 32 * at) (drop (32 * at) book))) ≡ r .count
       values-length =
-          ap length found-is ∙ outcomes-length (start s n) (E i ++ (day ∷ [])) (closing s n (suc (length (E i)))) (drop (32 * at) book) ∙
-          closing-length s n (suc (length (E i))) ∙ sym (stepped′ .count-is)
+          ap length found-is ∙ outcomes-length (start s n) (E i ++ (day ∷ [])) (chainsOfDay s n (suc (length (E i)))) (drop (32 * at) book) ∙
+          chainsOfDay-length s n (suc (length (E i))) ∙ sym (stepped′ .count-is)
 
       pub next : Through s n ledger ends book oldWork oldOutcomes (i + 1) (at + r .count) (r .black) (r .slots) (putMid (32 * i) (length work - 32 * i) work w) (putMid at (length outs - at) outs o)
       next =

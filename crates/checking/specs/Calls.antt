@@ -7,7 +7,7 @@ use lib.Dec.{leb}
 use lib.ListN.{length, take, drop}
 use Rattle.chains.specs.Book.{start}
 use Rattle.chains.specs.declared.Value.{Value}
-use Rattle.evidence.specs.Evidence.{same, days, dayOf, digest, outcomes}
+use Rattle.evidence.specs.Evidence.{same, days, dayOf, digest, checkOutcomes}
 use Rattle.layouts.specs.Layouts.{allowedScheme, allowedN, unless, orElse, layoutRefusal, chains}
 use Rattle.ledger.specs.Ledger.{daysOf, endsRefusal, EndsHold}
 use Rattle.sha256.specs.Sha256.{sha256, bytesOf}
@@ -36,7 +36,7 @@ digestsOf ledger ends d = flatMap (λ g. digest sha256 (dayOf (daysOf ledger end
 
 -- an outcome for each value in book order: 1 exactly if the book has the value that rehashing the ledger's days gives
 unfoldable pub outcomesOf : ℕ → ℕ → ℕ → List ℕ → List ℕ → List ℕ → List ℕ
-outcomesOf scheme n d ledger ends book = outcomes sha256 (start scheme n) (daysOf ledger ends d) (chains scheme n d) book
+outcomesOf scheme n d ledger ends book = checkOutcomes sha256 (start scheme n) (daysOf ledger ends d) (chains scheme n d) book
 
 abbrev pub front : ℕ → List ℕ → List ℕ → List ℕ
 front zero new buffer = new ++ drop (length new) buffer

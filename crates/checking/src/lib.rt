@@ -8,7 +8,7 @@ ghost use Prim.Native.Nat.{_+_, _*_, _≤_, _<_};
 ghost use lib.ListN.{length, take, drop};
 ghost use Rattle.evidence.specs.Evidence as lists;
 ghost use Rattle.chains.specs.Step.{Stepped};
-ghost use Rattle.layouts.specs.Layouts.{allowedScheme, allowedN, names, chains};
+ghost use Rattle.layouts.specs.Layouts.{allowedScheme, allowedN, namesOfDay, chains};
 ghost use Rattle.sha256.specs.Sha256.{hashed, bytesOf};
 ghost use Rattle.checking.specs.Calls.{numberOf, checkedBy, checkRefusal, Ready, digestsOf, outcomesOf, workAfter, outcomesAfter, outcomeOf, compared};
 
@@ -99,7 +99,7 @@ fn check_day(
     scheme: u32,
     n: u32,
     g: u32,
-    first: Value,
+    start: Value,
     black: Value,
     slots: [Value; 17],
     day: &[u8],
@@ -107,14 +107,14 @@ fn check_day(
     work: &mut [u8],
     outcomes: &mut [u8],
 ) -> DayStep
-    requires { ⌜ (allowedScheme scheme ≡ true) × (allowedN n ≡ true) × (1 ≤ g) × (g ≤ 65536) × (32 ≤ length (now work)) × (32 * length (names scheme n g) ≤ length (now book)) × (length (names scheme n g) ≤ length (now outcomes)) ⌝ }
-    ensures { λ r. ⌜ Stepped scheme n g first black slots (hashed (0 ∷ now (day .entry))) r ⌝ }
+    requires { ⌜ (allowedScheme scheme ≡ true) × (allowedN n ≡ true) × (1 ≤ g) × (g ≤ 65536) × (32 ≤ length (now work)) × (32 * length (namesOfDay scheme n g) ≤ length (now book)) × (length (namesOfDay scheme n g) ≤ length (now outcomes)) ⌝ }
+    ensures { λ r. ⌜ Stepped scheme n g start black slots (hashed (0 ∷ now (day .entry))) r ⌝ }
     ensures { λ r. ⌜ now (work .exit) ≡ bytesOf (hashed (0 ∷ now (day .entry))) ++ drop 32 (now (work .entry)) ⌝ }
     ensures { λ r. ⌜ now (outcomes .exit) ≡ compared (take (r .count) (r .values)) (now (book .entry)) ++ drop (r .count) (now (outcomes .entry)) ⌝ }
 {
     let h = hasher::digest(0, day);
     chains::put(work, 0, sha256::bytes(h));
-    let step = chains::step(scheme, n, g, first, black, slots, h);
+    let step = chains::step(scheme, n, g, start, black, slots, h);
     let values = step.values;
     let k = step.count;
     compare(book, values, k, outcomes);
@@ -135,9 +135,9 @@ fn check_days(
     ensures { λ r. ⌜ now (work .exit) ≡ digestsOf (now (ledger .entry)) (now (ends .entry)) d ++ drop (32 * d) (now (work .entry)) ⌝ }
     ensures { λ r. ⌜ now (outcomes .exit) ≡ outcomesOf scheme n d (now (ledger .entry)) (now (ends .entry)) (now (book .entry)) ++ drop (length (chains scheme n d)) (now (outcomes .entry)) ⌝ }
 {
-    let first = chains::start(scheme, n);
-    let mut black = first;
-    let mut slots = [first; 17];
+    let start = chains::start(scheme, n);
+    let mut black = start;
+    let mut slots = [start; 17];
     let mut at = 0usize;
     let mut i = 0usize;
     let days = d as usize;
@@ -150,7 +150,7 @@ fn check_days(
             scheme,
             n,
             day_number(i),
-            first,
+            start,
             black,
             slots,
             &ledger[a..e],

@@ -6,10 +6,10 @@ use mathlib.Core.Bool.{Bool, true, false, not, _&&_, _||_}
 use mathlib.Core.List.{List, [], _∷_, _++_, List·Memᴰ, List·Memᴰ·head, List·Memᴰ·tail}
 use Prim.Native.Nat.{ℕ, zero, suc, _+_, _*_, _/_, _%_, _^_, _≤_}
 use lib.ListN.{length, replicate, length-replicate}
-use Rattle.evidence.specs.Evidence.{_among_, same, tableOf, changed, values, outcomes, inputs, NoCollision}
+use Rattle.evidence.specs.Evidence.{_among_, same, tableOf, changed, values, checkOutcomes, inputs, NoCollision}
 use Rattle.evidence.proofs.ListLaws.{true-or-false, or-split, and-both, same-eq, eq-same}
 use Rattle.evidence.proofs.ValueLaws.{check-table}
-use Rattle.layouts.specs.Layouts.{named, chains}
+use Rattle.layouts.specs.Layouts.{namesThrough, chains}
 use Rattle.layouts.proofs.Coverage.{chains-within}
 
 -- n bytes of a number, lowest first
@@ -73,7 +73,7 @@ abbrev ledger : List (List ℕ)
 ledger = (5 ∷ []) ∷ (6 ∷ 9 ∷ []) ∷ [] ∷ (8 ∷ []) ∷ []
 
 apart-here : allApart (inputs hash first (chains 3 2 4) 4 sealed) (inputs hash first (chains 3 2 4) 4 ledger) ≡ true
-unfolding hash inputs chains named mathlib.Core.List.flatMap
+unfolding hash inputs chains namesThrough mathlib.Core.List.flatMap
 apart-here = refl
 
 -- day 2 is changed
@@ -84,8 +84,8 @@ changed-here = refl
 -- the premise holds, and by the law the check finds the table of day 2: its own value, those of days 1 to 2 and 1 to 4 fail
 pub concrete : (rest : List ℕ) →
     NoCollision hash (inputs hash first (chains 3 2 4) 4 sealed) (inputs hash first (chains 3 2 4) 4 ledger) ×
-    (outcomes hash first ledger (chains 3 2 4) (values hash first sealed (chains 3 2 4) ++ rest) ≡ 1 ∷ 0 ∷ 0 ∷ 1 ∷ 1 ∷ 1 ∷ 0 ∷ [])
-unfolding tableOf chains named mathlib.Core.List.flatMap changed
+    (checkOutcomes hash first ledger (chains 3 2 4) (values hash first sealed (chains 3 2 4) ++ rest) ≡ 1 ∷ 0 ∷ 0 ∷ 1 ∷ 1 ∷ 1 ∷ 0 ∷ [])
+unfolding tableOf chains namesThrough mathlib.Core.List.flatMap changed
 concrete rest =
     let p = told (inputs hash first (chains 3 2 4) 4 sealed) (inputs hash first (chains 3 2 4) 4 ledger) apart-here in
     (p, check-table hash hash-length first (length-replicate {A = ℕ} 32 0) (chains 3 2 4) 4 (chains-within 3 2 4) sealed ledger p rest)

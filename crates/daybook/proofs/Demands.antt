@@ -9,10 +9,10 @@ use lib.Dec.{leb}
 use lib.ListN.{length, take, drop, length-append, length-map, take-append-drop}
 use lib.Seq.{take-at, drop-at, take-all, length-take-le, take-append-le}
 use borrow.Author.Tests.{le-leb}
-use Rattle.evidence.specs.Evidence.{_among_, keep, Ascends, days, Within, meets, outcome, tableOf, Gives, listing, accepted, dayOf, changed, values, outcomes, NoCollision}
+use Rattle.evidence.specs.Evidence.{_among_, keep, Ascends, days, Within, meets, setOutcome, tableOf, Gives, listing, accepted, dayOf, changed, values, checkOutcomes, NoCollision}
 use Rattle.evidence.proofs.TableLaws.{listing-ascends, listed-iff, given-iff-accepted, lists-none}
 use Rattle.evidence.proofs.ValueLaws.{changed-within, changed-listed, listed-changed, none-listed, none-changed}
-use Rattle.layouts.specs.Layouts.{divides, allowedScheme, allowedN, allowedD, unless, orElse, setupRefusal, layoutRefusal, ending, chains}
+use Rattle.layouts.specs.Layouts.{divides, allowedScheme, allowedN, allowedD, unless, orElse, setupRefusal, layoutRefusal, lastDays, chains}
 use Rattle.rules.specs.Reading.{lowOf, lastOf, lastGood}
 use Rattle.layouts.proofs.AllowedLaws.{Setup, setup-is, allowed-scheme-is, allowed-n-is, allowed-d-is, divides-factor}
 use Rattle.layouts.proofs.Coverage.{chains-cover, tree-single, chains-front}
@@ -27,10 +27,10 @@ use Rattle.service.proofs.Lists as service
 use Rattle.checking.specs.declared.Checked.the-variants.{Done}
 use Rattle.checking.specs.Calls.{checkedBy, checkRefusal, digestsOf, outcomesOf, front, workAfter, outcomesAfter}
 use Rattle.checking.proofs.Through.{digests-whole, outcomes-whole}
-use Rattle.reading.specs.Answers.{Said, tableIn, readRefusal, listedIn, found, says, listAfter}
+use Rattle.reading.specs.Answers.{Report, tableIn, readRefusal, listedIn, found, reportOn, listAfter}
 use Rattle.reading.proofs.Good.{good-given}
-use Rattle.reading.proofs.Said.{says-found, list-found, read-given}
-use Rattle.daybook.specs.Claim.{Given, sealed, wrote, changedDays, tableOfChanges, lastUnchanged, Fit, Apart, refusalOf, workLeft, outcomesLeft, said, listLeft, listedDays, Found, Demand, Claim, Unaltered}
+use Rattle.reading.proofs.Report.{reportOn-found, list-found, read-given}
+use Rattle.daybook.specs.Claim.{Handed, sealed, wrote, changedDays, tableOfChanges, lastUnchanged, Premises, SealedApart, refusalOf, workLeft, outcomesLeft, report, listLeft, listedDays, Detected, Guarantee, Claim, Unaltered}
 
 accepted-setup : (s n f : ℕ) → numberOf (opened s n f .answer) ≡ 0 → setupRefusal s n f ≡ 0
 unfolding opened
@@ -46,20 +46,20 @@ layout-ok s n f d e a = rw (e, a)
 
 -- ---- a list of days, its number, its first
 
-found-listed : (n f d good : ℕ) (l : List ℕ) → found n f d l good .listed ≡ length l
+found-listed : (n f d last_good : ℕ) (l : List ℕ) → found n f d l last_good .listed ≡ length l
 unfolding found
-found-listed n f d good [] = refl
-found-listed n f d good (g ∷ gs) = refl
+found-listed n f d last_good [] = refl
+found-listed n f d last_good (g ∷ gs) = refl
 
-found-refusal : (n f d good : ℕ) (l : List ℕ) → found n f d l good .refusal ≡ 0
+found-refusal : (n f d last_good : ℕ) (l : List ℕ) → found n f d l last_good .refusal ≡ 0
 unfolding found
-found-refusal n f d good [] = refl
-found-refusal n f d good (g ∷ gs) = refl
+found-refusal n f d last_good [] = refl
+found-refusal n f d last_good (g ∷ gs) = refl
 
-clean-empty : (n f d good : ℕ) (l : List ℕ) → (found n f d l good .clean ≡ true) ↔ (l ≡ [])
+clean-empty : (n f d last_good : ℕ) (l : List ℕ) → (found n f d l last_good .clean ≡ true) ↔ (l ≡ [])
 unfolding found
-clean-empty n f d good [] = (λ e. refl, λ e. refl)
-clean-empty n f d good (g ∷ gs) = (λ e. let z : _≡_ {A = ℕ} 0 1 = cc in absurd (omega arith), λ e. let z : _≡_ {A = ℕ} 0 1 = cc in absurd (omega arith))
+clean-empty n f d last_good [] = (λ e. refl, λ e. refl)
+clean-empty n f d last_good (g ∷ gs) = (λ e. let z : _≡_ {A = ℕ} 0 1 = cc in absurd (omega arith), λ e. let z : _≡_ {A = ℕ} 0 1 = cc in absurd (omega arith))
 
 module _ (s n f : ℕ) (opens : numberOf (opened s n f .answer) ≡ 0) (cs : List Call) where
   setup : Setup s n f
@@ -71,7 +71,7 @@ module _ (s n f : ℕ) (opens : numberOf (opened s n f .answer) ≡ 0) (cs : Lis
   book-is : wrote s n f cs ≡ bookOf s n (sealed s n cs)
   book-is = service.claim s n f opens cs .book
 
-  module _ (d : ℕ) (x : Given) (fit : Fit s n f cs d x) where
+  module _ (d : ℕ) (x : Handed) (fit : Premises s n f cs d x) where
     abbrev B : List (List ℕ)
     B = daysOf (x .ledger) (x .ends) d
 
@@ -115,9 +115,9 @@ module _ (s n f : ℕ) (opens : numberOf (opened s n f .answer) ≡ 0) (cs : Lis
 
     -- the outcomes against the book, over the values at its front
     against : (rest : List ℕ) → x .book ≡ values sha256 (start s n) (sealed s n cs) (chains s n d) ++ rest → outcomesOf s n d (x .ledger) (x .ends) (x .book) ≡
-        outcomes sha256 (start s n) B (chains s n d) (values sha256 (start s n) (sealed s n cs) (chains s n d) ++ rest)
+        checkOutcomes sha256 (start s n) B (chains s n d) (values sha256 (start s n) (sealed s n cs) (chains s n d) ++ rest)
     unfolding outcomesOf
-    against rest e = ap (outcomes sha256 (start s n) B (chains s n d)) e
+    against rest e = ap (checkOutcomes sha256 (start s n) B (chains s n d)) e
 
     -- ---- reading an outcome buffer that begins with the table of the days X
 
@@ -130,7 +130,7 @@ module _ (s n f : ℕ) (opens : numberOf (opened s n f .answer) ≡ 0) (cs : Lis
 
       table-length : length T ≡ length (chains s n d)
       unfolding tableOf
-      table-length = length-map (chains s n d) (outcome X)
+      table-length = length-map (chains s n d) (setOutcome X)
 
       table-in : tableIn s n d O ≡ T
       table-in = ap (take (length (chains s n d))) starts ∙ take-at T (drop (length (chains s n d)) (x .outcomes)) (length (chains s n d)) table-length
@@ -151,22 +151,22 @@ module _ (s n f : ℕ) (opens : numberOf (opened s n f .answer) ≡ 0) (cs : Lis
       unfolding listedIn
       listed-in = ap (listing (chains s n d) d) table-in
 
-      said-is : said s n f d x ≡ found n f d Ls (lastUnchanged n d X)
-      said-is =
+      report-is : report s n f d x ≡ found n f d Ls (lastUnchanged n d X)
+      report-is =
           let r = allowed-scheme-is s (setup .scheme-ok) in
-          says-found s n f d O (length (x .list)) read-ok ∙
+          reportOn-found s n f d O (length (x .list)) read-ok ∙
           ap₂ (λ (l : List ℕ) (g : ℕ). found n f d l g) listed-in (ap (lastGood s n d) table-in ∙ good-given s n d X T (r .0) (r .1) gives)
 
       list-is : listLeft s n f d x ≡ Ls ++ drop (length Ls) (x .list)
       list-is = list-found s n f d O (x .list) read-ok ∙ ap (λ (l : List ℕ). l ++ drop (length l) (x .list)) listed-in
 
-      count-is : said s n f d x .listed ≡ length Ls
-      count-is = ap (λ (r : Said). r .listed) said-is ∙ found-listed n f d (lastUnchanged n d X) Ls
+      count-is : report s n f d x .listed ≡ length Ls
+      count-is = ap (λ (r : Report). r .listed) report-is ∙ found-listed n f d (lastUnchanged n d X) Ls
 
       days-are : listedDays s n f d x ≡ Ls
       days-are = ap₂ take count-is list-is ∙ take-at Ls (drop (length Ls) (x .list)) (length Ls) refl
 
-      behind : drop (said s n f d x .listed) (listLeft s n f d x) ≡ drop (said s n f d x .listed) (x .list)
+      behind : drop (report s n f d x .listed) (listLeft s n f d x) ≡ drop (report s n f d x .listed) (x .list)
       behind = ap₂ drop count-is list-is ∙ drop-at Ls (drop (length Ls) (x .list)) (length Ls) refl ∙ ap (λ (k : ℕ). drop k (x .list)) (sym count-is)
 
       accepts : accepted (chains s n d) d T ≡ true
@@ -174,26 +174,26 @@ module _ (s n f : ℕ) (opens : numberOf (opened s n f .answer) ≡ 0) (cs : Lis
 
     -- ---- under the premise on collisions
 
-    table-found : Apart s n cs d x → outcomesLeft s n f d x ≡ tableOfChanges s n cs d x ++ drop (length (chains s n d)) (x .outcomes)
+    table-found : SealedApart s n cs d x → outcomesLeft s n f d x ≡ tableOfChanges s n cs d x ++ drop (length (chains s n d)) (x .outcomes)
     table-found nc =
         let r = front-of-book in
         outcomes-left ∙ ap (λ (p : List ℕ). p ++ drop (length (chains s n d)) (x .outcomes)) (against (r .0) (r .1) ∙ check-finds s n d (sealed s n cs) B (r .0) nc)
 
-    pub finds : Apart s n cs d x → Found s n f cs d x
+    pub finds : SealedApart s n cs d x → Detected s n f cs d x
     finds nc =
         record {
           check-done = done;
           digests-written = digests-left;
           table-written = t;
-          read-done = ap (λ (r : Said). r .refusal) (said-is X w t) ∙ found-refusal n f d (lastUnchanged n d X) L;
+          read-done = ap (λ (r : Report). r .refusal) (report-is X w t) ∙ found-refusal n f d (lastUnchanged n d X) L;
           counted = ap length (days-are X w t) ∙ sym (count-is X w t);
           ascending = rw (days-are X w t) (listing-ascends (chains s n d) d (tableOf (chains s n d) X));
           listed = rw (days-are X w t) (listed-iff (chains s n d) d (tableOf (chains s n d) X) (accepts X w t));
           rest-left = behind X w t;
           complete = λ g m. rw (days-are X w t) (changed-listed (chains s n d) d (sealed s n cs) B g m);
           exact = λ e g m. rw (tree-list e) at (rw (days-are X w t) at m);
-          clean = rw (said-is X w t) (clean-changed (clean-empty n f d (lastUnchanged n d X) L) (none-listed (chains s n d) d (sealed s n cs) B covered));
-          numbers = said-is X w t ∙ ap (λ (l : List ℕ). found n f d l (lastUnchanged n d X)) (sym (days-are X w t));
+          clean = rw (report-is X w t) (clean-changed (clean-empty n f d (lastUnchanged n d X) L) (none-listed (chains s n d) d (sealed s n cs) B covered));
+          numbers = report-is X w t ∙ ap (λ (l : List ℕ). found n f d l (lastUnchanged n d X)) (sym (days-are X w t));
         }
       where
         X : List ℕ
@@ -220,9 +220,9 @@ module _ (s n f : ℕ) (opens : numberOf (opened s n f .answer) ≡ 0) (cs : Lis
     -- ---- with no day changed, without it
 
     pub passes : ((g : ℕ) → g among days d → dayOf (sealed s n cs) g ≡ dayOf B g) →
-        (checkedBy (refusalOf s n f d x) ≡ Done) × (said s n f d x .refusal ≡ 0) × (said s n f d x .clean ≡ true) × (listLeft s n f d x ≡ x .list)
+        (checkedBy (refusalOf s n f d x) ≡ Done) × (report s n f d x .refusal ≡ 0) × (report s n f d x .clean ≡ true) × (listLeft s n f d x ≡ x .list)
     passes same =
-        (done, ap (λ (r : Said). r .refusal) (said-is [] w t) ∙ found-refusal n f d (lastUnchanged n d []) L, rw (said-is [] w t) (clean-empty n f d (lastUnchanged n d []) L .1 none), list-is [] w t ∙ rw none)
+        (done, ap (λ (r : Report). r .refusal) (report-is [] w t) ∙ found-refusal n f d (lastUnchanged n d []) L, rw (report-is [] w t) (clean-empty n f d (lastUnchanged n d []) L .1 none), list-is [] w t ∙ rw none)
       where
         w : Within d []
         w g m = elim m [ ]
@@ -240,7 +240,7 @@ module _ (s n f : ℕ) (opens : numberOf (opened s n f .answer) ≡ 0) (cs : Lis
 
   -- ---- all days sealed
 
-  pub demand : Demand s n f cs
+  pub demand : Guarantee s n f cs
   demand =
       record {
         refused = service.claim s n f opens cs .refused;
@@ -252,9 +252,9 @@ module _ (s n f : ℕ) (opens : numberOf (opened s n f .answer) ≡ 0) (cs : Lis
       size : length (wrote s n f cs) ≡ 32 * length (chains s n (length (sealed s n cs)))
       size = ap length book-is ∙ book-length s n (sealed s n cs)
 
-      fits : (x : Given) → allowedD n f (length (sealed s n cs)) ≡ true → take (length (wrote s n f cs)) (x .book) ≡ wrote s n f cs →
+      fits : (x : Handed) → allowedD n f (length (sealed s n cs)) ≡ true → take (length (wrote s n f cs)) (x .book) ≡ wrote s n f cs →
           endsRefusal (length (sealed s n cs)) (x .ends) (length (x .ledger)) ≡ 0 → 32 * length (sealed s n cs) ≤ length (x .work) →
-          length (chains s n (length (sealed s n cs))) ≤ length (x .outcomes) → length (sealed s n cs) ≤ length (x .list) → Fit s n f cs (length (sealed s n cs)) x
+          length (chains s n (length (sealed s n cs))) ≤ length (x .outcomes) → length (sealed s n cs) ≤ length (x .list) → Premises s n f cs (length (sealed s n cs)) x
       fits x a b e w o l =
           record {
             days-sealed = omega arith;

@@ -19,7 +19,7 @@ use Rattle.hasher.specs.Hasher.{joined}
 use Rattle.service.specs.Calls.{numberOf, opened}
 use Rattle.service.specs.Journal.{Journal, empty, Argument, adds, closes, refusalOf, entered, unlessRefused, kept, journalAfter}
 use Rattle.service.specs.Run.{Call, argumentOf, journalOf}
-use Rattle.daybook.specs.Claim.{Given, sealed, wrote, Fit, said, Same, Met}
+use Rattle.daybook.specs.Claim.{Handed, sealed, wrote, Premises, report, Same, Met}
 use Rattle.daybook.proofs.Demands.{passes}
 
 -- ---- no entry is over the limit
@@ -149,10 +149,10 @@ met s n f opens cs a = (x, record { fit = fit; same-days = days-are E; clean = p
     d : ℕ
     d = length E
 
-    x : Given
+    x : Handed
     x = record { ledger = joined E; ends = endsFrom 0 E; book = wrote s n f cs; work = replicate (32 * d) 0; outcomes = replicate (length (chains s n d)) 0; list = replicate d 0 }
 
-    fit : Fit s n f cs d x
+    fit : Premises s n f cs d x
     fit =
         record {
           days-sealed = omega arith;

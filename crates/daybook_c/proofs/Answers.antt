@@ -12,7 +12,7 @@ use Rattle.layouts.specs.Layouts.{allowedScheme, allowedN, layoutRefusal, lg, c
 use Rattle.rules.specs.Reading.{lastGood}
 use Rattle.layouts.proofs.AllowedLaws.{layout-is, allowed-scheme-is, allowed-n-is, allowed-d-is, divides-factor}
 use Rattle.layouts.proofs.Counts.{values-length}
-use Rattle.reading.specs.Answers.{Said, tableIn, readRefusal, listedIn, saidOf, says, unlessRefused, found}
+use Rattle.reading.specs.Answers.{Report, tableIn, readRefusal, listedIn, reportOf, reportOn, unlessRefused, found}
 use Rattle.reading.specs.declared.Numbers.{Numbers}
 use Rattle.reading.specs.declared.Reading.{Reading}
 use Rattle.reading.specs.declared.Reading.the-variants.{Clean, Changed, Refused}
@@ -111,35 +111,35 @@ values-ask scheme n f d x e z =
 
 -- ---- read
 
-refusal-of : (k n f d good : ℕ) (l : List ℕ) → unlessRefused k (found n f d l good) .refusal ≡ k
+refusal-of : (k n f d last_good : ℕ) (l : List ℕ) → unlessRefused k (found n f d l last_good) .refusal ≡ k
 unfolding found
-refusal-of zero n f d good [] = refl
-refusal-of zero n f d good (g ∷ gs) = refl
-refusal-of (suc k) n f d good l = refl
+refusal-of zero n f d last_good [] = refl
+refusal-of zero n f d last_good (g ∷ gs) = refl
+refusal-of (suc k) n f d last_good l = refl
 
-said-number : (d : ℕ) (a : Reading) → saidOf 0 a .refusal ≡ saidOf d a .refusal
-unfolding saidOf
-said-number d Clean = refl
-said-number d (Changed m) = refl
-said-number d (Refused x) = refl
+report-number : (d : ℕ) (a : Reading) → reportOf 0 a .refusal ≡ reportOf d a .refusal
+unfolding reportOf
+report-number d Clean = refl
+report-number d (Changed m) = refl
+report-number d (Refused x) = refl
 
-module _ (scheme n f d : ℕ) (outcomes : List ℕ) (places : ℕ) (a : Reading) (x : ℕ) (call : saidOf d a ≡ says scheme n f d outcomes places) (number : x ≡ saidOf 0 a .refusal) where
-  said : x ≡ says scheme n f d outcomes places .refusal
-  said = number ∙ said-number d a ∙ ap (λ (s : Said). s .refusal) call
+module _ (scheme n f d : ℕ) (outcomes : List ℕ) (places : ℕ) (a : Reading) (x : ℕ) (call : reportOf d a ≡ reportOn scheme n f d outcomes places) (number : x ≡ reportOf 0 a .refusal) where
+  report : x ≡ reportOn scheme n f d outcomes places .refusal
+  report = number ∙ report-number d a ∙ ap (λ (s : Report). s .refusal) call
 
   pub read-number : x ≡ readRefusal scheme n f d outcomes places
-  unfolding says
-  read-number = said ∙ refusal-of (readRefusal scheme n f d outcomes places) n f d (lastGood scheme n d (tableIn scheme n d outcomes)) (listedIn scheme n d outcomes)
+  unfolding reportOn
+  read-number = report ∙ refusal-of (readRefusal scheme n f d outcomes places) n f d (lastGood scheme n d (tableIn scheme n d outcomes)) (listedIn scheme n d outcomes)
 
   pub read-done : (m : Numbers) (old : List ℕ) → x ≡ 0
-      → (m .listed ≡ saidOf d a .listed) × (m .first ≡ saidOf d a .first) × (m .low ≡ saidOf d a .low) × (m .high ≡ saidOf d a .high) × (m .good ≡ saidOf d a .good)
-      → m .listed ∷ m .first ∷ m .low ∷ m .high ∷ m .good ∷ [] ≡ numbersAfter (says scheme n f d outcomes places) old
+      → (m .listed ≡ reportOf d a .listed) × (m .first ≡ reportOf d a .first) × (m .low ≡ reportOf d a .low) × (m .high ≡ reportOf d a .high) × (m .last_good ≡ reportOf d a .last_good)
+      → m .listed ∷ m .first ∷ m .low ∷ m .high ∷ m .last_good ∷ [] ≡ numbersAfter (reportOn scheme n f d outcomes places) old
   unfolding numbersAfter
   read-done m old z e =
-      let five : m .listed ∷ m .first ∷ m .low ∷ m .high ∷ m .good ∷ [] ≡ saidOf d a .listed ∷ saidOf d a .first ∷ saidOf d a .low ∷ saidOf d a .high ∷ saidOf d a .good ∷ [] = rw (e .0, e .1, e .2, e .3, e .4) in
-      five ∙ ap (λ (s : Said). s .listed ∷ s .first ∷ s .low ∷ s .high ∷ s .good ∷ []) call
-      ∙ done (let s = says scheme n f d outcomes places in s .listed ∷ s .first ∷ s .low ∷ s .high ∷ s .good ∷ []) old said z
+      let five : m .listed ∷ m .first ∷ m .low ∷ m .high ∷ m .last_good ∷ [] ≡ reportOf d a .listed ∷ reportOf d a .first ∷ reportOf d a .low ∷ reportOf d a .high ∷ reportOf d a .last_good ∷ [] = rw (e .0, e .1, e .2, e .3, e .4) in
+      five ∙ ap (λ (s : Report). s .listed ∷ s .first ∷ s .low ∷ s .high ∷ s .last_good ∷ []) call
+      ∙ done (let s = reportOn scheme n f d outcomes places in s .listed ∷ s .first ∷ s .low ∷ s .high ∷ s .last_good ∷ []) old report z
 
-  pub read-kept : (old : List ℕ) → (x ≡ 0 → ⊥) → old ≡ numbersAfter (says scheme n f d outcomes places) old
+  pub read-kept : (old : List ℕ) → (x ≡ 0 → ⊥) → old ≡ numbersAfter (reportOn scheme n f d outcomes places) old
   unfolding numbersAfter
-  read-kept old some = kept (let s = says scheme n f d outcomes places in s .listed ∷ s .first ∷ s .low ∷ s .high ∷ s .good ∷ []) old said some
+  read-kept old some = kept (let s = reportOn scheme n f d outcomes places in s .listed ∷ s .first ∷ s .low ∷ s .high ∷ s .last_good ∷ []) old report some

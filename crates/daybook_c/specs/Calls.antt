@@ -4,7 +4,7 @@ use mathlib.Core.List.{List, [], _∷_}
 use Prim.Native.Nat.{ℕ, zero, suc}
 use lib.ListN.{length}
 use Rattle.layouts.specs.Layouts.{layoutRefusal, valueCount}
-use Rattle.reading.specs.Answers.{Said}
+use Rattle.reading.specs.Answers.{Report}
 use Rattle.record_bytes.specs.Bytes.{recordBytes, recordOf}
 use Rattle.service.specs.Calls.{countOf, addRefusal, added, closeRefusal, closed}
 
@@ -25,8 +25,8 @@ unfoldable pub valuesAfterClose : List ℕ → ℕ → ℕ → ℕ
 valuesAfterClose b size old = keptIfRefused (closeRefusal (recordOf b) size) (countOf (closed (recordOf b) size .answer)) old
 
 -- listed, first listed, low, high, last good
-unfoldable pub numbersAfter : Said → List ℕ → List ℕ
-numbersAfter said old = keptIfRefused (said .refusal) (said .listed ∷ said .first ∷ said .low ∷ said .high ∷ said .good ∷ []) old
+unfoldable pub numbersAfter : Report → List ℕ → List ℕ
+numbersAfter report old = keptIfRefused (report .refusal) (report .listed ∷ report .first ∷ report .low ∷ report .high ∷ report .last_good ∷ []) old
 
 -- 01's number of values for d days
 unfoldable pub valuesAfter : ℕ → ℕ → ℕ → ℕ → ℕ → ℕ

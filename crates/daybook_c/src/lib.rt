@@ -12,7 +12,7 @@ ghost use lib.ListN.{length};
 ghost use Rattle.checking.specs.Calls as checking;
 ghost use Rattle.checking.specs.Calls.{checkRefusal, workAfter, outcomesAfter};
 ghost use Rattle.layouts.specs.Layouts.{setupRefusal, layoutRefusal};
-ghost use Rattle.reading.specs.Answers.{readRefusal, saidOf, says, listAfter};
+ghost use Rattle.reading.specs.Answers.{readRefusal, reportOf, reportOn, listAfter};
 ghost use Rattle.record_bytes.specs.Bytes.{recordBytes, recordOf};
 ghost use Rattle.sealing.specs.Calls as sealing;
 ghost use Rattle.sealing.specs.Calls.{sealRefusal, bookAfter};
@@ -65,7 +65,7 @@ fn checked_number(a: Checked) -> u32
 }
 
 fn reading_number(a: Reading) -> u32
-    ensures { λ r. ⌜ r ≡ saidOf 0 a .refusal ⌝ }
+    ensures { λ r. ⌜ r ≡ reportOf 0 a .refusal ⌝ }
 {
     match a {
         Reading::Clean => 0,
@@ -75,7 +75,7 @@ fn reading_number(a: Reading) -> u32
 }
 
 fn reading_numbers(d: u32, a: Reading) -> Numbers
-    ensures { λ r. ⌜ (r .listed ≡ saidOf d a .listed) × (r .first ≡ saidOf d a .first) × (r .low ≡ saidOf d a .low) × (r .high ≡ saidOf d a .high) × (r .good ≡ saidOf d a .good) ⌝ }
+    ensures { λ r. ⌜ (r .listed ≡ reportOf d a .listed) × (r .first ≡ reportOf d a .first) × (r .low ≡ reportOf d a .low) × (r .high ≡ reportOf d a .high) × (r .last_good ≡ reportOf d a .last_good) ⌝ }
 {
     match a {
         Reading::Clean => Numbers {
@@ -83,7 +83,7 @@ fn reading_numbers(d: u32, a: Reading) -> Numbers
             first: 0,
             low: 0,
             high: 0,
-            good: d,
+            last_good: d,
         },
         Reading::Changed(m) => m,
         Reading::Refused(_) => Numbers {
@@ -91,7 +91,7 @@ fn reading_numbers(d: u32, a: Reading) -> Numbers
             first: 0,
             low: 0,
             high: 0,
-            good: 0,
+            last_good: 0,
         },
     }
 }
@@ -192,13 +192,13 @@ pub extern "C" fn daybook_read(
 ) -> u32
     ensures { λ r. ⌜ r ≡ readRefusal scheme n f d (now (outcomes .entry)) (length (now (list .entry))) ⌝ }
     ensures { λ r. ⌜ now (list .exit) ≡ listAfter scheme n f d (now (outcomes .entry)) (now (list .entry)) ⌝ }
-    ensures { λ r. ⌜ now (numbers .exit) ≡ numbersAfter (says scheme n f d (now (outcomes .entry)) (length (now (list .entry)))) (now (numbers .entry)) ⌝ }
+    ensures { λ r. ⌜ now (numbers .exit) ≡ numbersAfter (reportOn scheme n f d (now (outcomes .entry)) (length (now (list .entry)))) (now (numbers .entry)) ⌝ }
 {
     let a = reading::read(scheme, n, f, d, outcomes, list);
     let x = reading_number(a);
     if x == 0 {
         let m = reading_numbers(d, a);
-        *numbers = [m.listed, m.first, m.low, m.high, m.good];
+        *numbers = [m.listed, m.first, m.low, m.high, m.last_good];
     }
     x
 }

@@ -7,7 +7,7 @@ use Prim.Native.Nat.{ℕ, zero, suc, _+_, _≤_, _<_}
 use native.Mathlib.Omega.{arith}
 use lib.Dec.{eqb}
 use borrow.Author.Tests.{eqb-true, eqb-false, eq-eqb, not-true}
-use Rattle.evidence.specs.Evidence.{_among_, has, same, upFrom, keep, Ascends, days, Within, meets, outcome, tableOf, Gives, cleared, listing, accepted}
+use Rattle.evidence.specs.Evidence.{_among_, has, same, upFrom, keep, Ascends, days, Within, meets, setOutcome, tableOf, Gives, cleared, listing, accepted}
 use Rattle.evidence.proofs.ListLaws.{split, true-or-false, or-split, or-left, or-right, bool-ext, has-mem, mem-has, same-eq, eq-same, upFrom-mem, upFrom-bounds, keep-mem, mem-keep, keep-congr, keep-ascends, no-mem, mem-nil, map-same}
 
 -- a chain covers a day of S exactly if there is such a day
@@ -29,7 +29,7 @@ meets-day S (x ∷ c) e = go (λ h. meets-day S c h) (or-split (has x S) (meets 
 -- two sets that every chain of the layout meets alike give one table
 pub table-congr : (S R : List ℕ) (chains : List (List ℕ)) → ((c : List ℕ) → c among chains → meets S c ≡ meets R c) → tableOf chains S ≡ tableOf chains R
 unfolding tableOf
-table-congr S R chains f = map-same (outcome S) (outcome R) chains (λ c m. rw (f c m))
+table-congr S R chains f = map-same (setOutcome S) (setOutcome R) chains (λ c m. rw (f c m))
 
 -- of a table that S gives: a day of S is not cleared
 set-not-cleared : (S : List ℕ) (g : ℕ) → g among S → (chains : List (List ℕ)) → cleared g chains (tableOf chains S) ≡ false
@@ -47,7 +47,7 @@ set-not-cleared S g s (c ∷ chains) = rw (set-not-cleared S g s chains, first (
 clears : (S : List ℕ) (g : ℕ) {c : List ℕ} {chains : List (List ℕ)} → c among chains → g among c → meets S c ≡ false → cleared g chains (tableOf chains S) ≡ true
 unfolding tableOf
 clears S g {c} (List·Memᴰ·head {x = x} {xs = xs} e) m n = rw (← e, n, mem-has m)
-clears S g {c} (List·Memᴰ·tail {x = x} {xs = xs} h) m n = or-right (eqb (outcome S x) 1 && has g x) (cleared g xs (tableOf xs S)) (clears S g h m n)
+clears S g {c} (List·Memᴰ·tail {x = x} {xs = xs} h) m n = or-right (eqb (setOutcome S x) 1 && has g x) (cleared g xs (tableOf xs S)) (clears S g h m n)
 
 module _ (chains : List (List ℕ)) (d : ℕ) where
   -- what is listed of the table that S gives

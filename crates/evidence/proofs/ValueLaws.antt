@@ -10,7 +10,7 @@ use native.Mathlib.Omega.{arith}
 use lib.ListN.{length, getD, take, drop, length-append}
 use lib.Seq.{take-at, drop-at}
 use borrow.Author.Tests.{not-true}
-use Rattle.evidence.specs.Evidence.{_among_, same, upFrom, keep, days, Within, meets, outcome, tableOf, listing, accepted, Gives, dayOf, changed, digest, linkInput, value, values, outcomes, linkInputs, inputs, NoCollision}
+use Rattle.evidence.specs.Evidence.{_among_, same, upFrom, keep, days, Within, meets, setOutcome, tableOf, listing, accepted, Gives, dayOf, changed, digest, linkInput, value, values, checkOutcomes, linkInputs, inputs, NoCollision}
 use Rattle.evidence.proofs.ListLaws.{split, true-or-false, same-eq, eq-same, no-mem, upFrom-mem, upFrom-bounds, keep-mem, mem-keep, map-same}
 use Rattle.evidence.proofs.TableLaws.{meets-of, meets-day, lists-all, lists-exactly, lists-none}
 
@@ -98,7 +98,7 @@ module _ (H : List ℕ → List ℕ) (sized : (x : List ℕ) → length (H x) �
 
   -- a check against the values over A compares chain by chain; what stands behind them is not read
   outcomes-same : (start : List ℕ) → length start ≡ 32 → (A B cs : List (List ℕ)) (rest : List ℕ) →
-      outcomes H start B cs (values H start A cs ++ rest) ≡ map (sameValue H start A B) cs
+      checkOutcomes H start B cs (values H start A cs ++ rest) ≡ map (sameValue H start A B) cs
   unfolding sameValue
   outcomes-same start started A B [] rest = refl
   outcomes-same start started A B (c ∷ cs) rest =
@@ -195,11 +195,11 @@ module _ (H : List ℕ → List ℕ) (sized : (x : List ℕ) → length (H x) �
         go (inr e) = rw e (eq-same (value H start A c) (value H start B c) (value-iff c m .1 (alike e)))
 
     -- under the premise, a check against the book of the days A writes the table that the changed days give
-    pub check-table : (rest : List ℕ) → outcomes H start B chains (values H start A chains ++ rest) ≡ tableOf chains (changed d A B)
+    pub check-table : (rest : List ℕ) → checkOutcomes H start B chains (values H start A chains ++ rest) ≡ tableOf chains (changed d A B)
     unfolding tableOf sameValue
     check-table rest =
         outcomes-same start started A B chains rest ∙
-        map-same (sameValue H start A B) (outcome (changed d A B)) chains (λ c m. rw (same-value c m) (flip (meets (changed d A B) c)))
+        map-same (sameValue H start A B) (setOutcome (changed d A B)) chains (λ c m. rw (same-value c m) (flip (meets (changed d A B) c)))
       where
         flip : (b : Bool) → _≡_ {A = ℕ} (cond (not b) 1 0) (cond b 0 1)
         flip true = refl
@@ -208,15 +208,15 @@ module _ (H : List ℕ → List ℕ) (sized : (x : List ℕ) → length (H x) �
   -- with no premise: where the days agree, each value passes
   pub check-unaltered : (start : List ℕ) → length start ≡ 32 → (chains : List (List ℕ)) (d : ℕ) → ((c : List ℕ) → c among chains → Within d c) →
       (A B : List (List ℕ)) → ((g : ℕ) → g among days d → dayOf A g ≡ dayOf B g) → (rest : List ℕ) →
-      outcomes H start B chains (values H start A chains ++ rest) ≡ tableOf chains []
+      checkOutcomes H start B chains (values H start A chains ++ rest) ≡ tableOf chains []
   unfolding tableOf sameValue
   check-unaltered start started chains d inside A B agree rest =
-      outcomes-same start started A B chains rest ∙ map-same (sameValue H start A B) (outcome []) chains each
+      outcomes-same start started A B chains rest ∙ map-same (sameValue H start A B) (setOutcome []) chains each
     where
       none : (c : List ℕ) → meets [] c ≡ false
       none [] = refl
       none (x ∷ c) = none c
 
-      each : (c : List ℕ) → c among chains → sameValue H start A B c ≡ outcome [] c
+      each : (c : List ℕ) → c among chains → sameValue H start A B c ≡ setOutcome [] c
       each c m =
           rw (none c, eq-same (value H start A c) (value H start B c) (value-same H A B c start (λ g k. let b = inside c m g k in agree g (upFrom-mem 1 d g (omega arith) (omega arith)))))

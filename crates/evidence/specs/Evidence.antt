@@ -75,9 +75,9 @@ module _ (H : List ℕ → List ℕ) where
   NoCollision xs ys = (x y : List ℕ) → x among xs → y among ys → H x ≡ H y → x ≡ y
 
   -- 01's outcomes of a check: 1 for each chain whose value stands in the book at its place, 32 bytes a value, else 0
-  abbrev pub outcomes : List ℕ → List (List ℕ) → List (List ℕ) → List ℕ → List ℕ
-  outcomes start ledger [] book = []
-  outcomes start ledger (c ∷ cs) book = cond (same (take 32 book) (value start ledger c)) 1 0 ∷ outcomes start ledger cs (drop 32 book)
+  abbrev pub checkOutcomes : List ℕ → List (List ℕ) → List (List ℕ) → List ℕ → List ℕ
+  checkOutcomes start ledger [] book = []
+  checkOutcomes start ledger (c ∷ cs) book = cond (same (take 32 book) (value start ledger c)) 1 0 ∷ checkOutcomes start ledger cs (drop 32 book)
 
 -- ---- reading
 
@@ -90,12 +90,12 @@ meets S [] = false
 meets S (g ∷ c) = has g S || meets S c
 
 -- 01's outcome: 0 (fail) exactly if the chain covers a day of S, else 1 (pass)
-abbrev pub outcome : List ℕ → List ℕ → ℕ
-outcome S c = cond (meets S c) 0 1
+abbrev pub setOutcome : List ℕ → List ℕ → ℕ
+setOutcome S c = cond (meets S c) 0 1
 
 -- 01's table, as the set S gives it: an outcome for each value, in book order
 unfoldable pub tableOf : List (List ℕ) → List ℕ → List ℕ
-tableOf chains S = map (outcome S) chains
+tableOf chains S = map (setOutcome S) chains
 
 abbrev pub Within : ℕ → List ℕ → Type 0  -- each day of S is from 1 to d
 Within d S = (g : ℕ) → g among S → (1 ≤ g) × (g ≤ d)

@@ -7,7 +7,7 @@ use Prim.Native.Nat.{ℕ}
 use Rattle.evidence.specs.Evidence.{tableOf, listing, accepted}
 use Rattle.evidence.proofs.ListLaws.{true-or-false}
 use Rattle.evidence.proofs.TableLaws.{listing-ascends, given-iff-accepted, listed-iff}
-use Rattle.layouts.specs.Layouts.{lg, named, chains}
+use Rattle.layouts.specs.Layouts.{lg, namesThrough, chains}
 use Rattle.rules.specs.Reading.{lastGood}
 use Rattle.examples.specs.Examples.{Lists, NotGiven, Examples}
 
@@ -23,7 +23,7 @@ refused : (s n d : ℕ) (table : List ℕ) → accepted (chains s n d) d table �
 refused s n d table e S h = true-or-false (given-iff-accepted (chains s n d) d table .0 (S, h)) e
 
 pub examples : Examples
-unfolding listing accepted tableOf lg named flatMap chains lastGood lib.Count.ones lib.Count.onesIn
+unfolding listing accepted tableOf lg namesThrough flatMap chains lastGood lib.Count.ones lib.Count.onesIn
 examples =
     record {
       figure = record { lists = lists 2 16 64 _ _ refl refl; low-is = refl; good-is = refl };

@@ -14,7 +14,7 @@ use lib.Pow.{pow-pos, pow-mono}
 use borrow.Author.Tests.{eqb-true, eq-eqb, leb-true, not-true, not-false}
 use Rattle.evidence.specs.Evidence.{_among_, has, upFrom}
 use Rattle.evidence.proofs.ListLaws.{split, true-or-false, and-both, bool-ext, has-mem, upFrom-mem}
-use Rattle.layouts.specs.Layouts.{bookLimit, divides, allowedScheme, allowedN, allowedF, allowedD, unless, orElse, setupRefusal, layoutRefusal, lgIn, lg, Name, black, covers, named, cover, closing, chains, position}
+use Rattle.layouts.specs.Layouts.{bookLimit, divides, allowedScheme, allowedN, allowedF, allowedD, unless, orElse, setupRefusal, layoutRefusal, lgIn, lg, Name, black, covers, namesThrough, coveredDays, chainsOfDay, chains, position}
 use Rattle.layouts.proofs.Coverage.{chains-suc}
 use Rattle.layouts.proofs.Counts.{lg-unique, ones-small, digits, digits-small, through, count-through}
 
@@ -155,7 +155,7 @@ unfolding chains
 chains-through s n g a b =
     let r = allowed-scheme-is s a in
     let p = allowed-n-is n b in
-    length-map (named s n g) (cover n) ∙ ap (λ (x : ℕ). length (named s x g)) (p .power) ∙ count-through s (lg n) g (r .0) (r .1) ∙
+    length-map (namesThrough s n g) (coveredDays n) ∙ ap (λ (x : ℕ). length (namesThrough s x g)) (p .power) ∙ count-through s (lg n) g (r .0) (r .1) ∙
     ap (λ (x : ℕ). through s x g) (sym (p .power))
 
 -- ---- the refusals, by the tests
@@ -274,17 +274,17 @@ through-3 s n g r a h k e =
     three (suc (suc (suc (suc t)))) l m u v = absurd (omega arith)
 
 -- the values of a day are the difference of two counts
-pub day-values : (s n g : ℕ) {p q : ℕ} → 1 ≤ g → p ≡ length (chains s n g) → q ≡ length (chains s n (g - 1)) → (q ≤ p) × (p - q ≡ length (closing s n g))
+pub day-values : (s n g : ℕ) {p q : ℕ} → 1 ≤ g → p ≡ length (chains s n g) → q ≡ length (chains s n (g - 1)) → (q ≤ p) × (p - q ≡ length (chainsOfDay s n g))
 day-values s n zero l e h = absurd (omega arith)
 day-values s n (suc g) {p} {q} l e h =
     let k : suc g - 1 ≡ g = omega arith in
-    let c : length (chains s n (suc g)) ≡ length (chains s n g) + length (closing s n (suc g)) = rw (chains-suc s n g, length-append) in
+    let c : length (chains s n (suc g)) ≡ length (chains s n g) + length (chainsOfDay s n (suc g)) = rw (chains-suc s n g, length-append) in
     let w : q ≡ length (chains s n g) = h ∙ ap (λ (x : ℕ). length (chains s n x)) k in
     (omega arith, omega arith)
 
-named-length : (s n g : ℕ) → length (chains s n g) ≡ length (named s n g)
+namesThrough-length : (s n g : ℕ) → length (chains s n g) ≡ length (namesThrough s n g)
 unfolding chains
-named-length s n g = length-map (named s n g) (cover n)
+namesThrough-length s n g = length-map (namesThrough s n g) (coveredDays n)
 
 one-le-div : {n g : ℕ} → 1 ≤ n → n ≤ g → 1 ≤ g / n
 one-le-div {n} {g} p h = le-of-eq-div (div-add-mod' g n) (mod-lt g p)
@@ -314,12 +314,12 @@ pub black-value : (s n g : ℕ) {p : ℕ} → allowedScheme s ≡ true → allow
     (1 ≤ p) × (p - 1 ≡ position s n (black g))
 black-value s n g {p} a e l h q =
     let k = some-value s n g a e l h in
-    let w = named-length s n g in
-    let v : p - 1 ≡ pred (length (named s n g)) = omega arith in
+    let w = namesThrough-length s n g in
+    let v : p - 1 ≡ pred (length (namesThrough s n g)) = omega arith in
     (omega arith, v)
 
-pub place : (s n g i : ℕ) {p : ℕ} → p ≡ length (chains s n (g - 1)) → p + i ≡ length (named s n (pred g)) + i
-place s n g i {p} e = let k : g - 1 ≡ pred g = omega arith in ap (λ (x : ℕ). x + i) (e ∙ ap (λ (x : ℕ). length (chains s n x)) k ∙ named-length s n (pred g))
+pub place : (s n g i : ℕ) {p : ℕ} → p ≡ length (chains s n (g - 1)) → p + i ≡ length (namesThrough s n (pred g)) + i
+place s n g i {p} e = let k : g - 1 ≡ pred g = omega arith in ap (λ (x : ℕ). x + i) (e ∙ ap (λ (x : ℕ). length (chains s n x)) k ∙ namesThrough-length s n (pred g))
 
 -- the weight of a tile chain's bit
 pub weight : (n i : ℕ) → allowedN n ≡ true → i ≤ lg n → (i < 32) × (0 < n / 2 ^ i)

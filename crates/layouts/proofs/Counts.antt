@@ -15,8 +15,8 @@ use lib.ListN.{length, length-append, length-map}
 use borrow.Author.Tests.{eqb-true, eq-eqb, ne-eqb, leb-true, leb-false}
 use Rattle.evidence.specs.Evidence.{_among_, has, upFrom, keep, days}
 use Rattle.evidence.proofs.ListLaws.{split, true-or-false, bool-ext, has-mem, mem-has, upFrom-mem, keep-mem, mem-keep}
-use Rattle.layouts.specs.Layouts.{divides, lgIn, lg, Name, black, tile, levels, storedOnce, names, named, cover, chains, valueCount}
-use Rattle.layouts.proofs.Coverage.{named-suc}
+use Rattle.layouts.specs.Layouts.{divides, lgIn, lg, Name, black, tile, levels, storedOnce, namesOfDay, namesThrough, coveredDays, chains, valueCount}
+use Rattle.layouts.proofs.Coverage.{namesThrough-suc}
 
 abbrev pub bit : Bool → ℕ
 bit b = cond b 1 0
@@ -25,8 +25,8 @@ pub length-upFrom : (i n : ℕ) → length (upFrom i n) ≡ n
 length-upFrom i zero = refl
 length-upFrom i (suc n) = ap suc (length-upFrom (suc i) n)
 
-count-suc : (s n d : ℕ) → length (named s n (suc d)) ≡ length (named s n d) + length (names s n (suc d))
-count-suc s n d = rw (named-suc, length-append)
+count-suc : (s n d : ℕ) → length (namesThrough s n (suc d)) ≡ length (namesThrough s n d) + length (namesOfDay s n (suc d))
+count-suc s n d = rw (namesThrough-suc, length-append)
 
 -- n divides the next number exactly if the quotient grows
 pub div-step : (n d : ℕ) → 0 < n → suc d / n ≡ d / n + bit (divides n (suc d))
@@ -53,8 +53,8 @@ length-cond : (b : Bool) (x : Name) → length (cond b (x ∷ []) []) ≡ bit b
 length-cond true x = refl
 length-cond false x = refl
 
-count-black : (n d : ℕ) → 0 < n → length (named 1 n d) ≡ d / n
-unfolding named flatMap
+count-black : (n d : ℕ) → 0 < n → length (namesThrough 1 n d) ≡ d / n
+unfolding namesThrough flatMap
 count-black n zero p = sym (div-eq-of-lt p)
 count-black n (suc d) p = count-suc 1 n d ∙ (let r = count-black n d p in omega (arith, div-step n d p, length-cond (divides n (suc d)) (black (suc d))))
 
@@ -64,8 +64,8 @@ length-tiles true n g =
     omega arith
 length-tiles false n g = omega arith
 
-count-tile : (n d : ℕ) → 0 < n → length (named 2 n d) ≡ d / n * (2 + lg n)
-unfolding named flatMap
+count-tile : (n d : ℕ) → 0 < n → length (namesThrough 2 n d) ≡ d / n * (2 + lg n)
+unfolding namesThrough flatMap
 count-tile n zero p = rw (div-eq-of-lt p) (omega arith)
 count-tile n (suc d) p =
     count-suc 2 n d ∙ (let r = count-tile n d p in rw (r, length-tiles (divides n (suc d)) n (suc d), div-step n d p) (omega arith))
@@ -270,7 +270,7 @@ stored-step k d = go (split (divides (2 ^ k) (suc d)))
         let s : suc d / 2 ^ k ≡ d / 2 ^ k + 0 = rw e at step in
         rw (e, s, add-zero) (omega arith)
 
-length-tree : (n g : ℕ) → length (names 3 n g) ≡ length (levels g) + bit (divides n g && not (storedOnce g))
+length-tree : (n g : ℕ) → length (namesOfDay 3 n g) ≡ length (levels g) + bit (divides n g && not (storedOnce g))
 length-tree n g = simp (length-append, length-map, length-cond)
 
 bits : (a b : Bool) → bit (a && not b) + bit (a && b) ≡ bit a
@@ -282,8 +282,8 @@ ones-zero : ones 0 ≡ 0
 unfolding ones
 ones-zero = refl
 
-count-tree-sum : (k d : ℕ) → length (named 3 (2 ^ k) d) + ones d + digits (d / 2 ^ k) ≡ 2 * d + d / 2 ^ k
-unfolding named flatMap
+count-tree-sum : (k d : ℕ) → length (namesThrough 3 (2 ^ k) d) + ones d + digits (d / 2 ^ k) ≡ 2 * d + d / 2 ^ k
+unfolding namesThrough flatMap
 count-tree-sum k zero = rw (div-eq-of-lt (pow-pos k)) (omega (arith, ones-zero))
 count-tree-sum k (suc d) =
     omega (
@@ -318,7 +318,7 @@ pub digits-small : (g : ℕ) → digits g ≤ g
 digits-small zero = omega arith
 digits-small (suc g) = let b = lg-bounds (suc g) (omega arith) in let p = below-pow (lg (suc g)) in omega arith
 
-pub count-through : (s k g : ℕ) → 1 ≤ s → s ≤ 3 → length (named s (2 ^ k) g) ≡ through s (2 ^ k) g
+pub count-through : (s k g : ℕ) → 1 ≤ s → s ≤ 3 → length (namesThrough s (2 ^ k) g) ≡ through s (2 ^ k) g
 count-through zero k g a b = absurd (omega arith)
 count-through (suc zero) k g a b = count-black (2 ^ k) g (pow-pos k)
 count-through (suc (suc zero)) k g a b = count-tile (2 ^ k) g (pow-pos k)
@@ -336,4 +336,4 @@ through-formula (suc (suc (suc (suc s)))) n d p = refl
 -- 01's number of values is the number of chains
 pub values-length : (s k d : ℕ) → 1 ≤ s → s ≤ 3 → 1 ≤ d / 2 ^ k → valueCount s (2 ^ k) d ≡ length (chains s (2 ^ k) d)
 unfolding chains
-values-length s k d a b p = sym (length-map (named s (2 ^ k) d) (cover (2 ^ k)) ∙ count-through s k d a b ∙ through-formula s (2 ^ k) d p)
+values-length s k d a b p = sym (length-map (namesThrough s (2 ^ k) d) (coveredDays (2 ^ k)) ∙ count-through s k d a b ∙ through-formula s (2 ^ k) d p)

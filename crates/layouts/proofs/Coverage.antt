@@ -12,7 +12,7 @@ use lib.Dec.{eqb, leb, ltb}
 use borrow.Author.Tests.{eqb-true, eq-eqb}
 use Rattle.evidence.specs.Evidence.{_among_, has, upFrom, keep, days, Within}
 use Rattle.evidence.proofs.ListLaws.{has-mem, upFrom-mem, upFrom-bounds, keep-mem, mem-keep}
-use Rattle.layouts.specs.Layouts.{divides, lg, Name, black, tile, tree, ending, offset, covers, cover, levels, storedOnce, blackToo, names, named, closing, chains}
+use Rattle.layouts.specs.Layouts.{divides, lg, Name, black, tile, tree, lastDays, offset, covers, coveredDays, levels, storedOnce, storesBlackOfTree, namesOfDay, namesThrough, chainsOfDay, chains}
 
 -- a divisor of a number that is not 0 is no greater
 pub divisor-le : (w g : ℕ) → 1 ≤ g → divides w g ≡ true → w ≤ g
@@ -22,8 +22,8 @@ divisor-le w g p e = go (decLe w g)
     go (yes h) = h
     go (no h) = let z = eqb-true (g % w) 0 e in let l : g % w ≡ g = mod-eq-of-lt (lt-of-not-le h) in absurd (omega arith)
 
-ending-within : (n g : ℕ) → n ≤ g → Within g (ending n g)
-ending-within n g l x m = let b = upFrom-bounds (suc (g - n)) n x m in omega arith
+lastDays-within : (n g : ℕ) → n ≤ g → Within g (lastDays n g)
+lastDays-within n g l x m = let b = upFrom-bounds (suc (g - n)) n x m in omega arith
 
 pub cond-mem : (b : Bool) (xs : List Name) {x : Name} → x among cond b xs [] → (b ≡ true) × (x among xs)
 cond-mem true xs m = (refl, m)
@@ -32,93 +32,93 @@ cond-mem false xs m = elim m [ ]
 -- ---- the names that close at g: which they are, by cases
 
 -- a name of the scheme at day g covers days 1 to g only
-pub names-within : (s n g : ℕ) → 1 ≤ g → (x : Name) → x among names s n g → Within g (cover n x)
-names-within zero n g p x m = elim m [ ]
-names-within (suc zero) n g p x m =
+pub namesOfDay-within : (s n g : ℕ) → 1 ≤ g → (x : Name) → x among namesOfDay s n g → Within g (coveredDays n x)
+namesOfDay-within zero n g p x m = elim m [ ]
+namesOfDay-within (suc zero) n g p x m =
     let r = cond-mem (divides n g) (black g ∷ []) m in
-    rw (List·Memᴰ·eq-of-singleton (r .1)) (ending-within g g (omega arith))
-names-within (suc (suc zero)) n g p x m =
+    rw (List·Memᴰ·eq-of-singleton (r .1)) (lastDays-within g g (omega arith))
+namesOfDay-within (suc (suc zero)) n g p x m =
     go (List·Memᴰ·append-cases (map (λ (i : ℕ). tile i g) (upFrom 0 (suc (lg n)))) (cond-mem (divides n g) (map (λ i. tile i g) (upFrom 0 (suc (lg n))) ++ (black g ∷ [])) m .1))
   where
     small : n ≤ g
     small = divisor-le n g p (cond-mem (divides n g) (map (λ i. tile i g) (upFrom 0 (suc (lg n))) ++ (black g ∷ [])) m .0)
 
-    part : (i : ℕ) × (i among upFrom 0 (suc (lg n))) × (tile i g ≡ x) → Within g (cover n x)
-    part r = rw (← (r .2)) (λ d k. ending-within n g small d (keep-mem (λ day. covers n (r .0) (offset n day)) (ending n g) d k .0))
+    part : (i : ℕ) × (i among upFrom 0 (suc (lg n))) × (tile i g ≡ x) → Within g (coveredDays n x)
+    part r = rw (← (r .2)) (λ d k. lastDays-within n g small d (keep-mem (λ day. covers n (r .0) (offset n day)) (lastDays n g) d k .0))
 
-    go : (x among map (λ (i : ℕ). tile i g) (upFrom 0 (suc (lg n)))) ⊎ (x among (black g ∷ [])) → Within g (cover n x)
+    go : (x among map (λ (i : ℕ). tile i g) (upFrom 0 (suc (lg n)))) ⊎ (x among (black g ∷ [])) → Within g (coveredDays n x)
     go (inl k) = part (Memᴰ·of-map (λ (i : ℕ). tile i g) (upFrom 0 (suc (lg n))) k)
-    go (inr k) = rw (List·Memᴰ·eq-of-singleton k) (ending-within g g (omega arith))
-names-within (suc (suc (suc zero))) n g p x m = go (List·Memᴰ·append-cases (map (λ (l : ℕ). tree l g) (levels g)) m)
+    go (inr k) = rw (List·Memᴰ·eq-of-singleton k) (lastDays-within g g (omega arith))
+namesOfDay-within (suc (suc (suc zero))) n g p x m = go (List·Memᴰ·append-cases (map (λ (l : ℕ). tree l g) (levels g)) m)
   where
-    part : (l : ℕ) × (l among levels g) × (tree l g ≡ x) → Within g (cover n x)
-    part r = rw (← (r .2)) (ending-within (2 ^ (r .0)) g (divisor-le (2 ^ (r .0)) g p (keep-mem (λ l. divides (2 ^ l) g) (upFrom 0 g) (r .0) (r .1) .1)))
+    part : (l : ℕ) × (l among levels g) × (tree l g ≡ x) → Within g (coveredDays n x)
+    part r = rw (← (r .2)) (lastDays-within (2 ^ (r .0)) g (divisor-le (2 ^ (r .0)) g p (keep-mem (λ l. divides (2 ^ l) g) (upFrom 0 g) (r .0) (r .1) .1)))
 
-    go : (x among map (λ (l : ℕ). tree l g) (levels g)) ⊎ (x among cond (blackToo n g) (black g ∷ []) []) → Within g (cover n x)
+    go : (x among map (λ (l : ℕ). tree l g) (levels g)) ⊎ (x among cond (storesBlackOfTree n g) (black g ∷ []) []) → Within g (coveredDays n x)
     go (inl k) = part (Memᴰ·of-map (λ (l : ℕ). tree l g) (levels g) k)
-    go (inr k) = rw (List·Memᴰ·eq-of-singleton (cond-mem (blackToo n g) (black g ∷ []) k .1)) (ending-within g g (omega arith))
-names-within (suc (suc (suc (suc s)))) n g p x m = elim m [ ]
+    go (inr k) = rw (List·Memᴰ·eq-of-singleton (cond-mem (storesBlackOfTree n g) (black g ∷ []) k .1)) (lastDays-within g g (omega arith))
+namesOfDay-within (suc (suc (suc (suc s)))) n g p x m = elim m [ ]
 
 -- a name of the layout closes at one of its days
-names-at : (s n : ℕ) (gs : List ℕ) (x : Name) → x among flatMap (names s n) gs → (g : ℕ) × (g among gs) × (x among names s n g)
+namesOfDay-at : (s n : ℕ) (gs : List ℕ) (x : Name) → x among flatMap (namesOfDay s n) gs → (g : ℕ) × (g among gs) × (x among namesOfDay s n g)
 unfolding flatMap
-names-at s n [] x m = elim m [ ]
-names-at s n (g ∷ gs) x m = go (λ k. names-at s n gs x k) (List·Memᴰ·append-cases (names s n g) m)
+namesOfDay-at s n [] x m = elim m [ ]
+namesOfDay-at s n (g ∷ gs) x m = go (λ k. namesOfDay-at s n gs x k) (List·Memᴰ·append-cases (namesOfDay s n g) m)
   where
-    later : (y : ℕ) × (y among gs) × (x among names s n y) → (y : ℕ) × (y among (g ∷ gs)) × (x among names s n y)
+    later : (y : ℕ) × (y among gs) × (x among namesOfDay s n y) → (y : ℕ) × (y among (g ∷ gs)) × (x among namesOfDay s n y)
     later r = (r .0, List·Memᴰ·tail (r .1), r .2)
 
-    go : (x among flatMap (names s n) gs → (y : ℕ) × (y among gs) × (x among names s n y)) → (x among names s n g) ⊎ (x among flatMap (names s n) gs) →
-        (y : ℕ) × (y among (g ∷ gs)) × (x among names s n y)
+    go : (x among flatMap (namesOfDay s n) gs → (y : ℕ) × (y among gs) × (x among namesOfDay s n y)) → (x among namesOfDay s n g) ⊎ (x among flatMap (namesOfDay s n) gs) →
+        (y : ℕ) × (y among (g ∷ gs)) × (x among namesOfDay s n y)
     go rec (inl k) = (g, List·Memᴰ·head refl, k)
     go rec (inr k) = later (rec k)
 
-names-in : (s n : ℕ) {g : ℕ} {gs : List ℕ} → g among gs → (x : Name) → x among names s n g → x among flatMap (names s n) gs
+namesOfDay-in : (s n : ℕ) {g : ℕ} {gs : List ℕ} → g among gs → (x : Name) → x among namesOfDay s n g → x among flatMap (namesOfDay s n) gs
 unfolding flatMap
-names-in s n (List·Memᴰ·head {x = y} {xs = xs} e) x m = Memᴰ·append-left (flatMap (names s n) xs) (rw e at m)
-names-in s n (List·Memᴰ·tail {x = y} {xs = xs} h) x m = Memᴰ·append-right (names s n y) (names-in s n h x m)
+namesOfDay-in s n (List·Memᴰ·head {x = y} {xs = xs} e) x m = Memᴰ·append-left (flatMap (namesOfDay s n) xs) (rw e at m)
+namesOfDay-in s n (List·Memᴰ·tail {x = y} {xs = xs} h) x m = Memᴰ·append-right (namesOfDay s n y) (namesOfDay-in s n h x m)
 
-pub named-at : (s n d : ℕ) (x : Name) → x among named s n d → (g : ℕ) × (g among days d) × (x among names s n g)
-unfolding named flatMap
-named-at s n d x m = names-at s n (days d) x m
+pub namesThrough-at : (s n d : ℕ) (x : Name) → x among namesThrough s n d → (g : ℕ) × (g among days d) × (x among namesOfDay s n g)
+unfolding namesThrough flatMap
+namesThrough-at s n d x m = namesOfDay-at s n (days d) x m
 
-pub named-in : (s n d : ℕ) {g : ℕ} → g among days d → (x : Name) → x among names s n g → x among named s n d
-unfolding named flatMap
-named-in s n d m x k = names-in s n m x k
+pub namesThrough-in : (s n d : ℕ) {g : ℕ} → g among days d → (x : Name) → x among namesOfDay s n g → x among namesThrough s n d
+unfolding namesThrough flatMap
+namesThrough-in s n d m x k = namesOfDay-in s n m x k
 
 -- ---- chains lie within 1 to d
 
 pub chains-within : (s n d : ℕ) (c : List ℕ) → c among chains s n d → Within d c
 unfolding chains
-chains-within s n d c m = go (Memᴰ·of-map (cover n) (named s n d) m)
+chains-within s n d c m = go (Memᴰ·of-map (coveredDays n) (namesThrough s n d) m)
   where
-    at : (x : Name) → cover n x ≡ c → (g : ℕ) × (g among days d) × (x among names s n g) → Within d c
+    at : (x : Name) → coveredDays n x ≡ c → (g : ℕ) × (g among days d) × (x among namesOfDay s n g) → Within d c
     at x e r y k =
         let b = upFrom-bounds 1 d (r .0) (r .1) in
-        let w = names-within s n (r .0) (omega arith) x (r .2) y (rw (← e) at k) in
+        let w = namesOfDay-within s n (r .0) (omega arith) x (r .2) y (rw (← e) at k) in
         omega arith
 
-    go : (x : Name) × (x among named s n d) × (cover n x ≡ c) → Within d c
-    go r = at (r .0) (r .2) (named-at s n d (r .0) (r .1))
+    go : (x : Name) × (x among namesThrough s n d) × (coveredDays n x ≡ c) → Within d c
+    go r = at (r .0) (r .2) (namesThrough-at s n d (r .0) (r .1))
 
 -- ---- black, and every day
 
 -- where n divides the day, the chain over days 1 to g closes at g
-pub black-closes : (s n g : ℕ) → 1 ≤ s → s ≤ 3 → 1 ≤ g → divides n g ≡ true → (x : Name) × (x among names s n g) × (cover n x ≡ ending g g)
+pub black-closes : (s n g : ℕ) → 1 ≤ s → s ≤ 3 → 1 ≤ g → divides n g ≡ true → (x : Name) × (x among namesOfDay s n g) × (coveredDays n x ≡ lastDays g g)
 black-closes zero n g a b p e = absurd (omega arith)
 black-closes (suc zero) n g a b p e = (black g, rw e (List·Memᴰ·head refl), refl)
 black-closes (suc (suc zero)) n g a b p e =
     (black g, rw e (Memᴰ·append-right (map (λ (i : ℕ). tile i g) (upFrom 0 (suc (lg n)))) (List·Memᴰ·head refl)), refl)
 black-closes (suc (suc (suc zero))) n g a b p e = go (storedOnce g) refl
   where
-    once : (l : ℕ) × (l among levels g) × (2 ^ l ≡ g) → (x : Name) × (x among names 3 n g) × (cover n x ≡ ending g g)
+    once : (l : ℕ) × (l among levels g) × (2 ^ l ≡ g) → (x : Name) × (x among namesOfDay 3 n g) × (coveredDays n x ≡ lastDays g g)
     once r = (
       tree (r .0) g,
-      Memᴰ·append-left (cond (blackToo n g) (black g ∷ []) []) (Memᴰ·map (λ (l : ℕ). tree l g) (r .1)),
-      ap (λ (w : ℕ). ending w g) (r .2),
+      Memᴰ·append-left (cond (storesBlackOfTree n g) (black g ∷ []) []) (Memᴰ·map (λ (l : ℕ). tree l g) (r .1)),
+      ap (λ (w : ℕ). lastDays w g) (r .2),
     )
 
-    go : (b : Bool) → storedOnce g ≡ b → (x : Name) × (x among names 3 n g) × (cover n x ≡ ending g g)
+    go : (b : Bool) → storedOnce g ≡ b → (x : Name) × (x among namesOfDay 3 n g) × (coveredDays n x ≡ lastDays g g)
     go true h = once (Memᴰ·of-map (λ (l : ℕ). 2 ^ l) (levels g) (has-mem g (map (λ l. 2 ^ l) (levels g)) h))
     go false h = (black g, Memᴰ·append-right (map (λ (l : ℕ). tree l g) (levels g)) (rw (e, h) (List·Memᴰ·head refl)), refl)
 black-closes (suc (suc (suc (suc s)))) n g a b p e = absurd (omega arith)
@@ -129,8 +129,8 @@ unfolding chains
 chains-cover s n d a b e g m =
     let k = upFrom-bounds 1 d g m in
     let r = black-closes s n d a b (omega arith) e in (
-      ending d d,
-      Memᴰ·cast (sym (r .2)) (Memᴰ·map (cover n) (named-in s n d (upFrom-mem 1 d d (omega arith) (omega arith)) (r .0) (r .1))),
+      lastDays d d,
+      Memᴰ·cast (sym (r .2)) (Memᴰ·map (coveredDays n) (namesThrough-in s n d (upFrom-mem 1 d d (omega arith) (omega arith)) (r .0) (r .1))),
       upFrom-mem (suc (d - d)) d g (omega arith) (omega arith),
     )
 
@@ -139,9 +139,9 @@ pub tree-single : (n d g : ℕ) → g among days d → (g ∷ []) among chains 3
 unfolding chains
 tree-single n d g m =
     let b = upFrom-bounds 1 d g m in
-    Memᴰ·cast (lone b) (Memᴰ·map (cover n) (named-in 3 n d m (tree 0 g) (Memᴰ·append-left (cond (blackToo n g) (black g ∷ []) []) (Memᴰ·map (λ (l : ℕ). tree l g) (none b)))))
+    Memᴰ·cast (lone b) (Memᴰ·map (coveredDays n) (namesThrough-in 3 n d m (tree 0 g) (Memᴰ·append-left (cond (storesBlackOfTree n g) (black g ∷ []) []) (Memᴰ·map (λ (l : ℕ). tree l g) (none b)))))
   where
-    lone : (1 ≤ g) × (g < 1 + d) → g ∷ [] ≡ ending 1 g
+    lone : (1 ≤ g) × (g < 1 + d) → g ∷ [] ≡ lastDays 1 g
     lone b = let q : g ≡ suc (g - 1) = omega arith in ap (λ (x : ℕ). x ∷ []) q
 
     none : (1 ≤ g) × (g < 1 + d) → 0 among levels g
@@ -155,35 +155,35 @@ upFrom-snoc i (suc k) =
     let e : suc i + k ≡ i + suc k = omega arith in
     ap (λ (r : List ℕ). i ∷ r) (upFrom-snoc (suc i) k ∙ ap (λ (x : ℕ). upFrom (suc i) k ++ (x ∷ [])) e)
 
-names-append : (s n : ℕ) (xs ys : List ℕ) → flatMap (names s n) (xs ++ ys) ≡ flatMap (names s n) xs ++ flatMap (names s n) ys
+namesOfDay-append : (s n : ℕ) (xs ys : List ℕ) → flatMap (namesOfDay s n) (xs ++ ys) ≡ flatMap (namesOfDay s n) xs ++ flatMap (namesOfDay s n) ys
 unfolding flatMap
-names-append s n [] ys = refl
-names-append s n (x ∷ xs) ys = rw (names-append s n xs ys, append-assoc)
+namesOfDay-append s n [] ys = refl
+namesOfDay-append s n (x ∷ xs) ys = rw (namesOfDay-append s n xs ys, append-assoc)
 
-pub named-suc : (s n d : ℕ) → named s n (suc d) ≡ named s n d ++ names s n (suc d)
-unfolding named flatMap
-named-suc s n d =
-    ap (flatMap (names s n)) (upFrom-snoc 1 d) ∙ names-append s n (upFrom 1 d) ((1 + d) ∷ []) ∙
+pub namesThrough-suc : (s n d : ℕ) → namesThrough s n (suc d) ≡ namesThrough s n d ++ namesOfDay s n (suc d)
+unfolding namesThrough flatMap
+namesThrough-suc s n d =
+    ap (flatMap (namesOfDay s n)) (upFrom-snoc 1 d) ∙ namesOfDay-append s n (upFrom 1 d) ((1 + d) ∷ []) ∙
     (let e : 1 + d ≡ suc d = omega arith in rw (e, append-nil))
 
 -- the names of k more days
-pub named-add : (s n d k : ℕ) → (rest : List Name) × (named s n (d + k) ≡ named s n d ++ rest)
-named-add s n d zero = ([], rw (add-zero, append-nil))
-named-add s n d (suc k) =
-    let r = named-add s n d k in (
-      r .0 ++ names s n (suc (d + k)),
-      ap (named s n) (add-suc d k) ∙ named-suc s n (d + k) ∙ ap (λ (z : List Name). z ++ names s n (suc (d + k))) (r .1) ∙
-          append-assoc (named s n d) (r .0) (names s n (suc (d + k))),
+pub namesThrough-add : (s n d k : ℕ) → (rest : List Name) × (namesThrough s n (d + k) ≡ namesThrough s n d ++ rest)
+namesThrough-add s n d zero = ([], rw (add-zero, append-nil))
+namesThrough-add s n d (suc k) =
+    let r = namesThrough-add s n d k in (
+      r .0 ++ namesOfDay s n (suc (d + k)),
+      ap (namesThrough s n) (add-suc d k) ∙ namesThrough-suc s n (d + k) ∙ ap (λ (z : List Name). z ++ namesOfDay s n (suc (d + k))) (r .1) ∙
+          append-assoc (namesThrough s n d) (r .0) (namesOfDay s n (suc (d + k))),
     )
 
-pub chains-suc : (s n d : ℕ) → chains s n (suc d) ≡ chains s n d ++ closing s n (suc d)
-unfolding chains closing
-chains-suc s n d = ap (map (cover n)) (named-suc s n d) ∙ map-append (cover n) (named s n d) (names s n (suc d))
+pub chains-suc : (s n d : ℕ) → chains s n (suc d) ≡ chains s n d ++ chainsOfDay s n (suc d)
+unfolding chains chainsOfDay
+chains-suc s n d = ap (map (coveredDays n)) (namesThrough-suc s n d) ∙ map-append (coveredDays n) (namesThrough s n d) (namesOfDay s n (suc d))
 
 pub chains-add : (s n d k : ℕ) → (rest : List (List ℕ)) × (chains s n (d + k) ≡ chains s n d ++ rest)
 unfolding chains
 chains-add s n d k =
-    let r = named-add s n d k in (map (cover n) (r .0), ap (map (cover n)) (r .1) ∙ map-append (cover n) (named s n d) (r .0))
+    let r = namesThrough-add s n d k in (map (coveredDays n) (r .0), ap (map (coveredDays n)) (r .1) ∙ map-append (coveredDays n) (namesThrough s n d) (r .0))
 
 pub chains-front : (s n d e : ℕ) → d ≤ e → (rest : List (List ℕ)) × (chains s n e ≡ chains s n d ++ rest)
 chains-front s n d e l =

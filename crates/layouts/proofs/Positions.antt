@@ -13,8 +13,8 @@ use lib.Seq.{getD-append-add}
 use borrow.Author.Tests.{eqb-true, eq-eqb}
 use Rattle.evidence.specs.Evidence.{_among_, upFrom, keep}
 use Rattle.evidence.proofs.ListLaws.{split, true-or-false, upFrom-mem, upFrom-bounds, mem-keep}
-use Rattle.layouts.specs.Layouts.{divides, lg, Name, black, tile, tree, cover, levels, blackToo, names, named, chains, position}
-use Rattle.layouts.proofs.Coverage.{divisor-le, named-suc, named-add}
+use Rattle.layouts.specs.Layouts.{divides, lg, Name, black, tile, tree, coveredDays, levels, storesBlackOfTree, namesOfDay, namesThrough, chains, position}
+use Rattle.layouts.proofs.Coverage.{divisor-le, namesThrough-suc, namesThrough-add}
 use Rattle.layouts.proofs.Counts.{length-upFrom, below-pow}
 
 -- ---- the numbers that pass a test are the first ones, where each number below one that passes does
@@ -64,24 +64,24 @@ getD-upFrom i (suc k) zero d l = omega arith
 getD-upFrom i (suc k) (suc j) d l = getD-upFrom (suc i) k j d (omega arith) ∙ (let e : suc i + j ≡ i + suc j = omega arith in e)
 
 -- the place of a name among the values of its day goes over to the book
-pub in-day : (s n g d i : ℕ) (z : Name) → g < d → i < length (names s n (suc g)) → getD (named s n d) (length (named s n g) + i) z ≡ getD (names s n (suc g)) i z
+pub in-day : (s n g d i : ℕ) (z : Name) → g < d → i < length (namesOfDay s n (suc g)) → getD (namesThrough s n d) (length (namesThrough s n g) + i) z ≡ getD (namesOfDay s n (suc g)) i z
 in-day s n g d i z l h =
-    let r = named-add s n (suc g) (d - suc g) in
+    let r = namesThrough-add s n (suc g) (d - suc g) in
     let q : d ≡ suc g + (d - suc g) = omega arith in
-    let e : named s n d ≡ named s n (suc g) ++ r .0 = ap (named s n) q ∙ r .1 in
-    let b : length (named s n g) + i < length (named s n (suc g)) = rw (named-suc s n g, length-append) (omega arith) in
-    ap (λ (x : List Name). getD x (length (named s n g) + i) z) e ∙ List·getD-append (named s n (suc g)) (r .0) z (length (named s n g) + i) b ∙
-    ap (λ (x : List Name). getD x (length (named s n g) + i) z) (named-suc s n g) ∙ getD-append-add (named s n g) (names s n (suc g)) i z
+    let e : namesThrough s n d ≡ namesThrough s n (suc g) ++ r .0 = ap (namesThrough s n) q ∙ r .1 in
+    let b : length (namesThrough s n g) + i < length (namesThrough s n (suc g)) = rw (namesThrough-suc s n g, length-append) (omega arith) in
+    ap (λ (x : List Name). getD x (length (namesThrough s n g) + i) z) e ∙ List·getD-append (namesThrough s n (suc g)) (r .0) z (length (namesThrough s n g) + i) b ∙
+    ap (λ (x : List Name). getD x (length (namesThrough s n g) + i) z) (namesThrough-suc s n g) ∙ getD-append-add (namesThrough s n g) (namesOfDay s n (suc g)) i z
 
 getD-map-in : {A : Type 0} (f : ℕ → A) (l : List ℕ) (i d : ℕ) (z : A) → i < length l → getD (map f l) i z ≡ f (getD l i d)
 getD-map-in f [] i d z h = absurd (omega arith)
 getD-map-in f (x ∷ xs) zero d z h = refl
 getD-map-in f (x ∷ xs) (suc i) d z h = getD-map-in f xs i d z (omega arith)
 
-pub to-chains : (s n d p : ℕ) (z x : Name) → cover n z ≡ [] → getD (named s n d) p z ≡ x → getD (chains s n d) p [] ≡ cover n x
+pub to-chains : (s n d p : ℕ) (z x : Name) → coveredDays n z ≡ [] → getD (namesThrough s n d) p z ≡ x → getD (chains s n d) p [] ≡ coveredDays n x
 unfolding chains
 to-chains s n d p z x e h =
-    ap (λ (r : List ℕ). getD (map (cover n) (named s n d)) p r) (sym e) ∙ List·getD-map (cover n) (named s n d) p z ∙ ap (cover n) h
+    ap (λ (r : List ℕ). getD (map (coveredDays n) (namesThrough s n d)) p r) (sym e) ∙ List·getD-map (coveredDays n) (namesThrough s n d) p z ∙ ap (coveredDays n) h
 
 -- ---- tile and tree
 
@@ -101,23 +101,23 @@ tile-place n g i z l =
     getD-map-in (λ (j : ℕ). tile j g) (upFrom 0 (suc (lg n))) i 0 z (rw (length-upFrom 0 (suc (lg n))) (omega arith)) ∙
     ap (λ (j : ℕ). tile j g) (getD-upFrom 0 (suc (lg n)) i 0 (omega arith) ∙ zero-add i)
 
-tree-place : (n g l : ℕ) (z : Name) → l < length (levels g) → getD (names 3 n g) l z ≡ tree l g
+tree-place : (n g l : ℕ) (z : Name) → l < length (levels g) → getD (namesOfDay 3 n g) l z ≡ tree l g
 tree-place n g l z h =
-    List·getD-append (map (λ (j : ℕ). tree j g) (levels g)) (cond (blackToo n g) (black g ∷ []) []) z l (rw length-map h) ∙
+    List·getD-append (map (λ (j : ℕ). tree j g) (levels g)) (cond (storesBlackOfTree n g) (black g ∷ []) []) z l (rw length-map h) ∙
     getD-map-in (λ (j : ℕ). tree j g) (levels g) l 0 z h ∙
     ap (λ (j : ℕ). tree j g) (ap (λ (r : List ℕ). getD r l 0) (levels-run g) ∙ getD-upFrom 0 (length (levels g)) l 0 h ∙ zero-add l)
 
 -- c(i) of the tile that ends at g
-pub tile-position : (n g i d : ℕ) → 1 ≤ g → g ≤ d → divides n g ≡ true → i ≤ lg n → getD (chains 2 n d) (position 2 n (tile i g)) [] ≡ cover n (tile i g)
+pub tile-position : (n g i d : ℕ) → 1 ≤ g → g ≤ d → divides n g ≡ true → i ≤ lg n → getD (chains 2 n d) (position 2 n (tile i g)) [] ≡ coveredDays n (tile i g)
 tile-position n zero i d p l e h = absurd (omega arith)
 tile-position n (suc g) i d p l e h =
-    to-chains 2 n d (length (named 2 n g) + i) (black 0) (tile i (suc g)) refl
+    to-chains 2 n d (length (namesThrough 2 n g) + i) (black 0) (tile i (suc g)) refl
     (in-day 2 n g d i (black 0) (omega arith) (rw e (rw (length-append, length-map, length-upFrom) (omega arith))) ∙ rw e (tile-place n (suc g) i (black 0) h))
 
 -- the tree's level l that ends at g
-pub tree-position : (n g l d : ℕ) → 1 ≤ g → g ≤ d → divides (2 ^ l) g ≡ true → getD (chains 3 n d) (position 3 n (tree l g)) [] ≡ cover n (tree l g)
+pub tree-position : (n g l d : ℕ) → 1 ≤ g → g ≤ d → divides (2 ^ l) g ≡ true → getD (chains 3 n d) (position 3 n (tree l g)) [] ≡ coveredDays n (tree l g)
 tree-position n zero l d p le e = absurd (omega arith)
 tree-position n (suc g) l d p le e =
     let h = level-in l (suc g) (omega arith) e in
-    to-chains 3 n d (length (named 3 n g) + l) (black 0) (tree l (suc g)) refl
+    to-chains 3 n d (length (namesThrough 3 n g) + l) (black 0) (tree l (suc g)) refl
     (in-day 3 n g d l (black 0) (omega arith) (rw (length-append, length-map) (omega arith)) ∙ tree-place n (suc g) l (black 0) h)

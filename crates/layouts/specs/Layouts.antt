@@ -45,8 +45,8 @@ pub data Name : Type 0 where
   black : ℕ → Name
   tile tree : ℕ → ℕ → Name
 
-abbrev pub ending : ℕ → ℕ → List ℕ  -- the k days that end at g
-ending k g = upFrom (suc (g - k)) k
+abbrev pub lastDays : ℕ → ℕ → List ℕ  -- the k days that end at g
+lastDays k g = upFrom (suc (g - k)) k
 
 -- 01's offset of a day in its tile
 abbrev pub offset : ℕ → ℕ → ℕ
@@ -57,10 +57,10 @@ abbrev pub covers : ℕ → ℕ → ℕ → Bool
 covers n zero o = true
 covers n (suc i) o = eqb (o / (n / 2 ^ suc i) % 2) 0
 
-abbrev pub cover : ℕ → Name → List ℕ  -- the days that a named chain covers
-cover n (black g) = ending g g
-cover n (tile i g) = keep (λ day. covers n i (offset n day)) (ending n g)
-cover n (tree l g) = ending (2 ^ l) g
+abbrev pub coveredDays : ℕ → Name → List ℕ  -- the days that a named chain covers
+coveredDays n (black g) = lastDays g g
+coveredDays n (tile i g) = keep (λ day. covers n i (offset n day)) (lastDays n g)
+coveredDays n (tree l g) = lastDays (2 ^ l) g
 
 -- the levels of 01's tree chains that end at g: l from 0 up while 2^l divides g
 abbrev pub levels : ℕ → List ℕ
@@ -70,27 +70,27 @@ levels g = keep (λ l. divides (2 ^ l) g) (upFrom 0 g)
 abbrev pub storedOnce : ℕ → Bool
 storedOnce g = has g (map (λ l. 2 ^ l) (levels g))
 
-abbrev pub blackToo : ℕ → ℕ → Bool  -- whether black is a value of its own at g under scheme 3
-blackToo n g = divides n g && not (storedOnce g)
+abbrev pub storesBlackOfTree : ℕ → ℕ → Bool  -- whether black is a value of its own at g under scheme 3
+storesBlackOfTree n g = divides n g && not (storedOnce g)
 
 -- 01's three schemes: the chains that close at day g, in order
-abbrev pub names : ℕ → ℕ → ℕ → List Name
-names zero n g = []
-names (suc zero) n g = cond (divides n g) (black g ∷ []) []
-names (suc (suc zero)) n g = cond (divides n g) (map (λ i. tile i g) (upFrom 0 (suc (lg n))) ++ (black g ∷ [])) []
-names (suc (suc (suc zero))) n g = map (λ l. tree l g) (levels g) ++ cond (blackToo n g) (black g ∷ []) []
-names (suc (suc (suc (suc s)))) n g = []
+abbrev pub namesOfDay : ℕ → ℕ → ℕ → List Name
+namesOfDay zero n g = []
+namesOfDay (suc zero) n g = cond (divides n g) (black g ∷ []) []
+namesOfDay (suc (suc zero)) n g = cond (divides n g) (map (λ i. tile i g) (upFrom 0 (suc (lg n))) ++ (black g ∷ [])) []
+namesOfDay (suc (suc (suc zero))) n g = map (λ l. tree l g) (levels g) ++ cond (storesBlackOfTree n g) (black g ∷ []) []
+namesOfDay (suc (suc (suc (suc s)))) n g = []
 
 -- 01's book order: the names of the values over d days
-unfoldable pub named : ℕ → ℕ → ℕ → List Name
-named scheme n d = flatMap (names scheme n) (days d)
+unfoldable pub namesThrough : ℕ → ℕ → ℕ → List Name
+namesThrough scheme n d = flatMap (namesOfDay scheme n) (days d)
 
 -- the days covered by each chain that closes at day g, and by each over d days
-unfoldable pub closing : ℕ → ℕ → ℕ → List (List ℕ)
-closing scheme n g = map (cover n) (names scheme n g)
+unfoldable pub chainsOfDay : ℕ → ℕ → ℕ → List (List ℕ)
+chainsOfDay scheme n g = map (coveredDays n) (namesOfDay scheme n g)
 
 unfoldable pub chains : ℕ → ℕ → ℕ → List (List ℕ)
-chains scheme n d = map (cover n) (named scheme n d)
+chains scheme n d = map (coveredDays n) (namesThrough scheme n d)
 
 -- 01's number of values for d days; the law `values-length`: the number of these chains
 abbrev pub valueCount : ℕ → ℕ → ℕ → ℕ
@@ -102,9 +102,9 @@ valueCount (suc (suc (suc (suc s)))) n d = 0
 
 -- the place of a value in the book, counted from 0: after the values of the days before, by index or level; black last
 abbrev pub position : ℕ → ℕ → Name → ℕ
-position scheme n (black g) = pred (length (named scheme n g))
-position scheme n (tile i g) = length (named scheme n (pred g)) + i
-position scheme n (tree l g) = length (named scheme n (pred g)) + l
+position scheme n (black g) = pred (length (namesThrough scheme n g))
+position scheme n (tile i g) = length (namesThrough scheme n (pred g)) + i
+position scheme n (tree l g) = length (namesThrough scheme n (pred g)) + l
 
 -- ---- refusals: the number of the first test that finds its cause, 0 where none does
 

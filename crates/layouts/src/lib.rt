@@ -4,7 +4,7 @@ ghost use mathlib.Core.Path.{_≡_};
 ghost use mathlib.Core.Bool.{true};
 ghost use Prim.Native.Nat.{_+_, _/_, _≤_, _<_, pred};
 ghost use lib.ListN.{length};
-ghost use Rattle.layouts.specs.Layouts.{allowedScheme, allowedN, allowedF, allowedD, setupRefusal, layoutRefusal, bookLimit, black, tile, tree, chains, closing, named, position};
+ghost use Rattle.layouts.specs.Layouts.{allowedScheme, allowedN, allowedF, allowedD, setupRefusal, layoutRefusal, bookLimit, black, tile, tree, chains, chainsOfDay, namesThrough, position};
 ghost use Rattle.layouts.specs.Layouts as spec;
 
 fn allowed_scheme(scheme: u32) -> bool
@@ -126,7 +126,7 @@ pub fn values_through(scheme: u32, n: u32, g: u32) -> u32
 // The values of day g.
 pub fn values_of_day(scheme: u32, n: u32, g: u32) -> u32
     requires { ⌜ (allowedScheme scheme ≡ true) × (allowedN n ≡ true) × (1 ≤ g) × (g ≤ 65536) ⌝ }
-    ensures { λ r. ⌜ r ≡ length (closing scheme n g) ⌝ }
+    ensures { λ r. ⌜ r ≡ length (chainsOfDay scheme n g) ⌝ }
 {
     values_through(scheme, n, g) - values_through(scheme, n, g - 1)
 }

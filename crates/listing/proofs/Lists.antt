@@ -12,11 +12,11 @@ use lib.Pow.{shr-shr}
 use borrow.Author.Tests.{eq-eqb, ne-eqb}
 use Rattle.evidence.specs.Evidence.{upFrom, keep, days}
 use Rattle.evidence.proofs.ListLaws.{and-both}
-use Rattle.layouts.specs.Layouts.{divides, allowedScheme, lg, black, tile, ending}
+use Rattle.layouts.specs.Layouts.{divides, allowedScheme, lg, black, tile, lastDays}
 use Rattle.layouts.proofs.AllowedLaws.{allowed-n-is, allowed-scheme-is}
 use Rattle.layouts.proofs.Coverage.{divisor-le}
 use Rattle.layouts.proofs.Counts.{length-upFrom}
-use Rattle.rules.specs.Rules.{Table, Interval, Chain, passes, levelsRule, rules, blocksRule, tileBit, local}
+use Rattle.rules.specs.Rules.{Table, Interval, Chain, passes, levelsRule, rules, blocksRule, tileBit, isListed}
 use Rattle.listing.specs.Walks.{Tile, Wrote, pick, tileDays, treeDays, topDays}
 use Rattle.rules.proofs.Runs.{keep-length, div-whole}
 use Rattle.listing.proofs.Walks.{run-none, run-all, tile-none, tile-days, tree-days, days-block}
@@ -28,31 +28,31 @@ use Rattle.listing.proofs.Writes.{wrote-none, wrote-length, wrote-join}
 pub interval-room : {s n g : ℕ} {t : List ℕ} → Interval s n g t → n ≤ g
 interval-room {s} {n} {g} h = divisor-le n g (h .has .some) (h .whole)
 
-pub black-none : (n g : ℕ) (t : List ℕ) {r : Bool} → Interval 1 n g t → r ≡ passes 1 n t (black g) → r ≡ true → keep (local 1 n t) (ending n g) ≡ []
+pub black-none : (n g : ℕ) (t : List ℕ) {r : Bool} → Interval 1 n g t → r ≡ passes 1 n t (black g) → r ≡ true → keep (isListed 1 n t) (lastDays n g) ≡ []
 black-none n g t h e f =
     let q = interval-number h in
     rw q at (run-none n (pred (g / n)) t (rw q (sym e ∙ f)))
 
-pub black-all : (n g : ℕ) (t : List ℕ) {r : Bool} → Interval 1 n g t → r ≡ passes 1 n t (black g) → r ≡ false → keep (local 1 n t) (ending n g) ≡ upFrom (g - n + 1) (g + 1 - (g - n + 1))
+pub black-all : (n g : ℕ) (t : List ℕ) {r : Bool} → Interval 1 n g t → r ≡ passes 1 n t (black g) → r ≡ false → keep (isListed 1 n t) (lastDays n g) ≡ upFrom (g - n + 1) (g + 1 - (g - n + 1))
 black-all n g t h e f =
     let q = interval-number h in
-    let a : keep (local 1 n t) (ending n g) ≡ ending n g = rw q at (run-all n (pred (g / n)) t (rw q (sym e ∙ f))) in
+    let a : keep (isListed 1 n t) (lastDays n g) ≡ lastDays n g = rw q at (run-all n (pred (g / n)) t (rw q (sym e ∙ f))) in
     let l = interval-room h in
     let b : suc (g - n) ≡ g - n + 1 = omega arith in
     let c : n ≡ g + 1 - (g - n + 1) = omega arith in
     a ∙ ap (λ (x : ℕ). upFrom x n) b ∙ ap (upFrom (g - n + 1)) c
 
-pub tile-whole : (n g : ℕ) (t : List ℕ) {r : Bool} → Interval 2 n g t → r ≡ passes 2 n t (tile 0 g) → r ≡ true → keep (local 2 n t) (ending n g) ≡ []
+pub tile-whole : (n g : ℕ) (t : List ℕ) {r : Bool} → Interval 2 n g t → r ≡ passes 2 n t (tile 0 g) → r ≡ true → keep (isListed 2 n t) (lastDays n g) ≡ []
 tile-whole n g t h e f =
     let q = interval-number h in
     rw q at (tile-none n (pred (g / n)) t (rw q (sym e ∙ f)))
 
 pub tile-failed : (n g : ℕ) (t : List ℕ) {k : ℕ} {r : Bool} → Interval 2 n g t → r ≡ passes 2 n t (tile 0 g) → r ≡ false → k ≡ lg n →
-    keep (local 2 n t) (ending n g) ≡ tileDays (tileBit n t g) k (g - n + 1)
+    keep (isListed 2 n t) (lastDays n g) ≡ tileDays (tileBit n t g) k (g - n + 1)
 tile-failed n g t h e f z =
     let q = interval-number h in
     let w = allowed-n-is n (h .has .n-ok) in
-    let a : keep (local 2 n t) (ending n g) ≡ tileDays (tileBit n t g) (lg n) (suc (g - n)) = rw q at (tile-days n (pred (g / n)) t w (rw q (sym e ∙ f))) in
+    let a : keep (isListed 2 n t) (lastDays n g) ≡ tileDays (tileBit n t g) (lg n) (suc (g - n)) = rw q at (tile-days n (pred (g / n)) t w (rw q (sym e ∙ f))) in
     let b : suc (g - n) ≡ g - n + 1 = omega arith in
     a ∙ ap (tileDays (tileBit n t g) (lg n)) b ∙ ap (λ (x : ℕ). tileDays (tileBit n t g) x (g - n + 1)) (sym z)
 
@@ -82,8 +82,8 @@ below-third s a f = go s (allowed-scheme-is s a) f
     go (suc (suc (suc zero))) b u = absurd (u refl)
     go (suc (suc (suc (suc x)))) b u = absurd (omega (arith, b .1))
 
-pub local-as : (s n : ℕ) (t xs : List ℕ) (k : ℕ) → s ≡ k → keep (local s n t) xs ≡ keep (local k n t) xs
-local-as s n t xs k e = rw e
+pub isListed-as : (s n : ℕ) (t xs : List ℕ) (k : ℕ) → s ≡ k → keep (isListed s n t) xs ≡ keep (isListed k n t) xs
+isListed-as s n t xs k e = rw e
 
 -- ---- the intervals in turn
 
@@ -107,14 +107,14 @@ next-place p n d k r l m a b u =
     let g = so-far-place p (k * n) r l m u in
     omega arith
 
-pub next-interval : (p : ℕ → Bool) (n d k b r : ℕ) (l m y : List ℕ) → k < d / n → d ≤ length l → Wrote 0 (keep p (days (k * n))) l b m → Wrote b (keep p (ending n ((k + 1) * n))) m r y →
+pub next-interval : (p : ℕ → Bool) (n d k b r : ℕ) (l m y : List ℕ) → k < d / n → d ≤ length l → Wrote 0 (keep p (days (k * n))) l b m → Wrote b (keep p (lastDays n ((k + 1) * n))) m r y →
     Wrote 0 (keep p (days ((k + 1) * n))) l r y
 next-interval p n d k b r l m y a h u v =
     let e : k + 1 ≡ suc k = omega arith in
     let c = interval-end n d (suc k) a in
     let f = few p (suc k * n) in
-    let w : Wrote b (keep p (ending n (suc k * n))) m r y = rw e at v in
-    rw e (wrote-join 0 (keep p (days (suc k * n))) (keep p (days (k * n))) (keep p (ending n (suc k * n))) l m y b r (days-block p n k) (omega arith) u w)
+    let w : Wrote b (keep p (lastDays n (suc k * n))) m r y = rw e at v in
+    rw e (wrote-join 0 (keep p (days (suc k * n))) (keep p (days (k * n))) (keep p (lastDays n (suc k * n))) l m y b r (days-block p n k) (omega arith) u w)
 
 pub all-intervals : (p : ℕ → Bool) (n d k r : ℕ) (l m : List ℕ) → divides n d ≡ true → k ≤ d / n → d / n ≤ k → Wrote 0 (keep p (days (k * n))) l r m → Wrote 0 (keep p (days d)) l r m
 all-intervals p n d k r l m w a b u =
@@ -155,12 +155,12 @@ top-end d l z =
     ap (λ (x : ℕ). x + 2 ^ l) (twice (d / 2 ^ suc l) l)
 
 module _ (n d : ℕ) (t : List ℕ) (small : d ≤ 65536) (r : levelsRule n d t ≡ true) (l : ℕ) where
-  top-step : keep (local 3 n t) (days (d / 2 ^ l * 2 ^ l)) ≡ keep (local 3 n t) (days (d / 2 ^ suc l * 2 ^ suc l)) ++ topDays n d t l
+  top-step : keep (isListed 3 n t) (days (d / 2 ^ l * 2 ^ l)) ≡ keep (isListed 3 n t) (days (d / 2 ^ suc l * 2 ^ suc l)) ++ topDays n d t l
   unfolding topDays
   top-step = go (ℕ-discrete (d / 2 ^ l % 2) 0)
     where
       p : ℕ → Bool
-      p = local 3 n t
+      p = isListed 3 n t
 
       q : ℕ
       q = d / 2 ^ suc l
@@ -173,7 +173,7 @@ module _ (n d : ℕ) (t : List ℕ) (small : d ≤ 65536) (r : levelsRule n d t 
           let c : suc (q + q) * 2 ^ l ≤ d = rw o at b in
           rw (ne-eqb (d / 2 ^ l % 2) 0 z)
           (ap (λ (x : ℕ). keep p (days (x * 2 ^ l))) o ∙ days-block p (2 ^ l) (q + q) ∙
-          ap (λ (x : ℕ). keep p (days x) ++ keep p (ending (2 ^ l) (suc (q + q) * 2 ^ l))) (twice q l) ∙
+          ap (λ (x : ℕ). keep p (days x) ++ keep p (lastDays (2 ^ l) (suc (q + q) * 2 ^ l))) (twice q l) ∙
           ap (λ (x : List ℕ). keep p (days (q * 2 ^ suc l)) ++ x) (tree-days n d t small r l (q + q) c ∙ ap (λ (x : ℕ). treeDays n t l (x * 2 ^ l)) (sym o)))
 
 -- one level
@@ -212,13 +212,13 @@ level-place p d l r k m a b u =
     rw e (omega arith, omega arith)
 
 pub next-level : (n d : ℕ) (t : List ℕ) → d ≤ 65536 → levelsRule n d t ≡ true → (l b r : ℕ) (k m y : List ℕ) → 0 < l → d ≤ length k →
-    Wrote 0 (keep (local 3 n t) (days (d / 2 ^ l * 2 ^ l))) k b m → Wrote b (topDays n d t (l - 1)) m r y → Wrote 0 (keep (local 3 n t) (days (d / 2 ^ (l - 1) * 2 ^ (l - 1)))) k r y
+    Wrote 0 (keep (isListed 3 n t) (days (d / 2 ^ l * 2 ^ l))) k b m → Wrote b (topDays n d t (l - 1)) m r y → Wrote 0 (keep (isListed 3 n t) (days (d / 2 ^ (l - 1) * 2 ^ (l - 1)))) k r y
 next-level n d t small h l b r k m y a c u v =
     let e : suc (l - 1) ≡ l = omega arith in
     let f : d / 2 ^ (l - 1) * 2 ^ (l - 1) ≤ d = div-mul-le-self d (2 ^ (l - 1)) in
-    let g = few (local 3 n t) (d / 2 ^ (l - 1) * 2 ^ (l - 1)) in
+    let g = few (isListed 3 n t) (d / 2 ^ (l - 1) * 2 ^ (l - 1)) in
     let q = top-step n d t small h (l - 1) in
-    wrote-join 0 (keep (local 3 n t) (days (d / 2 ^ (l - 1) * 2 ^ (l - 1)))) (keep (local 3 n t) (days (d / 2 ^ l * 2 ^ l))) (topDays n d t (l - 1)) k m y b r
+    wrote-join 0 (keep (isListed 3 n t) (days (d / 2 ^ (l - 1) * 2 ^ (l - 1)))) (keep (isListed 3 n t) (days (d / 2 ^ l * 2 ^ l))) (topDays n d t (l - 1)) k m y b r
     (rw e at q) (omega arith) u v
 
 pub level-length : (p : ℕ → Bool) (d l r : ℕ) (k m : List ℕ) → d ≤ length k → Wrote 0 (keep p (days (d / 2 ^ l * 2 ^ l))) k r m → length m ≡ length k

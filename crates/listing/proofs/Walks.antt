@@ -10,26 +10,26 @@ use lib.Arith.{digits-div}
 use lib.Dec.{eqb}
 use Rattle.evidence.specs.Evidence.{_among_, upFrom, keep, days}
 use Rattle.evidence.proofs.ListLaws.{split, true-or-false, upFrom-bounds, keep-congr, keep-append}
-use Rattle.layouts.specs.Layouts.{lg, black, tile, tree, ending}
+use Rattle.layouts.specs.Layouts.{lg, black, tile, tree, lastDays}
 use Rattle.layouts.proofs.AllowedLaws.{Power}
 use Rattle.layouts.proofs.Coverage.{upFrom-snoc}
-use Rattle.rules.specs.Rules.{every, passes, levelsRule, tileBit, bitRule, bitsRule, local}
+use Rattle.rules.specs.Rules.{every, passes, levelsRule, tileBit, bitRule, bitsRule, isListed}
 use Rattle.listing.specs.Walks.{pick, tileDays, treeDays}
-use Rattle.rules.proofs.Runs.{every-append, some, some-of, keep-all, keep-none, upFrom-append, ending-days}
+use Rattle.rules.proofs.Runs.{every-append, some, some-of, keep-all, keep-none, upFrom-append, lastDays-days}
 use Rattle.rules.proofs.Given.{block-split, half-point, half-split}
-use Rattle.rules.proofs.Local.{end-of, in-block, local-1, local-2, local-3, tree-3}
+use Rattle.rules.proofs.Local.{end-of, in-block, isListed-1, isListed-2, isListed-3, tree-3}
 
 -- ---- an interval under scheme 1
 
-pub run-none : (n k : ℕ) (t : List ℕ) → passes 1 n t (black (suc k * n)) ≡ true → keep (local 1 n t) (ending n (suc k * n)) ≡ []
+pub run-none : (n k : ℕ) (t : List ℕ) → passes 1 n t (black (suc k * n)) ≡ true → keep (isListed 1 n t) (lastDays n (suc k * n)) ≡ []
 run-none n k t e =
-    keep-none (local 1 n t) (ending n (suc k * n))
-    (λ day m. let b = in-block n k day m in local-1 n t day ∙ ap (λ (x : ℕ). not (passes 1 n t (black x))) (end-of n k day (b .0) (b .1)) ∙ ap not e)
+    keep-none (isListed 1 n t) (lastDays n (suc k * n))
+    (λ day m. let b = in-block n k day m in isListed-1 n t day ∙ ap (λ (x : ℕ). not (passes 1 n t (black x))) (end-of n k day (b .0) (b .1)) ∙ ap not e)
 
-pub run-all : (n k : ℕ) (t : List ℕ) → passes 1 n t (black (suc k * n)) ≡ false → keep (local 1 n t) (ending n (suc k * n)) ≡ ending n (suc k * n)
+pub run-all : (n k : ℕ) (t : List ℕ) → passes 1 n t (black (suc k * n)) ≡ false → keep (isListed 1 n t) (lastDays n (suc k * n)) ≡ lastDays n (suc k * n)
 run-all n k t e =
-    keep-all (local 1 n t) (ending n (suc k * n))
-    (λ day m. let b = in-block n k day m in local-1 n t day ∙ ap (λ (x : ℕ). not (passes 1 n t (black x))) (end-of n k day (b .0) (b .1)) ∙ ap not e)
+    keep-all (isListed 1 n t) (lastDays n (suc k * n))
+    (λ day m. let b = in-block n k day m in isListed-1 n t day ∙ ap (λ (x : ℕ). not (passes 1 n t (black x))) (end-of n k day (b .0) (b .1)) ∙ ap not e)
 
 -- ---- a tile
 
@@ -122,17 +122,17 @@ tile-keep p (suc l) q =
         keep (listedBits p (suc l)) (upFrom (suc (q * 2 ^ suc l) + 2 ^ l) (2 ^ l)) ≡ tileDays p l (suc (q * 2 ^ suc l) + 2 ^ l)
     upper rec = rw high (keep-congr (listedBits p (suc l)) (listedBits p l) (upFrom (suc (suc (q + q) * 2 ^ l)) (2 ^ l)) (λ day m. one-bit day m) ∙ rec)
 
-pub tile-none : (n k : ℕ) (t : List ℕ) → passes 2 n t (tile 0 (suc k * n)) ≡ true → keep (local 2 n t) (ending n (suc k * n)) ≡ []
+pub tile-none : (n k : ℕ) (t : List ℕ) → passes 2 n t (tile 0 (suc k * n)) ≡ true → keep (isListed 2 n t) (lastDays n (suc k * n)) ≡ []
 tile-none n k t e =
-    keep-none (local 2 n t) (ending n (suc k * n))
-    (λ day m. let b = in-block n k day m in local-2 n t (suc k * n) day (end-of n k day (b .0) (b .1)) ∙ rw e)
+    keep-none (isListed 2 n t) (lastDays n (suc k * n))
+    (λ day m. let b = in-block n k day m in isListed-2 n t (suc k * n) day (end-of n k day (b .0) (b .1)) ∙ rw e)
 
 pub tile-days : (n k : ℕ) (t : List ℕ) → Power n → passes 2 n t (tile 0 (suc k * n)) ≡ false →
-    keep (local 2 n t) (ending n (suc k * n)) ≡ tileDays (tileBit n t (suc k * n)) (lg n) (suc (suc k * n - n))
+    keep (isListed 2 n t) (lastDays n (suc k * n)) ≡ tileDays (tileBit n t (suc k * n)) (lg n) (suc (suc k * n - n))
 unfolding listedBits
 tile-days n k t w e =
-    keep-congr (local 2 n t) (listedBits p (lg n)) (ending n (suc k * n))
-    (λ day m. let b = in-block n k day m in local-2 n t (suc k * n) day (end-of n k day (b .0) (b .1)) ∙ rw e) ∙
+    keep-congr (isListed 2 n t) (listedBits p (lg n)) (lastDays n (suc k * n))
+    (λ day m. let b = in-block n k day m in isListed-2 n t (suc k * n) day (end-of n k day (b .0) (b .1)) ∙ rw e) ∙
     ap (λ (x : ℕ). keep (listedBits p (lg n)) (upFrom (suc x) n)) start ∙ ap (λ (x : ℕ). keep (listedBits p (lg n)) (upFrom (suc (k * x)) x)) (w .power) ∙
     tile-keep p (lg n) k ∙ ap (λ (x : ℕ). tileDays p (lg n) (suc (k * x))) (sym (w .power)) ∙ ap (λ (x : ℕ). tileDays p (lg n) (suc x)) (sym start)
   where
@@ -152,25 +152,25 @@ some-not p xs e g m = go (split (p g))
     go (inr h) = h
 
 module _ (n d : ℕ) (t : List ℕ) (small : d ≤ 65536) (r : levelsRule n d t ≡ true) where
-  passing : (l j : ℕ) → suc j * 2 ^ l ≤ d → passes 3 n t (tree l (suc j * 2 ^ l)) ≡ true → keep (local 3 n t) (ending (2 ^ l) (suc j * 2 ^ l)) ≡ []
+  passing : (l j : ℕ) → suc j * 2 ^ l ≤ d → passes 3 n t (tree l (suc j * 2 ^ l)) ≡ true → keep (isListed 3 n t) (lastDays (2 ^ l) (suc j * 2 ^ l)) ≡ []
   passing l j h e =
-      keep-none (local 3 n t) (ending (2 ^ l) (suc j * 2 ^ l))
-      (some-not (local 3 n t) (ending (2 ^ l) (suc j * 2 ^ l)) (flip (some (local 3 n t) (ending (2 ^ l) (suc j * 2 ^ l))) (sym (tree-3 n d t small r l j h) ∙ e)))
+      keep-none (isListed 3 n t) (lastDays (2 ^ l) (suc j * 2 ^ l))
+      (some-not (isListed 3 n t) (lastDays (2 ^ l) (suc j * 2 ^ l)) (flip (some (isListed 3 n t) (lastDays (2 ^ l) (suc j * 2 ^ l))) (sym (tree-3 n d t small r l j h) ∙ e)))
     where
       flip : (b : Bool) → not b ≡ true → b ≡ false
       flip true q = absurd (true-or-false q refl)
       flip false q = refl
 
-  pub tree-days : (l j : ℕ) → suc j * 2 ^ l ≤ d → keep (local 3 n t) (ending (2 ^ l) (suc j * 2 ^ l)) ≡ treeDays n t l (suc j * 2 ^ l)
+  pub tree-days : (l j : ℕ) → suc j * 2 ^ l ≤ d → keep (isListed 3 n t) (lastDays (2 ^ l) (suc j * 2 ^ l)) ≡ treeDays n t l (suc j * 2 ^ l)
   unfolding treeDays
   tree-days zero j h = go (passes 3 n t (tree 0 (suc j * 2 ^ 0))) refl
     where
       g : ℕ
       g = suc j * 2 ^ 0
 
-      go : (b : Bool) → passes 3 n t (tree 0 g) ≡ b → keep (local 3 n t) (ending 1 g) ≡ pick b [] (g ∷ [])
+      go : (b : Bool) → passes 3 n t (tree 0 g) ≡ b → keep (isListed 3 n t) (lastDays 1 g) ≡ pick b [] (g ∷ [])
       go true e = passing 0 j h e
-      go false e = let q : suc (g - 1) ≡ g = omega arith in ap (λ (x : ℕ). keep (local 3 n t) (x ∷ [])) q ∙ rw (local-3 n t g, e)
+      go false e = let q : suc (g - 1) ≡ g = omega arith in ap (λ (x : ℕ). keep (isListed 3 n t) (x ∷ [])) q ∙ rw (isListed-3 n t g, e)
   tree-days (suc l) j h =
       go (passes 3 n t (tree (suc l) g)) refl (tree-days l (j + j) (let e = half-point j l in omega arith))
       (tree-days l (suc (j + j)) (let e = half-point j l in let q = suc-mul (suc (j + j)) (2 ^ l) in omega arith))
@@ -185,18 +185,18 @@ module _ (n d : ℕ) (t : List ℕ) (small : d ≤ 65536) (r : levelsRule n d t 
       right = half-point j l ∙ sym (suc-mul (suc (j + j)) (2 ^ l))
 
       go : (b : Bool) → passes 3 n t (tree (suc l) g) ≡ b →
-          keep (local 3 n t) (ending (2 ^ l) (suc (j + j) * 2 ^ l)) ≡ treeDays n t l (suc (j + j) * 2 ^ l) →
-          keep (local 3 n t) (ending (2 ^ l) (suc (suc (j + j)) * 2 ^ l)) ≡ treeDays n t l (suc (suc (j + j)) * 2 ^ l) →
-          keep (local 3 n t) (ending (2 ^ suc l) g) ≡ pick b [] (treeDays n t l (g - 2 ^ l) ++ treeDays n t l g)
+          keep (isListed 3 n t) (lastDays (2 ^ l) (suc (j + j) * 2 ^ l)) ≡ treeDays n t l (suc (j + j) * 2 ^ l) →
+          keep (isListed 3 n t) (lastDays (2 ^ l) (suc (suc (j + j)) * 2 ^ l)) ≡ treeDays n t l (suc (suc (j + j)) * 2 ^ l) →
+          keep (isListed 3 n t) (lastDays (2 ^ suc l) g) ≡ pick b [] (treeDays n t l (g - 2 ^ l) ++ treeDays n t l g)
       go true e a b = passing (suc l) j h e
       go false e a b =
-          ap (keep (local 3 n t)) (half-split j l) ∙ keep-append (local 3 n t) (ending (2 ^ l) (g - 2 ^ l)) (ending (2 ^ l) g) ∙
-          ap (λ (x : List ℕ). x ++ keep (local 3 n t) (ending (2 ^ l) g)) (ap (λ (x : ℕ). keep (local 3 n t) (ending (2 ^ l) x)) left ∙ a ∙ ap (treeDays n t l) (sym left)) ∙
-          ap (λ (x : List ℕ). treeDays n t l (g - 2 ^ l) ++ x) (ap (λ (x : ℕ). keep (local 3 n t) (ending (2 ^ l) x)) right ∙ b ∙ ap (treeDays n t l) (sym right))
+          ap (keep (isListed 3 n t)) (half-split j l) ∙ keep-append (isListed 3 n t) (lastDays (2 ^ l) (g - 2 ^ l)) (lastDays (2 ^ l) g) ∙
+          ap (λ (x : List ℕ). x ++ keep (isListed 3 n t) (lastDays (2 ^ l) g)) (ap (λ (x : ℕ). keep (isListed 3 n t) (lastDays (2 ^ l) x)) left ∙ a ∙ ap (treeDays n t l) (sym left)) ∙
+          ap (λ (x : List ℕ). treeDays n t l (g - 2 ^ l) ++ x) (ap (λ (x : ℕ). keep (isListed 3 n t) (lastDays (2 ^ l) x)) right ∙ b ∙ ap (treeDays n t l) (sym right))
 
 -- ---- one interval more
 
-pub days-block : (p : ℕ → Bool) (n k : ℕ) → keep p (days (suc k * n)) ≡ keep p (days (k * n)) ++ keep p (ending n (suc k * n))
+pub days-block : (p : ℕ → Bool) (n k : ℕ) → keep p (days (suc k * n)) ≡ keep p (days (k * n)) ++ keep p (lastDays n (suc k * n))
 days-block p n k =
-    ap (keep p) (sym (ending-days (suc k * n)) ∙ block-split n k ∙ ap (λ (x : List ℕ). x ++ ending n (suc k * n)) (ending-days (k * n))) ∙
-    keep-append p (days (k * n)) (ending n (suc k * n))
+    ap (keep p) (sym (lastDays-days (suc k * n)) ∙ block-split n k ∙ ap (λ (x : List ℕ). x ++ lastDays n (suc k * n)) (lastDays-days (k * n))) ∙
+    keep-append p (days (k * n)) (lastDays n (suc k * n))

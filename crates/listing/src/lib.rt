@@ -5,9 +5,9 @@ ghost use mathlib.Core.Bool.{true};
 ghost use Prim.Native.Nat.{suc, _+_, _-_, _*_, _/_, _^_, _≤_};
 ghost use lib.ListN.{length};
 ghost use Rattle.evidence.specs.Evidence.{upFrom, keep, days};
-ghost use Rattle.layouts.specs.Layouts.{ending};
+ghost use Rattle.layouts.specs.Layouts.{lastDays};
 ghost use Rattle.rules.specs.Rules as rule;
-ghost use Rattle.rules.specs.Rules.{Table, Interval, Chain, levelsRule, tileBit, local};
+ghost use Rattle.rules.specs.Rules.{Table, Interval, Chain, levelsRule, tileBit, isListed};
 ghost use Rattle.listing.specs.Walks.{Tile, Wrote, tileDays, treeDays, topDays};
 
 // The days from first to before end.
@@ -28,7 +28,7 @@ fn run(first: u32, end: u32, list: &mut [u32], at: usize) -> usize
 // The interval that ends at g, under scheme 1: all its days, if black fails.
 fn black_days(n: u32, g: u32, t: &[u8], list: &mut [u32], at: usize) -> usize
     requires { ⌜ Interval 1 n g (now t) × (at + n ≤ length (now list)) ⌝ }
-    ensures { λ r. ⌜ Wrote at (keep (local 1 n (now (t .entry))) (ending n g)) (now (list .entry)) r (now (list .exit)) ⌝ }
+    ensures { λ r. ⌜ Wrote at (keep (isListed 1 n (now (t .entry))) (lastDays n g)) (now (list .entry)) r (now (list .exit)) ⌝ }
 {
     if rules::black_passes(1, n, g, t) {
         return at;
@@ -57,7 +57,7 @@ fn tile_walk(n: u32, g: u32, level: u32, day: u32, t: &[u8], list: &mut [u32], a
 // The interval that ends at g, under scheme 2.
 fn tile_days(n: u32, g: u32, t: &[u8], list: &mut [u32], at: usize) -> usize
     requires { ⌜ Interval 2 n g (now t) × (at + n ≤ length (now list)) ⌝ }
-    ensures { λ r. ⌜ Wrote at (keep (local 2 n (now (t .entry))) (ending n g)) (now (list .entry)) r (now (list .exit)) ⌝ }
+    ensures { λ r. ⌜ Wrote at (keep (isListed 2 n (now (t .entry))) (lastDays n g)) (now (list .entry)) r (now (list .exit)) ⌝ }
 {
     if rules::tile_passes(n, 0, g, t) {
         return at;
@@ -67,7 +67,7 @@ fn tile_days(n: u32, g: u32, t: &[u8], list: &mut [u32], at: usize) -> usize
 
 fn interval_days(scheme: u32, n: u32, g: u32, t: &[u8], list: &mut [u32], at: usize) -> usize
     requires { ⌜ Interval scheme n g (now t) × (at + n ≤ length (now list)) × (scheme ≤ 2) ⌝ }
-    ensures { λ r. ⌜ Wrote at (keep (local scheme n (now (t .entry))) (ending n g)) (now (list .entry)) r (now (list .exit)) ⌝ }
+    ensures { λ r. ⌜ Wrote at (keep (isListed scheme n (now (t .entry))) (lastDays n g)) (now (list .entry)) r (now (list .exit)) ⌝ }
 {
     if scheme == 1 {
         return black_days(n, g, t, list, at);
@@ -77,7 +77,7 @@ fn interval_days(scheme: u32, n: u32, g: u32, t: &[u8], list: &mut [u32], at: us
 
 fn interval_walk(scheme: u32, n: u32, d: u32, t: &[u8], list: &mut [u32]) -> usize
     requires { ⌜ Table scheme n d (now t) × (d ≤ length (now list)) × (scheme ≤ 2) ⌝ }
-    ensures { λ r. ⌜ Wrote 0 (keep (local scheme n (now (t .entry))) (days d)) (now (list .entry)) r (now (list .exit)) ⌝ }
+    ensures { λ r. ⌜ Wrote 0 (keep (isListed scheme n (now (t .entry))) (days d)) (now (list .entry)) r (now (list .exit)) ⌝ }
 {
     let m = d / n;
     let mut k = 0;
@@ -123,7 +123,7 @@ fn top_days(n: u32, d: u32, level: u32, t: &[u8], list: &mut [u32], at: usize) -
 // The maximal chains from left to right.
 fn tree_walk(n: u32, d: u32, t: &[u8], list: &mut [u32]) -> usize
     requires { ⌜ Table 3 n d (now t) × (d ≤ length (now list)) × (levelsRule n d (now t) ≡ true) ⌝ }
-    ensures { λ r. ⌜ Wrote 0 (keep (local 3 n (now (t .entry))) (days d)) (now (list .entry)) r (now (list .exit)) ⌝ }
+    ensures { λ r. ⌜ Wrote 0 (keep (isListed 3 n (now (t .entry))) (days d)) (now (list .entry)) r (now (list .exit)) ⌝ }
 {
     let mut level = 17;
     let mut at = 0;
@@ -137,7 +137,7 @@ fn tree_walk(n: u32, d: u32, t: &[u8], list: &mut [u32]) -> usize
 // The listed days of an accepted table.
 pub fn listed(scheme: u32, n: u32, d: u32, t: &[u8], list: &mut [u32]) -> usize
     requires { ⌜ Table scheme n d (now t) × (d ≤ length (now list)) × (rule.rules scheme n d (now t) ≡ true) ⌝ }
-    ensures { λ r. ⌜ Wrote 0 (keep (local scheme n (now (t .entry))) (days d)) (now (list .entry)) r (now (list .exit)) ⌝ }
+    ensures { λ r. ⌜ Wrote 0 (keep (isListed scheme n (now (t .entry))) (days d)) (now (list .entry)) r (now (list .exit)) ⌝ }
 {
     if scheme == 3 {
         return tree_walk(n, d, t, list);

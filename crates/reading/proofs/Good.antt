@@ -9,24 +9,24 @@ use native.Mathlib.Nat.{mul-le-mul-right, div-mul-le-self, suc-mul, div-add-mod'
 use native.Mathlib.Decide.{decLt}
 use native.Mathlib.Omega.{arith}
 use lib.Dec.{eqb}
-use Rattle.evidence.specs.Evidence.{_among_, keep, Ascends, days, meets, outcome, tableOf, Gives, listing}
+use Rattle.evidence.specs.Evidence.{_among_, keep, Ascends, days, meets, setOutcome, tableOf, Gives, listing}
 use Rattle.evidence.proofs.ListLaws.{split, keep-congr}
 use Rattle.evidence.proofs.TableLaws.{meets-of, meets-day, gives-listing, listing-within, listing-ascends}
-use Rattle.layouts.specs.Layouts.{divides, Name, ending, cover, named, chains}
+use Rattle.layouts.specs.Layouts.{divides, Name, lastDays, coveredDays, namesThrough, chains}
 use Rattle.rules.specs.Reading.{blackAt, blackPasses, lastOf, lastGood}
-use Rattle.layouts.proofs.Coverage.{named-in}
+use Rattle.layouts.proofs.Coverage.{namesThrough-in}
 use Rattle.rules.proofs.BlackLaws.{black-last, black-cover}
-use Rattle.rules.proofs.Runs.{last-keep, ending-mem, ending-bounds, days-bounds, divides-multiple, div-whole}
+use Rattle.rules.proofs.Runs.{last-keep, lastDays-mem, lastDays-bounds, days-bounds, divides-multiple, div-whole}
 
 -- n divides day g, and S has no day of 1 to g
 abbrev pub goodDay : ℕ → List ℕ → ℕ → Bool
-goodDay n S g = divides n g && not (meets S (ending g g))
+goodDay n S g = divides n g && not (meets S (lastDays g g))
 
 abbrev isBlack : ℕ → List Name → Bool
 isBlack g [] = false
 isBlack g (x ∷ xs) = blackAt g x || isBlack g xs
 
-black-by : (n g : ℕ) (S : List ℕ) (xs : List Name) → blackPasses g xs (map (outcome S) (map (cover n) xs)) ≡ isBlack g xs && not (meets S (ending g g))
+black-by : (n g : ℕ) (S : List ℕ) (xs : List Name) → blackPasses g xs (map (setOutcome S) (map (coveredDays n) xs)) ≡ isBlack g xs && not (meets S (lastDays g g))
 black-by n g S [] = refl
 black-by n g S (x ∷ xs) = rw (black-by n g S xs) (go (blackAt g x) refl)
   where
@@ -35,8 +35,8 @@ black-by n g S (x ∷ xs) = rw (black-by n g S xs) (go (blackAt g x) refl)
     flip true false = refl
     flip false r = refl
 
-    go : (b : Bool) → blackAt g x ≡ b → (b && eqb (outcome S (cover n x)) 1) || (isBlack g xs && not (meets S (ending g g))) ≡ (b || isBlack g xs) && not (meets S (ending g g))
-    go true e = rw (black-cover n g x e) (flip (meets S (ending g g)) (isBlack g xs))
+    go : (b : Bool) → blackAt g x ≡ b → (b && eqb (setOutcome S (coveredDays n x)) 1) || (isBlack g xs && not (meets S (lastDays g g))) ≡ (b || isBlack g xs) && not (meets S (lastDays g g))
+    go true e = rw (black-cover n g x e) (flip (meets S (lastDays g g)) (isBlack g xs))
     go false e = refl
 
 is-black : (g : ℕ) {x : Name} {xs : List Name} → x among xs → blackAt g x ≡ true → isBlack g xs ≡ true
@@ -47,26 +47,26 @@ is-black g (List·Memᴰ·tail {x = y} {xs = ys} m) h = rw (is-black g m h) (top
     top true = refl
     top false = refl
 
-named-black : (s n d g : ℕ) → 1 ≤ s → s ≤ 3 → g among days d → divides n g ≡ true → isBlack g (named s n d) ≡ true
-named-black s n d g a b m e =
+namesThrough-black : (s n d g : ℕ) → 1 ≤ s → s ≤ 3 → g among days d → divides n g ≡ true → isBlack g (namesThrough s n d) ≡ true
+namesThrough-black s n d g a b m e =
     let k = days-bounds d g m in
     let r = black-last s n g a b (k .0) e in
-    is-black g (named-in s n d m (r .1) (rw (r .2) (Memᴰ·append-right (r .0) (List·Memᴰ·head refl)))) (r .3)
+    is-black g (namesThrough-in s n d m (r .1) (rw (r .2) (Memᴰ·append-right (r .0) (List·Memᴰ·head refl)))) (r .3)
 
 -- last good of the table that S gives
 pub good-given : (s n d : ℕ) (S t : List ℕ) → 1 ≤ s → s ≤ 3 → Gives (chains s n d) d S t → lastGood s n d t ≡ lastOf 0 (keep (goodDay n S) (days d))
 unfolding lastGood chains tableOf
 good-given s n d S t a b h =
-    ap (lastOf 0) (keep-congr (λ g. divides n g && blackPasses g (named s n d) t) (goodDay n S) (days d) each)
+    ap (lastOf 0) (keep-congr (λ g. divides n g && blackPasses g (namesThrough s n d) t) (goodDay n S) (days d) each)
   where
-    passes-is : (g : ℕ) → blackPasses g (named s n d) t ≡ isBlack g (named s n d) && not (meets S (ending g g))
-    passes-is g = ap (blackPasses g (named s n d)) (sym (h .gives)) ∙ black-by n g S (named s n d)
+    passes-is : (g : ℕ) → blackPasses g (namesThrough s n d) t ≡ isBlack g (namesThrough s n d) && not (meets S (lastDays g g))
+    passes-is g = ap (blackPasses g (namesThrough s n d)) (sym (h .gives)) ∙ black-by n g S (namesThrough s n d)
 
-    go : (g : ℕ) → g among days d → (c : Bool) → divides n g ≡ c → c && blackPasses g (named s n d) t ≡ c && not (meets S (ending g g))
-    go g m true e = passes-is g ∙ rw (named-black s n d g a b m e)
+    go : (g : ℕ) → g among days d → (c : Bool) → divides n g ≡ c → c && blackPasses g (namesThrough s n d) t ≡ c && not (meets S (lastDays g g))
+    go g m true e = passes-is g ∙ rw (namesThrough-black s n d g a b m e)
     go g m false e = refl
 
-    each : (g : ℕ) → g among days d → divides n g && blackPasses g (named s n d) t ≡ goodDay n S g
+    each : (g : ℕ) → g among days d → divides n g && blackPasses g (namesThrough s n d) t ≡ goodDay n S g
     each g m = go g m (divides n g) refl
 
 -- ---- by the first listed day
@@ -101,17 +101,17 @@ last-first n d g gs p o l a = last-keep (goodDay n L) d z (omega (arith, below))
     next : g - 1 < z + n
     next = let w : (g - 1) / n * n + (g - 1) % n ≡ g - 1 = div-add-mod' (g - 1) n in let r : (g - 1) % n < n = mod-lt (g - 1) p in omega arith
 
-    none : meets L (ending z z) ≡ false
-    none = go (split (meets L (ending z z)))
+    none : meets L (lastDays z z) ≡ false
+    none = go (split (meets L (lastDays z z)))
       where
-        refute : (x : ℕ) × (x among ending z z) × (x among L) → ⊥
+        refute : (x : ℕ) × (x among lastDays z z) × (x among L) → ⊥
         refute r =
-            let u = ending-bounds z z (r .0) (omega arith) (r .1) in
+            let u = lastDays-bounds z z (r .0) (omega arith) (r .1) in
             let v = first-least g gs a (r .0) (r .2) in
             omega (arith, below, o, u .1)
 
-        go : (meets L (ending z z) ≡ true) ⊎ (meets L (ending z z) ≡ false) → meets L (ending z z) ≡ false
-        go (inl e) = absurd (refute (meets-day L (ending z z) e))
+        go : (meets L (lastDays z z) ≡ true) ⊎ (meets L (lastDays z z) ≡ false) → meets L (lastDays z z) ≡ false
+        go (inl e) = absurd (refute (meets-day L (lastDays z z) e))
         go (inr e) = e
 
     z-zero : Dec (0 < z) → (z ≡ 0) ⊎ (0 < z)
@@ -137,13 +137,13 @@ last-first n d g gs p o l a = last-keep (goodDay n L) d z (omega (arith, below))
             let v : x / n * n ≤ (g - 1) / n * n = mul-le-mul-right n c in
             absurd (omega arith)
 
-    hit : (x : ℕ) → g ≤ x → meets L (ending x x) ≡ true
-    hit x h = meets-of L (ending x x) g (ending-mem x x g (omega arith) (omega (arith, o)) h) (List·Memᴰ·head refl)
+    hit : (x : ℕ) → g ≤ x → meets L (lastDays x x) ≡ true
+    hit x h = meets-of L (lastDays x x) g (lastDays-mem x x g (omega arith) (omega (arith, o)) h) (List·Memᴰ·head refl)
 
     later : (x : ℕ) → z < x → x ≤ d → goodDay n L x ≡ false
     later x h k = go (divides n x) refl
       where
-        go : (c : Bool) → divides n x ≡ c → c && not (meets L (ending x x)) ≡ false
+        go : (c : Bool) → divides n x ≡ c → c && not (meets L (lastDays x x)) ≡ false
         go true e = let b = beyond x h e in rw (hit x (omega (arith, next)))
         go false e = refl
 

@@ -1,3 +1,3 @@
 pub mod Good
 pub mod Tests
-pub mod Said
+pub mod Report

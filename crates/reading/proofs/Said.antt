@@ -18,22 +18,22 @@ use Rattle.layouts.proofs.Coverage.{divisor-le}
 use Rattle.layouts.proofs.Counts.{length-upFrom}
 use Rattle.reading.specs.declared.Numbers.{Numbers}
 use Rattle.reading.specs.declared.Reading.the-variants.{Clean, Changed, Refused}
-use Rattle.reading.specs.Answers.{saidOf, tableIn, bits, readRefusal, listedIn, found, unlessRefused, says, listAfter}
-use Rattle.rules.specs.Rules.{Table, rules, local}
+use Rattle.reading.specs.Answers.{reportOf, tableIn, bits, readRefusal, listedIn, found, unlessRefused, reportOn, listAfter}
+use Rattle.rules.specs.Rules.{Table, rules, isListed}
 use Rattle.listing.specs.Walks.{Wrote}
 use Rattle.reading.specs.Changed.{numbersOf}
 use Rattle.rules.proofs.Runs.{keep-length}
-use Rattle.rules.proofs.Accepted.{accepted-rules, listing-local}
+use Rattle.rules.proofs.Accepted.{accepted-rules, listing-isListed}
 use Rattle.reading.proofs.Good.{good-first}
 use Rattle.reading.proofs.Tests.{Readable, read-is, bits-at}
 
 -- ---- a refusal
 
 module _ (s n f d : ℕ) (o l : List ℕ) where
-  pub said-refused : (r : ℕ) → r ≡ readRefusal s n f d o (length l) → (r ≡ 0 → ⊥) → saidOf d (Refused r) ≡ says s n f d o (length l)
-  unfolding saidOf says
-  said-refused zero e h = absurd (h refl)
-  said-refused (suc r) e h = rw (← e)
+  pub report-refused : (r : ℕ) → r ≡ readRefusal s n f d o (length l) → (r ≡ 0 → ⊥) → reportOf d (Refused r) ≡ reportOn s n f d o (length l)
+  unfolding reportOf reportOn
+  report-refused zero e h = absurd (h refl)
+  report-refused (suc r) e h = rw (← e)
 
   pub list-refused : (r : ℕ) → r ≡ readRefusal s n f d o (length l) → (r ≡ 0 → ⊥) → l ≡ listAfter s n f d o l
   unfolding listAfter
@@ -42,8 +42,8 @@ module _ (s n f d : ℕ) (o l : List ℕ) where
 
 -- ---- no refusal
 
-changed-is : (n f d g : ℕ) (gs : List ℕ) → saidOf d (Changed (numbersOf n f d (length (g ∷ gs)) g)) ≡ found n f d (g ∷ gs) ((g - 1) / n * n)
-unfolding saidOf found numbersOf
+changed-is : (n f d g : ℕ) (gs : List ℕ) → reportOf d (Changed (numbersOf n f d (length (g ∷ gs)) g)) ≡ found n f d (g ∷ gs) ((g - 1) / n * n)
+unfolding reportOf found numbersOf
 changed-is n f d g gs = refl
 
 -- the outcomes read are the table
@@ -67,26 +67,26 @@ module _ (s n f d : ℕ) (o l : List ℕ) {r : ℕ} (e : r ≡ readRefusal s n f
       (R .table, R .room, sym (accepted-rules s n d (tableIn s n d o) (R .table) (bits-at (tableIn s n d o) (R .bits-ok))) ∙ R .accepted-ok)
 
   -- the days written are the listing
-  listing-is : listedIn s n d o ≡ keep (local s n (tableIn s n d o)) (days d)
+  listing-is : listedIn s n d o ≡ keep (isListed s n (tableIn s n d o)) (days d)
   unfolding listedIn
   listing-is =
       let R = readable in
-      listing-local s n d (tableIn s n d o) (R .table) (bits-at (tableIn s n d o) (R .bits-ok)) (sym (accepted-rules s n d (tableIn s n d o) (R .table) (bits-at (tableIn s n d o) (R .bits-ok))) ∙ R .accepted-ok)
+      listing-isListed s n d (tableIn s n d o) (R .table) (bits-at (tableIn s n d o) (R .bits-ok)) (sym (accepted-rules s n d (tableIn s n d o) (R .table) (bits-at (tableIn s n d o) (R .bits-ok))) ∙ R .accepted-ok)
 
-  wrote-listing : (x v k : ℕ) (m : List ℕ) → v ≡ length (chains s n d) → x ≡ v → Wrote 0 (keep (local s n (take x o)) (days d)) l k m → Wrote 0 (listedIn s n d o) l k m
+  wrote-listing : (x v k : ℕ) (m : List ℕ) → v ≡ length (chains s n d) → x ≡ v → Wrote 0 (keep (isListed s n (take x o)) (days d)) l k m → Wrote 0 (listedIn s n d o) l k m
   wrote-listing x v k m h q w = rw listing-is (rw (values-part s n d x v o h q) at w)
 
-  pub list-read : (x v k : ℕ) (m : List ℕ) → v ≡ length (chains s n d) → x ≡ v → Wrote 0 (keep (local s n (take x o)) (days d)) l k m → m ≡ listAfter s n f d o l
+  pub list-read : (x v k : ℕ) (m : List ℕ) → v ≡ length (chains s n d) → x ≡ v → Wrote 0 (keep (isListed s n (take x o)) (days d)) l k m → m ≡ listAfter s n f d o l
   unfolding listAfter
   list-read x v k m h q w =
       let u = wrote-listing x v k m h q w in
       let c : k ≡ length (listedIn s n d o) = omega (arith, u .count) in
       rw (← e, z) (u .list ∙ ap (λ (i : ℕ). listedIn s n d o ++ drop i l) c)
 
-  pub few-listed : (x v k : ℕ) (m : List ℕ) → v ≡ length (chains s n d) → x ≡ v → Wrote 0 (keep (local s n (take x o)) (days d)) l k m → k ≤ 65536
+  pub few-listed : (x v k : ℕ) (m : List ℕ) → v ≡ length (chains s n d) → x ≡ v → Wrote 0 (keep (isListed s n (take x o)) (days d)) l k m → k ≤ 65536
   few-listed x v k m h q w =
       let R = readable in
-      let a = keep-length (local s n (take x o)) (days d) in
+      let a = keep-length (isListed s n (take x o)) (days d) in
       let b = length-upFrom 1 d in
       omega (arith, w .count, R .table .most)
 
@@ -94,9 +94,9 @@ module _ (s n f d : ℕ) (o l : List ℕ) {r : ℕ} (e : r ≡ readRefusal s n f
   empty [] k m w y = refl
   empty (g ∷ gs) k m w y = absurd (omega (arith, w .count))
 
-  pub said-clean : (x v k : ℕ) (m : List ℕ) → v ≡ length (chains s n d) → x ≡ v → Wrote 0 (keep (local s n (take x o)) (days d)) l k m → k ≡ 0 → saidOf d Clean ≡ says s n f d o (length l)
-  unfolding saidOf says found
-  said-clean x v k m h q w y = rw (← e, z, empty (listedIn s n d o) k m (wrote-listing x v k m h q w) y)
+  pub report-clean : (x v k : ℕ) (m : List ℕ) → v ≡ length (chains s n d) → x ≡ v → Wrote 0 (keep (isListed s n (take x o)) (days d)) l k m → k ≡ 0 → reportOf d Clean ≡ reportOn s n f d o (length l)
+  unfolding reportOf reportOn found
+  report-clean x v k m h q w y = rw (← e, z, empty (listedIn s n d o) k m (wrote-listing x v k m h q w) y)
 
   -- ---- a changed table: its first day, and its numbers
 
@@ -104,16 +104,16 @@ module _ (s n f d : ℕ) (o l : List ℕ) {r : ℕ} (e : r ≡ readRefusal s n f
   first-is [] k m w y = absurd (y (w .count))
   first-is (g ∷ gs) k m w y = (gs, ap (λ (i : ℕ). i ∷ gs) (sym (ap (λ (q : List ℕ). getD q 0 0) (w .list))))
 
-  pub first-place : (x v k : ℕ) (m : List ℕ) → v ≡ length (chains s n d) → x ≡ v → Wrote 0 (keep (local s n (take x o)) (days d)) l k m → length m ≡ length l → 0 < length m
+  pub first-place : (x v k : ℕ) (m : List ℕ) → v ≡ length (chains s n d) → x ≡ v → Wrote 0 (keep (isListed s n (take x o)) (days d)) l k m → length m ≡ length l → 0 < length m
   first-place x v k m h q w y = let R = readable in omega (arith, R .table .some, R .room)
 
-  first-bounds : (x v k : ℕ) (m : List ℕ) → v ≡ length (chains s n d) → x ≡ v → Wrote 0 (keep (local s n (take x o)) (days d)) l k m → (k ≡ 0 → ⊥) → (1 ≤ getD m 0 0) × (getD m 0 0 ≤ d)
+  first-bounds : (x v k : ℕ) (m : List ℕ) → v ≡ length (chains s n d) → x ≡ v → Wrote 0 (keep (isListed s n (take x o)) (days d)) l k m → (k ≡ 0 → ⊥) → (1 ≤ getD m 0 0) × (getD m 0 0 ≤ d)
   unfolding listedIn
   first-bounds x v k m h q w y =
       let u = first-is (listedIn s n d o) k m (wrote-listing x v k m h q w) y in
       listing-within (chains s n d) d (tableIn s n d o) (getD m 0 0) (rw (u .1) (List·Memᴰ·head refl))
 
-  pub numbers-need : (x v k : ℕ) (m : List ℕ) → v ≡ length (chains s n d) → x ≡ v → Wrote 0 (keep (local s n (take x o)) (days d)) l k m → (k ≡ 0 → ⊥) →
+  pub numbers-need : (x v k : ℕ) (m : List ℕ) → v ≡ length (chains s n d) → x ≡ v → Wrote 0 (keep (isListed s n (take x o)) (days d)) l k m → (k ≡ 0 → ⊥) →
       (1 ≤ n) × (f * n ≤ d) × (1 ≤ getD m 0 0)
   numbers-need x v k m h q w y =
       let R = readable in
@@ -122,10 +122,10 @@ module _ (s n f d : ℕ) (o l : List ℕ) {r : ℕ} (e : r ≡ readRefusal s n f
       let b = allowed-d-is n f d (u .1) in
       (a .some, divisor-le (f * n) d (b .some) (b .whole), first-bounds x v k m h q w y .0)
 
-  pub said-changed : (x v k : ℕ) (m : List ℕ) {c : ℕ} {a : Numbers} → v ≡ length (chains s n d) → x ≡ v → Wrote 0 (keep (local s n (take x o)) (days d)) l k m → (k ≡ 0 → ⊥) →
-      c ≡ k → a ≡ numbersOf n f d c (getD m 0 0) → saidOf d (Changed a) ≡ says s n f d o (length l)
-  unfolding says listedIn
-  said-changed x v k m h q w y i j =
+  pub report-changed : (x v k : ℕ) (m : List ℕ) {c : ℕ} {a : Numbers} → v ≡ length (chains s n d) → x ≡ v → Wrote 0 (keep (isListed s n (take x o)) (days d)) l k m → (k ≡ 0 → ⊥) →
+      c ≡ k → a ≡ numbersOf n f d c (getD m 0 0) → reportOf d (Changed a) ≡ reportOn s n f d o (length l)
+  unfolding reportOn listedIn
+  report-changed x v k m h q w y i j =
       let R = readable in
       let W = wrote-listing x v k m h q w in
       let u = first-is (listedIn s n d o) k m W y in
@@ -135,14 +135,14 @@ module _ (s n f d : ℕ) (o l : List ℕ) {r : ℕ} (e : r ≡ readRefusal s n f
       good-first s n d (listing (chains s n d) d (tableIn s n d o)) (tableIn s n d o) (getD m 0 0) (u .0) (b .0) (b .1) (p .some)
       (accepted-gives (chains s n d) d (tableIn s n d o) (R .accepted-ok)) (u .1) in
       let N : k ≡ length (getD m 0 0 ∷ u .0) = sum (W .count) ∙ ap length (u .1) in
-      ap (λ (y : Numbers). saidOf d (Changed y)) (j ∙ ap (λ (y : ℕ). numbersOf n f d y (getD m 0 0)) (i ∙ N)) ∙ changed-is n f d (getD m 0 0) (u .0) ∙
+      ap (λ (y : Numbers). reportOf d (Changed y)) (j ∙ ap (λ (y : ℕ). numbersOf n f d y (getD m 0 0)) (i ∙ N)) ∙ changed-is n f d (getD m 0 0) (u .0) ∙
       sym (ap (λ (y : ℕ). unlessRefused y (found n f d (listedIn s n d o) (lastGood s n d (tableIn s n d o)))) (sym e ∙ z) ∙
       ap (λ (y : List ℕ). found n f d y (lastGood s n d (tableIn s n d o))) (u .1) ∙ ap (found n f d (getD m 0 0 ∷ u .0)) g)
     where
       sum : {i j : ℕ} → i ≡ 0 + j → i ≡ j
       sum y = omega arith
 
-pub changed-by : (n f d c g : ℕ) {w : ℕ} {a : Numbers} → w ≡ lowOf n f d g → a ≡ record { listed = c; first = g; low = w; high = d; good = (g - 1) / n * n } → a ≡ numbersOf n f d c g
+pub changed-by : (n f d c g : ℕ) {w : ℕ} {a : Numbers} → w ≡ lowOf n f d g → a ≡ record { listed = c; first = g; low = w; high = d; last_good = (g - 1) / n * n } → a ≡ numbersOf n f d c g
 unfolding numbersOf
 changed-by n f d c g e h = h ∙ rw e
 
@@ -152,10 +152,10 @@ good-fits n g l = let b = div-mul-le-self (g - 1) n in omega arith
 -- ---- for a theorem above: reading a table that a set of days gives
 
 -- a call that is not refused says what it found, and leaves the listed days before what stood behind them
-pub says-found : (s n f d : ℕ) (o : List ℕ) (places : ℕ) → readRefusal s n f d o places ≡ 0 →
-    says s n f d o places ≡ found n f d (listedIn s n d o) (lastGood s n d (tableIn s n d o))
-unfolding says
-says-found s n f d o places e = rw e
+pub reportOn-found : (s n f d : ℕ) (o : List ℕ) (places : ℕ) → readRefusal s n f d o places ≡ 0 →
+    reportOn s n f d o places ≡ found n f d (listedIn s n d o) (lastGood s n d (tableIn s n d o))
+unfolding reportOn
+reportOn-found s n f d o places e = rw e
 
 pub list-found : (s n f d : ℕ) (o l : List ℕ) → readRefusal s n f d o (length l) ≡ 0 → listAfter s n f d o l ≡ listedIn s n d o ++ drop (length (listedIn s n d o)) l
 unfolding listAfter

@@ -12,19 +12,19 @@ use Rattle.reading.specs.declared.Reading.the-variants.{Clean, Changed, 
 
 -- 01's number and values for each case of the answer, with d: the refusal (0 for none), whether the result is clean, and the
 -- five numbers
-pub record Said : Type 0 where
+pub record Report : Type 0 where
   pub refusal : ℕ
   pub clean : Bool
   pub listed : ℕ
   pub first : ℕ
   pub low : ℕ
   pub high : ℕ
-  pub good : ℕ
+  pub last_good : ℕ
 
-unfoldable pub saidOf : ℕ → Reading → Said
-saidOf d Clean = record { refusal = 0; clean = true; listed = 0; first = 0; low = 0; high = 0; good = d }
-saidOf d (Changed m) = record { refusal = 0; clean = false; listed = m .listed; first = m .first; low = m .low; high = m .high; good = m .good }
-saidOf d (Refused number) = record { refusal = number; clean = false; listed = 0; first = 0; low = 0; high = 0; good = 0 }
+unfoldable pub reportOf : ℕ → Reading → Report
+reportOf d Clean = record { refusal = 0; clean = true; listed = 0; first = 0; low = 0; high = 0; last_good = d }
+reportOf d (Changed m) = record { refusal = 0; clean = false; listed = m .listed; first = m .first; low = m .low; high = m .high; last_good = m .last_good }
+reportOf d (Refused number) = record { refusal = number; clean = false; listed = 0; first = 0; low = 0; high = 0; last_good = 0 }
 
 -- the table: the outcomes needed, one for each value; those past them are not read
 abbrev pub tableIn : ℕ → ℕ → ℕ → List ℕ → List ℕ
@@ -48,17 +48,17 @@ unfoldable pub listedIn : ℕ → ℕ → ℕ → List ℕ → List ℕ
 listedIn scheme n d outcomes = listing (chains scheme n d) d (tableIn scheme n d outcomes)
 
 -- clean if no day is listed; else changed, with the numbers
-unfoldable pub found : ℕ → ℕ → ℕ → List ℕ → ℕ → Said
-found n f d [] good = record { refusal = 0; clean = true; listed = 0; first = 0; low = 0; high = 0; good = d }
-found n f d (g ∷ gs) good = record { refusal = 0; clean = false; listed = length (g ∷ gs); first = g; low = lowOf n f d g; high = d; good = good }
+unfoldable pub found : ℕ → ℕ → ℕ → List ℕ → ℕ → Report
+found n f d [] last_good = record { refusal = 0; clean = true; listed = 0; first = 0; low = 0; high = 0; last_good = d }
+found n f d (g ∷ gs) last_good = record { refusal = 0; clean = false; listed = length (g ∷ gs); first = g; low = lowOf n f d g; high = d; last_good = last_good }
 
-abbrev pub unlessRefused : ℕ → Said → Said
-unlessRefused zero said = said
-unlessRefused (suc x) said = record { refusal = suc x; clean = false; listed = 0; first = 0; low = 0; high = 0; good = 0 }
+abbrev pub unlessRefused : ℕ → Report → Report
+unlessRefused zero report = report
+unlessRefused (suc x) report = record { refusal = suc x; clean = false; listed = 0; first = 0; low = 0; high = 0; last_good = 0 }
 
 -- what reading says: the refusal, or what it found
-unfoldable pub says : ℕ → ℕ → ℕ → ℕ → List ℕ → ℕ → Said
-says scheme n f d outcomes places =
+unfoldable pub reportOn : ℕ → ℕ → ℕ → ℕ → List ℕ → ℕ → Report
+reportOn scheme n f d outcomes places =
     unlessRefused (readRefusal scheme n f d outcomes places) (found n f d (listedIn scheme n d outcomes) (lastGood scheme n d (tableIn scheme n d outcomes)))
 
 abbrev pub front : ℕ → List ℕ → List ℕ → List ℕ

@@ -16,4 +16,4 @@ least (o ∷ os) = min o (least os)
 
 -- by how many days are listed and the first of them
 unfoldable pub numbersOf : ℕ → ℕ → ℕ → ℕ → ℕ → Numbers
-numbersOf n f d count day = record { listed = count; first = day; low = lowOf n f d day; high = d; good = (day - 1) / n * n }
+numbersOf n f d count day = record { listed = count; first = day; low = lowOf n f d day; high = d; last_good = (day - 1) / n * n }

@@ -7,7 +7,7 @@ ghost use Rattle.layouts.specs.Layouts.{orElse, unless, chains};
 ghost use Rattle.rules.specs.Reading.{lowOf};
 ghost use Rattle.rules.specs.Rules.{Table};
 ghost use Rattle.reading.specs.Answers as answer;
-ghost use Rattle.reading.specs.Answers.{saidOf, readRefusal, says, listAfter};
+ghost use Rattle.reading.specs.Answers.{reportOf, readRefusal, reportOn, listAfter};
 ghost use Rattle.reading.specs.Changed as changed;
 ghost use Rattle.reading.specs.Changed.{numbersOf};
 
@@ -17,7 +17,7 @@ pub struct Numbers {
     pub first: u32,
     pub low: u32,
     pub high: u32,
-    pub good: u32,
+    pub last_good: u32,
 }
 
 pub enum Reading {
@@ -89,7 +89,7 @@ fn table_refusal(scheme: u32, n: u32, d: u32, t: &[u8]) -> u32
     if least(t) == 1 {
         return 0;
     }
-    if !rules::hold(scheme, n, d, t) {
+    if !rules::accepts(scheme, n, d, t) {
         return 14;
     }
     0
@@ -138,13 +138,13 @@ fn changed(n: u32, f: u32, d: u32, count: u32, first: u32) -> Numbers
     ensures { λ r. ⌜ r ≡ numbersOf n f d count first ⌝ }
 {
     let below = low(n, f, d, first);
-    let good = (first - 1) / n * n;
+    let last_good = (first - 1) / n * n;
     Numbers {
         listed: count,
         first: first,
         low: below,
         high: d,
-        good: good,
+        last_good: last_good,
     }
 }
 
@@ -158,7 +158,7 @@ fn narrow(x: usize) -> u32
 // Reads the outcomes needed, in book order: writes the listed days to the front of the list and gives the numbers, or
 // refuses and writes nothing.
 pub fn read(scheme: u32, n: u32, f: u32, d: u32, outcomes: &[u8], list: &mut [u32]) -> Reading
-    ensures { λ r. ⌜ saidOf d r ≡ says scheme n f d (now (outcomes .entry)) (length (now (list .entry))) ⌝ }
+    ensures { λ r. ⌜ reportOf d r ≡ reportOn scheme n f d (now (outcomes .entry)) (length (now (list .entry))) ⌝ }
     ensures { λ r. ⌜ now (list .exit) ≡ listAfter scheme n f d (now (outcomes .entry)) (now (list .entry)) ⌝ }
 {
     let r = refusal(scheme, n, f, d, outcomes, list.len());

@@ -61,7 +61,7 @@ fn print_reference(scheme: u32, m: Numbers) {
     print_field(m.first);
     print_field(m.low);
     print_field(m.high);
-    print_field(m.good);
+    print_field(m.last_good);
     io::write_all(1, b"\n");
 }
 
@@ -92,7 +92,7 @@ fn print_answer(scheme: u32, d: u32, answer: Reading, list: &[u32]) {
                 first: 0,
                 low: 0,
                 high: 0,
-                good: d,
+                last_good: d,
             },
         ),
         Reading::Changed(m) => {

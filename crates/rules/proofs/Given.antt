@@ -11,11 +11,11 @@ use borrow.Author.Tests.{eqb-true, le-leb, lt-leb}
 use Rattle.evidence.specs.Evidence.{_among_, upFrom, keep, meets, Gives}
 use Rattle.evidence.proofs.ListLaws.{and-of, upFrom-bounds, keep-mem}
 use Rattle.evidence.proofs.TableLaws.{meets-of, meets-day}
-use Rattle.layouts.specs.Layouts.{divides, lg, black, tile, tree, ending, offset, covers, cover, chains}
+use Rattle.layouts.specs.Layouts.{divides, lg, black, tile, tree, lastDays, offset, covers, coveredDays, chains}
 use Rattle.layouts.proofs.AllowedLaws.{Power}
 use Rattle.layouts.proofs.Positions.{divides-half}
 use Rattle.rules.specs.Rules.{every, alike, passes, prior, tileRule, blockRule, blockAt, halvesRule, halvesAt, levelRule, levelsRule, blocksRule, rules}
-use Rattle.rules.proofs.Runs.{every-of, meets-append, keep-all, ending-split, divides-multiple}
+use Rattle.rules.proofs.Runs.{every-of, meets-append, keep-all, lastDays-split, divides-multiple}
 use Rattle.rules.proofs.Lookup.{Block, gives-passes, gives-black, tile-named, tree-named}
 
 -- ---- intervals: the k-th ends at k * n
@@ -29,12 +29,12 @@ block-of n d k p m =
     record { some = q; most = le-trans u (div-mul-le-self d n); whole = divides-multiple k n p }
 
 -- the days through an interval: those through the one before, and its own
-pub block-split : (n k : ℕ) → ending (suc k * n) (suc k * n) ≡ ending (k * n) (k * n) ++ ending n (suc k * n)
+pub block-split : (n k : ℕ) → lastDays (suc k * n) (suc k * n) ≡ lastDays (k * n) (k * n) ++ lastDays n (suc k * n)
 block-split n k =
     let e : k * n + n ≡ suc k * n = sym (suc-mul k n) in
     let f : suc k * n - n ≡ k * n = omega arith in
-    ap (λ (x : ℕ). ending x (suc k * n)) (sym e) ∙ ending-split (k * n) n (suc k * n) (omega arith) ∙
-    ap (λ (x : ℕ). ending (k * n) x ++ ending n (suc k * n)) f
+    ap (λ (x : ℕ). lastDays x (suc k * n)) (sym e) ∙ lastDays-split (k * n) n (suc k * n) (omega arith) ∙
+    ap (λ (x : ℕ). lastDays (k * n) x ++ lastDays n (suc k * n)) f
 
 -- the halves of a tree's chain
 pub half-point : (j l : ℕ) → suc j * 2 ^ suc l ≡ suc (j + j) * 2 ^ l + 2 ^ l
@@ -42,12 +42,12 @@ half-point j l =
     let a : suc j * 2 ≡ suc (suc (j + j)) = omega arith in
     ap (λ (x : ℕ). suc j * x) (pow-succ' 2 l) ∙ sym (mul-assoc (suc j) 2 (2 ^ l)) ∙ ap (λ (x : ℕ). x * 2 ^ l) a ∙ suc-mul (suc (j + j)) (2 ^ l)
 
-pub half-split : (j l : ℕ) → ending (2 ^ suc l) (suc j * 2 ^ suc l) ≡ ending (2 ^ l) (suc j * 2 ^ suc l - 2 ^ l) ++ ending (2 ^ l) (suc j * 2 ^ suc l)
+pub half-split : (j l : ℕ) → lastDays (2 ^ suc l) (suc j * 2 ^ suc l) ≡ lastDays (2 ^ l) (suc j * 2 ^ suc l - 2 ^ l) ++ lastDays (2 ^ l) (suc j * 2 ^ suc l)
 half-split j l =
     let e : 2 ^ suc l ≡ 2 ^ l + 2 ^ l = pow-succ' 2 l ∙ (let q : 2 * 2 ^ l ≡ 2 ^ l + 2 ^ l = omega arith in q) in
     let h = half-point j l in
     let s : suc (j + j) * 2 ^ l ≡ (j + j) * 2 ^ l + 2 ^ l = suc-mul (j + j) (2 ^ l) in
-    ap (λ (x : ℕ). ending x (suc j * 2 ^ suc l)) e ∙ ending-split (2 ^ l) (2 ^ l) (suc j * 2 ^ suc l) (omega arith)
+    ap (λ (x : ℕ). lastDays x (suc j * 2 ^ suc l)) e ∙ lastDays-split (2 ^ l) (2 ^ l) (suc j * 2 ^ suc l) (omega arith)
 
 pub prior-first : (s n : ℕ) (t : List ℕ) → prior s n t (1 * n) ≡ true
 unfolding prior
@@ -84,17 +84,17 @@ inside false true f = refl
 inside false false f = refl
 
 before : ℕ → List ℕ → ℕ → Bool
-before n S k = meets S (ending (k * n) (k * n))
+before n S k = meets S (lastDays (k * n) (k * n))
 
 own : ℕ → List ℕ → ℕ → Bool
-own n S k = meets S (ending n (suc k * n))
+own n S k = meets S (lastDays n (suc k * n))
 
 module _ (s n d : ℕ) (S t : List ℕ) (h : Gives (chains s n d) d S t) (a : 1 ≤ s) (b : s ≤ 3) (p : 1 ≤ n) where
   black-is : (k : ℕ) → Block n d (suc k * n) → passes s n t (black (suc k * n)) ≡ not (before n S k || own n S k)
   unfolding before own
   black-is k q =
       gives-black s n d S t h a b (suc k * n) (q .some) (q .most) (q .whole) ∙
-      ap not (ap (meets S) (block-split n k) ∙ meets-append S (ending (k * n) (k * n)) (ending n (suc k * n)))
+      ap not (ap (meets S) (block-split n k) ∙ meets-append S (lastDays (k * n) (k * n)) (lastDays n (suc k * n)))
 
   prior-is : (k : ℕ) → Block n d (suc k * n) → prior s n t (suc k * n) ≡ not (before n S k)
   unfolding before
@@ -122,15 +122,15 @@ block-2 n d S t h p k q =
     zeroth : passes 2 n t (tile 0 g) ≡ not (own n S k)
     zeroth =
         gives-passes 2 n d S t h (tile 0 g) (tile-named n d g 0 (q .some) (q .most) (q .whole) (omega arith)) ∙
-        ap (λ (c : List ℕ). not (meets S c)) (keep-all (λ day. covers n 0 (offset n day)) (ending n g) (λ x m. refl))
+        ap (λ (c : List ℕ). not (meets S c)) (keep-all (λ day. covers n 0 (offset n day)) (lastDays n g) (λ x m. refl))
 
     each : (i : ℕ) → i among upFrom 1 (lg n) → tileRule n t g i ≡ true
     each i m =
         let b = upFrom-bounds 1 (lg n) i m in
         rw (zeroth, gives-passes 2 n d S t h (tile i g) (tile-named n d g i (q .some) (q .most) (q .whole) (omega arith)))
-        (inside (meets S (cover n (tile i g))) (own n S k) (λ e. meets-part S (λ day. covers n i (offset n day)) (ending n g) e))
+        (inside (meets S (coveredDays n (tile i g))) (own n S k) (λ e. meets-part S (λ day. covers n i (offset n day)) (lastDays n g) e))
 
-tree-is : (n d : ℕ) (S t : List ℕ) → Gives (chains 3 n d) d S t → (l g : ℕ) → Block (2 ^ l) d g → passes 3 n t (tree l g) ≡ not (meets S (ending (2 ^ l) g))
+tree-is : (n d : ℕ) (S t : List ℕ) → Gives (chains 3 n d) d S t → (l g : ℕ) → Block (2 ^ l) d g → passes 3 n t (tree l g) ≡ not (meets S (lastDays (2 ^ l) g))
 tree-is n d S t h l g q = gives-passes 3 n d S t h (tree l g) (tree-named n d g l (q .some) (q .most) (q .whole))
 
 block-3 : (n d : ℕ) (S t : List ℕ) → Gives (chains 3 n d) d S t → 1 ≤ n → n ≡ 2 ^ lg n → (k : ℕ) → Block n d (suc k * n) → blockRule 3 n t (suc k * n) ≡ true
@@ -141,12 +141,12 @@ block-3 n d S t h p e k q =
     whole : passes 3 n t (tree (lg n) (suc k * n)) ≡ not (own n S k)
     whole =
         tree-is n d S t h (lg n) (suc k * n) (record { some = q .some; most = q .most; whole = ap (λ (x : ℕ). divides x (suc k * n)) (sym e) ∙ q .whole }) ∙
-        ap (λ (x : ℕ). not (meets S (ending x (suc k * n)))) (sym e)
+        ap (λ (x : ℕ). not (meets S (lastDays x (suc k * n)))) (sym e)
 
 level-3 : (n d : ℕ) (S t : List ℕ) → Gives (chains 3 n d) d S t → (l j : ℕ) → Block (2 ^ suc l) d (suc j * 2 ^ suc l) → halvesAt n t l (suc j) ≡ true
 unfolding halvesAt halvesRule
 level-3 n d S t h l j q =
-    rw (upper, left, right) (parts (meets S (ending (2 ^ l) (g - 2 ^ l))) (meets S (ending (2 ^ l) g)))
+    rw (upper, left, right) (parts (meets S (lastDays (2 ^ l) (g - 2 ^ l))) (meets S (lastDays (2 ^ l) g)))
   where
     g : ℕ
     g = suc j * 2 ^ suc l
@@ -154,15 +154,15 @@ level-3 n d S t h l j q =
     point : g - 2 ^ l ≡ suc (j + j) * 2 ^ l
     point = let e = half-point j l in omega arith
 
-    upper : passes 3 n t (tree (suc l) g) ≡ not (meets S (ending (2 ^ l) (g - 2 ^ l)) || meets S (ending (2 ^ l) g))
+    upper : passes 3 n t (tree (suc l) g) ≡ not (meets S (lastDays (2 ^ l) (g - 2 ^ l)) || meets S (lastDays (2 ^ l) g))
     upper =
         tree-is n d S t h (suc l) g q ∙
-        ap not (ap (meets S) (half-split j l) ∙ meets-append S (ending (2 ^ l) (g - 2 ^ l)) (ending (2 ^ l) g))
+        ap not (ap (meets S) (half-split j l) ∙ meets-append S (lastDays (2 ^ l) (g - 2 ^ l)) (lastDays (2 ^ l) g))
 
-    right : passes 3 n t (tree l g) ≡ not (meets S (ending (2 ^ l) g))
+    right : passes 3 n t (tree l g) ≡ not (meets S (lastDays (2 ^ l) g))
     right = tree-is n d S t h l g (record { some = q .some; most = q .most; whole = divides-half l g (q .whole) })
 
-    left : passes 3 n t (tree l (g - 2 ^ l)) ≡ not (meets S (ending (2 ^ l) (g - 2 ^ l)))
+    left : passes 3 n t (tree l (g - 2 ^ l)) ≡ not (meets S (lastDays (2 ^ l) (g - 2 ^ l)))
     left =
         let m : 1 ≤ suc (j + j) * 2 ^ l = mul-pos (omega arith) (pow-pos l) in
         tree-is n d S t h l (g - 2 ^ l)

@@ -11,10 +11,10 @@ use lib.Dec.{eqb}
 use lib.Pow.{pow-pos, pow-lt, pow-add}
 use Rattle.evidence.specs.Evidence.{_among_, upFrom, keep, days}
 use Rattle.evidence.proofs.ListLaws.{true-or-false, and-both, upFrom-mem, upFrom-bounds, keep-mem, mem-keep}
-use Rattle.layouts.specs.Layouts.{divides, lg, black, tile, tree, ending, offset, covers, cover}
+use Rattle.layouts.specs.Layouts.{divides, lg, black, tile, tree, lastDays, offset, covers, coveredDays}
 use Rattle.layouts.proofs.AllowedLaws.{Power}
-use Rattle.rules.specs.Rules.{every, alike, passes, prior, tileRule, blockRule, blockAt, halvesRule, halvesAt, levelRule, levelsRule, blocksRule, rules, endOf, tileBit, bitRule, bitsRule, local}
-use Rattle.rules.proofs.Runs.{every-at, every-of, every-fails, some, some-append, some-of, some-none, some-same, keep-all, ending-bounds, ending-mem, days-bounds, bit-low, divides-multiple, div-whole}
+use Rattle.rules.specs.Rules.{every, alike, passes, prior, tileRule, blockRule, blockAt, halvesRule, halvesAt, levelRule, levelsRule, blocksRule, rules, endOf, tileBit, bitRule, bitsRule, isListed}
+use Rattle.rules.proofs.Runs.{every-at, every-of, every-fails, some, some-append, some-of, some-none, some-same, keep-all, lastDays-bounds, lastDays-mem, days-bounds, bit-low, divides-multiple, div-whole}
 use Rattle.rules.proofs.Lookup.{Block}
 use Rattle.rules.proofs.Given.{block-split, half-point, half-split, prior-first, prior-next}
 
@@ -40,14 +40,14 @@ end-of n k day a b =
     let e : pred day ≡ k * n + (day - suc (k * n)) = omega arith in
     ap (λ (x : ℕ). suc x * n) (ap (λ (x : ℕ). x / n) e ∙ digits-div k {m = n} {r = day - suc (k * n)} (omega arith))
 
-pub in-block : (n k day : ℕ) → day among ending n (suc k * n) → (k * n < day) × (day ≤ suc k * n)
+pub in-block : (n k day : ℕ) → day among lastDays n (suc k * n) → (k * n < day) × (day ≤ suc k * n)
 in-block n k day m =
     let s : suc k * n ≡ k * n + n = suc-mul k n in
-    let b = ending-bounds n (suc k * n) day (omega arith) m in
+    let b = lastDays-bounds n (suc k * n) day (omega arith) m in
     (omega arith, omega arith)
 
 -- each day lies in an interval
-pub block-day : (n d g : ℕ) → 1 ≤ n → divides n d ≡ true → g among days d → Block n d (endOf n g) × (g among ending n (endOf n g))
+pub block-day : (n d g : ℕ) → 1 ≤ n → divides n d ≡ true → g among days d → Block n d (endOf n g) × (g among lastDays n (endOf n g))
 block-day n d g p w m =
     let b = days-bounds d g m in
     let r : pred g % n < n = mod-lt (pred g) p in
@@ -57,7 +57,7 @@ block-day n d g p w m =
     let u : suc (pred g / n) * n ≤ d / n * n = mul-le-mul-right n c in
     let z : d / n * n ≡ d = div-whole n d w in (
       record { some = omega arith; most = omega arith; whole = divides-multiple (suc (pred g / n)) n p },
-      ending-mem n (suc (pred g / n) * n) g (omega arith) (omega (arith, b .0)) (omega (arith, b .0)),
+      lastDays-mem n (suc (pred g / n) * n) g (omega arith) (omega (arith, b .0)) (omega (arith, b .0)),
     )
   where
     below : (k : ℕ) → k * n < d → suc k ≤ d / n
@@ -78,8 +78,8 @@ some-run p b i zero l f = absurd (omega arith)
 some-run p b i (suc k) l f = some-same p b i (upFrom (suc i) k) f
 
 pub black-up : (s n d : ℕ) (t : List ℕ) (p : ℕ → Bool) → 1 ≤ n →
-    ((k : ℕ) → Block n d (suc k * n) → passes s n t (black (suc k * n)) ≡ prior s n t (suc k * n) && not (some p (ending n (suc k * n)))) →
-    (k : ℕ) → Block n d (suc k * n) → passes s n t (black (suc k * n)) ≡ not (some p (ending (suc k * n) (suc k * n)))
+    ((k : ℕ) → Block n d (suc k * n) → passes s n t (black (suc k * n)) ≡ prior s n t (suc k * n) && not (some p (lastDays n (suc k * n)))) →
+    (k : ℕ) → Block n d (suc k * n) → passes s n t (black (suc k * n)) ≡ not (some p (lastDays (suc k * n) (suc k * n)))
 black-up s n d t p l f zero q =
     f 0 q ∙ rw (prior-first s n t) (sym (ap (λ (c : List ℕ). not (some p c)) (block-split n 0) ∙ rw (zero-mul n)))
 black-up s n d t p l f (suc k) q =
@@ -87,8 +87,8 @@ black-up s n d t p l f (suc k) q =
     let r : 1 ≤ suc k * n = mul-pos (omega arith) l in
     let h = black-up s n d t p l f k (record { some = r; most = omega (arith, q .most); whole = divides-multiple (suc k) n l }) in
     f (suc k) q ∙ rw (prior-next s n k t l, h)
-    (join (some p (ending (suc k * n) (suc k * n))) (some p (ending n (suc (suc k) * n))) ∙
-    sym (ap not (ap (some p) (block-split n (suc k)) ∙ some-append p (ending (suc k * n) (suc k * n)) (ending n (suc (suc k) * n)))))
+    (join (some p (lastDays (suc k * n) (suc k * n))) (some p (lastDays n (suc (suc k) * n))) ∙
+    sym (ap not (ap (some p) (block-split n (suc k)) ∙ some-append p (lastDays (suc k * n) (suc k * n)) (lastDays n (suc (suc k) * n)))))
   where
     join : (a b : Bool) → not a && not b ≡ not (a || b)
     join true b = refl
@@ -120,20 +120,20 @@ rule-at s n d t p w r k q =
 
 -- ---- scheme 1
 
-pub local-1 : (n : ℕ) (t : List ℕ) (day : ℕ) → local 1 n t day ≡ not (passes 1 n t (black (endOf n day)))
-unfolding local
-local-1 n t day = refl
+pub isListed-1 : (n : ℕ) (t : List ℕ) (day : ℕ) → isListed 1 n t day ≡ not (passes 1 n t (black (endOf n day)))
+unfolding isListed
+isListed-1 n t day = refl
 
 pub black-1 : (n d : ℕ) (t : List ℕ) → 1 ≤ n → divides n d ≡ true → rules 1 n d t ≡ true → (k : ℕ) → Block n d (suc k * n) →
-    passes 1 n t (black (suc k * n)) ≡ prior 1 n t (suc k * n) && not (some (local 1 n t) (ending n (suc k * n)))
+    passes 1 n t (black (suc k * n)) ≡ prior 1 n t (suc k * n) && not (some (isListed 1 n t) (lastDays n (suc k * n)))
 unfolding blockRule
 black-1 n d t p w r k q =
     rw all (fits (passes 1 n t (black (suc k * n))) (prior 1 n t (suc k * n)) (rule-at 1 n d t p w r k q))
   where
-    all : some (local 1 n t) (ending n (suc k * n)) ≡ not (passes 1 n t (black (suc k * n)))
+    all : some (isListed 1 n t) (lastDays n (suc k * n)) ≡ not (passes 1 n t (black (suc k * n)))
     all =
-        some-run (local 1 n t) (not (passes 1 n t (black (suc k * n)))) (suc (suc k * n - n)) n p
-        (λ day m. let b = in-block n k day m in local-1 n t day ∙ ap (λ (x : ℕ). not (passes 1 n t (black x))) (end-of n k day (b .0) (b .1)))
+        some-run (isListed 1 n t) (not (passes 1 n t (black (suc k * n)))) (suc (suc k * n - n)) n p
+        (λ day m. let b = in-block n k day m in isListed-1 n t day ∙ ap (λ (x : ℕ). not (passes 1 n t (black x))) (end-of n k day (b .0) (b .1)))
 
     fits : (a b : Bool) → not a || b ≡ true → a ≡ b && not (not a)
     fits true true e = refl
@@ -143,9 +143,9 @@ black-1 n d t p w r k q =
 
 -- ---- scheme 2
 
-pub local-2 : (n : ℕ) (t : List ℕ) (g day : ℕ) → endOf n day ≡ g → local 2 n t day ≡ not (passes 2 n t (tile 0 g)) && bitsRule (tileBit n t g) (lg n) (pred day)
-unfolding local
-local-2 n t g day e = rw e
+pub isListed-2 : (n : ℕ) (t : List ℕ) (g day : ℕ) → endOf n day ≡ g → isListed 2 n t day ≡ not (passes 2 n t (tile 0 g)) && bitsRule (tileBit n t g) (lg n) (pred day)
+unfolding isListed
+isListed-2 n t g day e = rw e
 
 -- the bit that c(i) looks at
 pub covers-bit : (n k i x : ℕ) → n ≡ 2 ^ k → i < k → covers n (suc i) (x % n) ≡ eqb (x / 2 ^ (k - suc i) % 2) 0
@@ -197,18 +197,18 @@ tile-bit n t g i l = let e : lg n - (lg n - i) ≡ i = omega arith in rw e
 
 module _ (n d : ℕ) (t : List ℕ) (w : Power n) (k : ℕ) where
   -- a day that a passing chain of its tile covers is not listed
-  hides : (i day : ℕ) → i ≤ lg n → day among ending n (suc k * n) → covers n i (offset n day) ≡ true → passes 2 n t (tile i (suc k * n)) ≡ true → local 2 n t day ≡ false
+  hides : (i day : ℕ) → i ≤ lg n → day among lastDays n (suc k * n) → covers n i (offset n day) ≡ true → passes 2 n t (tile i (suc k * n)) ≡ true → isListed 2 n t day ≡ false
   unfolding bitsRule bitRule
   hides zero day l m c e =
       let b = in-block n k day m in
-      local-2 n t (suc k * n) day (end-of n k day (b .0) (b .1)) ∙ rw e
+      isListed-2 n t (suc k * n) day (end-of n k day (b .0) (b .1)) ∙ rw e
   hides (suc i) day l m c e =
       let b = in-block n k day m in
       let bit : eqb (pred day / 2 ^ (lg n - suc i) % 2) 0 ≡ true = sym (covers-bit n (lg n) i (pred day) (w .power) l) ∙ c in
       let no : bitsRule (tileBit n t (suc k * n)) (lg n) (pred day) ≡ false =
       every-fails (bitRule (tileBit n t (suc k * n)) (pred day)) (upFrom 0 (lg n)) (lg n - suc i) (upFrom-mem 0 (lg n) (lg n - suc i) (omega arith) (omega arith))
       (rw (tile-bit n t (suc k * n) (suc i) l, e, bit)) in
-      local-2 n t (suc k * n) day (end-of n k day (b .0) (b .1)) ∙ rw no (never (not (passes 2 n t (tile 0 (suc k * n)))))
+      isListed-2 n t (suc k * n) day (end-of n k day (b .0) (b .1)) ∙ rw no (never (not (passes 2 n t (tile 0 (suc k * n)))))
     where
       never : (a : Bool) → a && false ≡ false
       never true = refl
@@ -216,7 +216,7 @@ module _ (n d : ℕ) (t : List ℕ) (w : Power n) (k : ℕ) where
 
   -- where c(i) fails, and with it c(0), it covers a day that is listed
   shows : (i : ℕ) → i ≤ lg n → passes 2 n t (tile 0 (suc k * n)) ≡ false → passes 2 n t (tile i (suc k * n)) ≡ false →
-      (day : ℕ) × (day among ending n (suc k * n)) × (covers n i (offset n day) ≡ true) × (local 2 n t day ≡ true)
+      (day : ℕ) × (day among lastDays n (suc k * n)) × (covers n i (offset n day) ≡ true) × (isListed 2 n t day ≡ true)
   unfolding bitsRule bitRule
   shows i l z e = (suc (k * n + o), inn, cov i l e, loc)
     where
@@ -229,8 +229,8 @@ module _ (n d : ℕ) (t : List ℕ) (w : Power n) (k : ℕ) where
       small : o < n
       small = rw (← (w .power)) at (number-small p (lg n))
 
-      inn : suc (k * n + o) among ending n (suc k * n)
-      inn = let s : suc k * n ≡ k * n + n = suc-mul k n in ending-mem n (suc k * n) (suc (k * n + o)) (omega arith) (omega arith) (omega (arith, small))
+      inn : suc (k * n + o) among lastDays n (suc k * n)
+      inn = let s : suc k * n ≡ k * n + n = suc-mul k n in lastDays-mem n (suc k * n) (suc (k * n + o)) (omega arith) (omega arith) (omega (arith, small))
 
       bit : (j : ℕ) → j < lg n → (k * n + o) / 2 ^ j % 2 ≡ one (p j)
       bit j h =
@@ -247,13 +247,13 @@ module _ (n d : ℕ) (t : List ℕ) (w : Power n) (k : ℕ) where
       right true = refl
       right false = refl
 
-      loc : local 2 n t (suc (k * n + o)) ≡ true
+      loc : isListed 2 n t (suc (k * n + o)) ≡ true
       loc =
-          local-2 n t (suc k * n) (suc (k * n + o)) (end-of n k (suc (k * n + o)) (omega arith) (let s : suc k * n ≡ k * n + n = suc-mul k n in omega (arith, small))) ∙
+          isListed-2 n t (suc k * n) (suc (k * n + o)) (end-of n k (suc (k * n + o)) (omega arith) (let s : suc k * n ≡ k * n + n = suc-mul k n in omega (arith, small))) ∙
           rw z (every-of (bitRule p (k * n + o)) (upFrom 0 (lg n)) (λ j m. let b = upFrom-bounds 0 (lg n) j m in ap (λ (y : ℕ). not (p j && eqb y 0)) (bit j (omega (arith, b .1))) ∙ right (p j)))
 
 pub tile-2 : (n d : ℕ) (t : List ℕ) → Power n → divides n d ≡ true → rules 2 n d t ≡ true → (k i : ℕ) → Block n d (suc k * n) → i ≤ lg n →
-    passes 2 n t (tile i (suc k * n)) ≡ not (some (local 2 n t) (cover n (tile i (suc k * n))))
+    passes 2 n t (tile i (suc k * n)) ≡ not (some (isListed 2 n t) (coveredDays n (tile i (suc k * n))))
 unfolding blockRule tileRule
 tile-2 n d t w e r k i q l = go (passes 2 n t (tile i g)) refl
   where
@@ -276,31 +276,31 @@ tile-2 n d t w e r k i q l = go (passes 2 n t (tile i g)) refl
         fails (passes 2 n t (tile 0 g)) (passes 2 n t (tile (suc j) g))
         (every-at (tileRule n t g) {g = suc j} {xs = upFrom 1 (lg n)} (upFrom-mem 1 (lg n) (suc j) (omega arith) (omega arith)) rule) f
 
-    found : (day : ℕ) × (day among ending n g) × (covers n i (offset n day) ≡ true) × (local 2 n t day ≡ true) → some (local 2 n t) (keep test (ending n g)) ≡ true
-    found x = some-of (local 2 n t) {g = x .0} {xs = keep test (ending n g)} (mem-keep test (ending n g) (x .0) (x .1) (x .2)) (x .3)
+    found : (day : ℕ) × (day among lastDays n g) × (covers n i (offset n day) ≡ true) × (isListed 2 n t day ≡ true) → some (isListed 2 n t) (keep test (lastDays n g)) ≡ true
+    found x = some-of (isListed 2 n t) {g = x .0} {xs = keep test (lastDays n g)} (mem-keep test (lastDays n g) (x .0) (x .1) (x .2)) (x .3)
 
-    go : (b : Bool) → passes 2 n t (tile i g) ≡ b → b ≡ not (some (local 2 n t) (keep test (ending n g)))
+    go : (b : Bool) → passes 2 n t (tile i g) ≡ b → b ≡ not (some (isListed 2 n t) (keep test (lastDays n g)))
     go true f =
-        rw (some-none (local 2 n t) (keep test (ending n g)) (λ day m. let x = keep-mem test (ending n g) day m in hides n d t w k i day l (x .0) (x .1) f))
+        rw (some-none (isListed 2 n t) (keep test (lastDays n g)) (λ day m. let x = keep-mem test (lastDays n g) day m in hides n d t w k i day l (x .0) (x .1) f))
     go false f = rw (found (shows n d t w k i l (first i l f) f))
 
 pub black-2 : (n d : ℕ) (t : List ℕ) → Power n → divides n d ≡ true → rules 2 n d t ≡ true → (k : ℕ) → Block n d (suc k * n) →
-    passes 2 n t (black (suc k * n)) ≡ prior 2 n t (suc k * n) && not (some (local 2 n t) (ending n (suc k * n)))
+    passes 2 n t (black (suc k * n)) ≡ prior 2 n t (suc k * n) && not (some (isListed 2 n t) (lastDays n (suc k * n)))
 unfolding blockRule
 black-2 n d t w e r k q =
     alike-eq (passes 2 n t (black g)) (prior 2 n t g && passes 2 n t (tile 0 g))
     (and-both (alike (passes 2 n t (black g)) (prior 2 n t g && passes 2 n t (tile 0 g))) (every (tileRule n t g) (upFrom 1 (lg n))) (rule-at 2 n d t (w .some) e r k q) .0) ∙
     ap (λ (b : Bool). prior 2 n t g && b)
-    (tile-2 n d t w e r k 0 q (omega arith) ∙ ap (λ (c : List ℕ). not (some (local 2 n t) c)) (keep-all (λ day. covers n 0 (offset n day)) (ending n g) (λ x m. refl)))
+    (tile-2 n d t w e r k 0 q (omega arith) ∙ ap (λ (c : List ℕ). not (some (isListed 2 n t) c)) (keep-all (λ day. covers n 0 (offset n day)) (lastDays n g) (λ x m. refl)))
   where
     g : ℕ
     g = suc k * n
 
 -- ---- scheme 3
 
-pub local-3 : (n : ℕ) (t : List ℕ) (day : ℕ) → local 3 n t day ≡ not (passes 3 n t (tree 0 day))
-unfolding local
-local-3 n t day = refl
+pub isListed-3 : (n : ℕ) (t : List ℕ) (day : ℕ) → isListed 3 n t day ≡ not (passes 3 n t (tree 0 day))
+unfolding isListed
+isListed-3 n t day = refl
 
 small-level : (l d m : ℕ) → 1 ≤ m → m * 2 ^ suc l ≤ d → d ≤ 65536 → l < 16
 small-level l d m p h b = go (decLt l 16)
@@ -338,11 +338,11 @@ module _ (n d : ℕ) (t : List ℕ) (small : d ≤ 65536) (r : levelsRule n d t 
       g = suc j * 2 ^ suc l
 
   -- a chain of the tree passes exactly if none of its days is listed
-  pub tree-3 : (l j : ℕ) → suc j * 2 ^ l ≤ d → passes 3 n t (tree l (suc j * 2 ^ l)) ≡ not (some (local 3 n t) (ending (2 ^ l) (suc j * 2 ^ l)))
+  pub tree-3 : (l j : ℕ) → suc j * 2 ^ l ≤ d → passes 3 n t (tree l (suc j * 2 ^ l)) ≡ not (some (isListed 3 n t) (lastDays (2 ^ l) (suc j * 2 ^ l)))
   tree-3 zero j h =
       let e : suc j * 2 ^ 0 ≡ suc j = omega arith in
       let f : suc (suc j - 1) ≡ suc j = omega arith in
-      rw (e, f, local-3 n t (suc j)) (flip (passes 3 n t (tree 0 (suc j))))
+      rw (e, f, isListed-3 n t (suc j)) (flip (passes 3 n t (tree 0 (suc j))))
     where
       flip : (b : Bool) → b ≡ not (not b || false)
       flip true = refl
@@ -354,8 +354,8 @@ module _ (n d : ℕ) (t : List ℕ) (small : d ≤ 65536) (r : levelsRule n d t 
       let a = tree-3 l (j + j) (omega arith) in
       let b = tree-3 l (suc (j + j)) (omega arith) in
       halves-at l j h ∙ both (passes 3 n t (tree l (suc j * 2 ^ suc l - 2 ^ l))) (passes 3 n t (tree l (suc j * 2 ^ suc l)))
-      (some (local 3 n t) (ending (2 ^ l) (suc j * 2 ^ suc l - 2 ^ l))) (some (local 3 n t) (ending (2 ^ l) (suc j * 2 ^ suc l))) (rw f a) (rw q b) ∙
-      sym (ap not (ap (some (local 3 n t)) (half-split j l) ∙ some-append (local 3 n t) (ending (2 ^ l) (suc j * 2 ^ suc l - 2 ^ l)) (ending (2 ^ l) (suc j * 2 ^ suc l))))
+      (some (isListed 3 n t) (lastDays (2 ^ l) (suc j * 2 ^ suc l - 2 ^ l))) (some (isListed 3 n t) (lastDays (2 ^ l) (suc j * 2 ^ suc l))) (rw f a) (rw q b) ∙
+      sym (ap not (ap (some (isListed 3 n t)) (half-split j l) ∙ some-append (isListed 3 n t) (lastDays (2 ^ l) (suc j * 2 ^ suc l - 2 ^ l)) (lastDays (2 ^ l) (suc j * 2 ^ suc l))))
     where
       join : (a b : Bool) → not a && not b ≡ not (a || b)
       join true b = refl
@@ -365,11 +365,11 @@ module _ (n d : ℕ) (t : List ℕ) (small : d ≤ 65536) (r : levelsRule n d t 
       both a b u v x y = rw (x, y) (join u v)
 
 pub black-3 : (n d : ℕ) (t : List ℕ) → Power n → divides n d ≡ true → d ≤ 65536 → rules 3 n d t ≡ true → (k : ℕ) → Block n d (suc k * n) →
-    passes 3 n t (black (suc k * n)) ≡ prior 3 n t (suc k * n) && not (some (local 3 n t) (ending n (suc k * n)))
+    passes 3 n t (black (suc k * n)) ≡ prior 3 n t (suc k * n) && not (some (isListed 3 n t) (lastDays n (suc k * n)))
 unfolding blockRule rules
 black-3 n d t w e small r k q =
     alike-eq (passes 3 n t (black (suc k * n))) (prior 3 n t (suc k * n) && passes 3 n t (tree (lg n) (suc k * n))) (rule-at 3 n d t (w .some) e r k q) ∙
     ap (λ (b : Bool). prior 3 n t (suc k * n) && b)
     (ap (λ (x : ℕ). passes 3 n t (tree (lg n) (suc k * x))) (w .power) ∙
     tree-3 n d t small (and-both (blocksRule 3 n d t) (levelsRule n d t) r .1) (lg n) k (let m = q .most in rw (w .power) at m) ∙
-    ap (λ (x : ℕ). not (some (local 3 n t) (ending x (suc k * x)))) (sym (w .power)))
+    ap (λ (x : ℕ). not (some (isListed 3 n t) (lastDays x (suc k * x)))) (sym (w .power)))

@@ -8,10 +8,10 @@ use native.Mathlib.Nat.{zero-add, add-zero}
 use native.Mathlib.Omega.{arith}
 use lib.Dec.{eqb}
 use lib.ListN.{length, getD, length-append, length-map}
-use Rattle.evidence.specs.Evidence.{_among_, upFrom, days, Within, meets, outcome, tableOf, Gives}
+use Rattle.evidence.specs.Evidence.{_among_, upFrom, days, Within, meets, setOutcome, tableOf, Gives}
 use Rattle.evidence.proofs.ListLaws.{true-or-false, and-both, upFrom-mem, upFrom-bounds, keep-mem, mem-keep, map-same}
-use Rattle.layouts.specs.Layouts.{divides, lg, Name, black, tile, tree, ending, cover, levels, storedOnce, names, named, chains, position}
-use Rattle.layouts.proofs.Coverage.{divisor-le, cond-mem, named-suc, named-at, named-in}
+use Rattle.layouts.specs.Layouts.{divides, lg, Name, black, tile, tree, lastDays, coveredDays, levels, storedOnce, namesOfDay, namesThrough, chains, position}
+use Rattle.layouts.proofs.Coverage.{divisor-le, cond-mem, namesThrough-suc, namesThrough-at, namesThrough-in}
 use Rattle.layouts.proofs.Counts.{length-upFrom, below-pow}
 use Rattle.layouts.proofs.Positions.{levels-run}
 use Rattle.rules.specs.Rules.{Bits, passes}
@@ -29,43 +29,43 @@ map-map f g [] = refl
 map-map f g (x ∷ xs) = ap (λ r. f (g x) ∷ r) (map-map f g xs)
 
 -- a day's values: k that are counted from the day's first place on, and then perhaps black
-run-then : (s n g k : ℕ) (f : ℕ → Name) (b : Bool) → ((i : ℕ) → position s n (f i) ≡ length (named s n g) + i) →
-    names s n (suc g) ≡ map f (upFrom 0 k) ++ cond b (black (suc g) ∷ []) [] →
-    map (position s n) (names s n (suc g)) ≡ upFrom (length (named s n g)) (length (names s n (suc g)))
+run-then : (s n g k : ℕ) (f : ℕ → Name) (b : Bool) → ((i : ℕ) → position s n (f i) ≡ length (namesThrough s n g) + i) →
+    namesOfDay s n (suc g) ≡ map f (upFrom 0 k) ++ cond b (black (suc g) ∷ []) [] →
+    map (position s n) (namesOfDay s n (suc g)) ≡ upFrom (length (namesThrough s n g)) (length (namesOfDay s n (suc g)))
 run-then s n g k f b h e =
     ap (map (position s n)) e ∙ map-append (position s n) (map f (upFrom 0 k)) (cond b (black (suc g) ∷ []) []) ∙
     ap (λ (r : List ℕ). r ++ map (position s n) (cond b (black (suc g) ∷ []) [])) front ∙ back b e
   where
-    front : map (position s n) (map f (upFrom 0 k)) ≡ upFrom (length (named s n g)) k
+    front : map (position s n) (map f (upFrom 0 k)) ≡ upFrom (length (namesThrough s n g)) k
     front =
-        map-map (position s n) f (upFrom 0 k) ∙ map-same (λ (i : ℕ). position s n (f i)) (λ (i : ℕ). length (named s n g) + i) (upFrom 0 k) (λ i m. h i) ∙
-        map-add (length (named s n g)) 0 k ∙ ap (λ (x : ℕ). upFrom x k) (add-zero (length (named s n g)))
+        map-map (position s n) f (upFrom 0 k) ∙ map-same (λ (i : ℕ). position s n (f i)) (λ (i : ℕ). length (namesThrough s n g) + i) (upFrom 0 k) (λ i m. h i) ∙
+        map-add (length (namesThrough s n g)) 0 k ∙ ap (λ (x : ℕ). upFrom x k) (add-zero (length (namesThrough s n g)))
 
-    count : (c : Bool) → names s n (suc g) ≡ map f (upFrom 0 k) ++ cond c (black (suc g) ∷ []) [] → length (names s n (suc g)) ≡ k + length (cond c (black (suc g) ∷ []) [])
+    count : (c : Bool) → namesOfDay s n (suc g) ≡ map f (upFrom 0 k) ++ cond c (black (suc g) ∷ []) [] → length (namesOfDay s n (suc g)) ≡ k + length (cond c (black (suc g) ∷ []) [])
     count c q = ap length q ∙ rw (length-append, length-map, length-upFrom)
 
-    total : length (named s n (suc g)) ≡ length (named s n g) + length (names s n (suc g))
-    total = ap length (named-suc s n g) ∙ length-append (named s n g) (names s n (suc g))
+    total : length (namesThrough s n (suc g)) ≡ length (namesThrough s n g) + length (namesOfDay s n (suc g))
+    total = ap length (namesThrough-suc s n g) ∙ length-append (namesThrough s n g) (namesOfDay s n (suc g))
 
-    back : (c : Bool) → names s n (suc g) ≡ map f (upFrom 0 k) ++ cond c (black (suc g) ∷ []) [] →
-        upFrom (length (named s n g)) k ++ map (position s n) (cond c (black (suc g) ∷ []) []) ≡ upFrom (length (named s n g)) (length (names s n (suc g)))
+    back : (c : Bool) → namesOfDay s n (suc g) ≡ map f (upFrom 0 k) ++ cond c (black (suc g) ∷ []) [] →
+        upFrom (length (namesThrough s n g)) k ++ map (position s n) (cond c (black (suc g) ∷ []) []) ≡ upFrom (length (namesThrough s n g)) (length (namesOfDay s n (suc g)))
     back true q =
         let c = count true q in
         let w = total in
-        let l : length (names s n (suc g)) ≡ k + 1 = c in
-        let p : pred (length (named s n (suc g))) ≡ length (named s n g) + k = omega arith in
-        sym (ap (upFrom (length (named s n g))) l ∙ upFrom-append (length (named s n g)) k 1 ∙ ap (λ (x : ℕ). upFrom (length (named s n g)) k ++ (x ∷ [])) (sym p))
+        let l : length (namesOfDay s n (suc g)) ≡ k + 1 = c in
+        let p : pred (length (namesThrough s n (suc g))) ≡ length (namesThrough s n g) + k = omega arith in
+        sym (ap (upFrom (length (namesThrough s n g))) l ∙ upFrom-append (length (namesThrough s n g)) k 1 ∙ ap (λ (x : ℕ). upFrom (length (namesThrough s n g)) k ++ (x ∷ [])) (sym p))
     back false q =
         let c = count false q in
-        let l : length (names s n (suc g)) ≡ k = omega arith in
-        append-nil (upFrom (length (named s n g)) k) ∙ ap (upFrom (length (named s n g))) (sym l)
+        let l : length (namesOfDay s n (suc g)) ≡ k = omega arith in
+        append-nil (upFrom (length (namesThrough s n g)) k) ∙ ap (upFrom (length (namesThrough s n g))) (sym l)
 
-day-positions : (s n g : ℕ) → map (position s n) (names s n (suc g)) ≡ upFrom (length (named s n g)) (length (names s n (suc g)))
+day-positions : (s n g : ℕ) → map (position s n) (namesOfDay s n (suc g)) ≡ upFrom (length (namesThrough s n g)) (length (namesOfDay s n (suc g)))
 day-positions zero n g = refl
 day-positions (suc zero) n g = run-then 1 n g 0 (λ i. tile i (suc g)) (divides n (suc g)) (λ i. refl) refl
 day-positions (suc (suc zero)) n g = go (divides n (suc g)) refl
   where
-    go : (b : Bool) → divides n (suc g) ≡ b → map (position 2 n) (names 2 n (suc g)) ≡ upFrom (length (named 2 n g)) (length (names 2 n (suc g)))
+    go : (b : Bool) → divides n (suc g) ≡ b → map (position 2 n) (namesOfDay 2 n (suc g)) ≡ upFrom (length (namesThrough 2 n g)) (length (namesOfDay 2 n (suc g)))
     go true e = run-then 2 n g (suc (lg n)) (λ i. tile i (suc g)) true (λ i. refl) (rw e)
     go false e = rw e
 day-positions (suc (suc (suc zero))) n g =
@@ -73,21 +73,21 @@ day-positions (suc (suc (suc zero))) n g =
     (ap (λ (r : List ℕ). map (λ (l : ℕ). tree l (suc g)) r ++ cond (divides n (suc g) && not (storedOnce (suc g))) (black (suc g) ∷ []) []) (levels-run (suc g)))
 day-positions (suc (suc (suc (suc s)))) n g = refl
 
-positions : (s n d : ℕ) → map (position s n) (named s n d) ≡ upFrom 0 (length (named s n d))
-unfolding named flatMap
+positions : (s n d : ℕ) → map (position s n) (namesThrough s n d) ≡ upFrom 0 (length (namesThrough s n d))
+unfolding namesThrough flatMap
 positions s n zero = refl
 positions s n (suc d) =
-    ap (map (position s n)) (named-suc s n d) ∙ map-append (position s n) (named s n d) (names s n (suc d)) ∙
-    ap (λ (r : List ℕ). r ++ map (position s n) (names s n (suc d))) (positions s n d) ∙
-    ap (λ (r : List ℕ). upFrom 0 (length (named s n d)) ++ r) (day-positions s n d ∙ ap (λ (x : ℕ). upFrom x (length (names s n (suc d)))) (sym (zero-add (length (named s n d))))) ∙
-    sym (upFrom-append 0 (length (named s n d)) (length (names s n (suc d)))) ∙
-    ap (upFrom 0) (sym (ap length (named-suc s n d) ∙ length-append (named s n d) (names s n (suc d))))
+    ap (map (position s n)) (namesThrough-suc s n d) ∙ map-append (position s n) (namesThrough s n d) (namesOfDay s n (suc d)) ∙
+    ap (λ (r : List ℕ). r ++ map (position s n) (namesOfDay s n (suc d))) (positions s n d) ∙
+    ap (λ (r : List ℕ). upFrom 0 (length (namesThrough s n d)) ++ r) (day-positions s n d ∙ ap (λ (x : ℕ). upFrom x (length (namesOfDay s n (suc d)))) (sym (zero-add (length (namesThrough s n d))))) ∙
+    sym (upFrom-append 0 (length (namesThrough s n d)) (length (namesOfDay s n (suc d)))) ∙
+    ap (upFrom 0) (sym (ap length (namesThrough-suc s n d) ∙ length-append (namesThrough s n d) (namesOfDay s n (suc d))))
 
-pub position-bound : (s n d : ℕ) (x : Name) → x among named s n d → position s n x < length (chains s n d)
+pub position-bound : (s n d : ℕ) (x : Name) → x among namesThrough s n d → position s n x < length (chains s n d)
 unfolding chains
 position-bound s n d x m =
-    let k : position s n x among upFrom 0 (length (named s n d)) = rw (positions s n d) at (Memᴰ·map (position s n) m) in
-    let b = upFrom-bounds 0 (length (named s n d)) (position s n x) k in
+    let k : position s n x among upFrom 0 (length (namesThrough s n d)) = rw (positions s n d) at (Memᴰ·map (position s n) m) in
+    let b = upFrom-bounds 0 (length (namesThrough s n d)) (position s n x) k in
     rw length-map (omega arith)
 
 -- ---- a list, looked up
@@ -100,10 +100,10 @@ list-at : (t : List ℕ) → map (λ (p : ℕ). getD t p 0) (upFrom 0 (length t)
 list-at [] = refl
 list-at (x ∷ xs) = ap (λ (r : List ℕ). x ∷ r) (list-shift 0 (length xs) x xs ∙ list-at xs)
 
-table-at : (s n d : ℕ) (t : List ℕ) → length t ≡ length (named s n d) → t ≡ map (λ (x : Name). getD t (position s n x) 0) (named s n d)
+table-at : (s n d : ℕ) (t : List ℕ) → length t ≡ length (namesThrough s n d) → t ≡ map (λ (x : Name). getD t (position s n x) 0) (namesThrough s n d)
 table-at s n d t e =
     sym (list-at t) ∙ ap (λ (k : ℕ). map (λ (p : ℕ). getD t p 0) (upFrom 0 k)) e ∙ ap (map (λ (p : ℕ). getD t p 0)) (sym (positions s n d)) ∙
-    map-map (λ (p : ℕ). getD t p 0) (position s n) (named s n d)
+    map-map (λ (p : ℕ). getD t p 0) (position s n) (namesThrough s n d)
 
 map-agree : {A : Type 0} (f g : A → ℕ) {x : A} {xs : List A} → x among xs → map f xs ≡ map g xs → f x ≡ g x
 map-agree f g (List·Memᴰ·head {x = y} {xs = ys} e) h = let q : f y ≡ g y = cc in ap f e ∙ q ∙ ap g (sym e)
@@ -111,7 +111,7 @@ map-agree f g (List·Memᴰ·tail {x = y} {xs = ys} m) h = let q : map f ys ≡ 
 
 -- ---- gives, by names
 
-passes-of : (s n : ℕ) (t S : List ℕ) (x : Name) (c : List ℕ) → getD t (position s n x) 0 ≡ outcome S c → passes s n t x ≡ not (meets S c)
+passes-of : (s n : ℕ) (t S : List ℕ) (x : Name) (c : List ℕ) → getD t (position s n x) 0 ≡ setOutcome S c → passes s n t x ≡ not (meets S c)
 unfolding passes
 passes-of s n t S x c e = rw e (go (meets S c))
   where
@@ -119,7 +119,7 @@ passes-of s n t S x c e = rw e (go (meets S c))
     go true = refl
     go false = refl
 
-of-passes : (s n : ℕ) (t S : List ℕ) (x : Name) (c : List ℕ) → Bits t → passes s n t x ≡ not (meets S c) → getD t (position s n x) 0 ≡ outcome S c
+of-passes : (s n : ℕ) (t S : List ℕ) (x : Name) (c : List ℕ) → Bits t → passes s n t x ≡ not (meets S c) → getD t (position s n x) 0 ≡ setOutcome S c
 unfolding passes
 of-passes s n t S x c b e = go (b (position s n x)) (meets S c) e
   where
@@ -133,56 +133,56 @@ of-passes s n t S x c b e = go (b (position s n x)) (meets S c) e
     go (inr z) true q = absurd (true-or-false (rw z) q)
 
 -- of a table that S gives, each value passes exactly if S does not meet its chain
-pub gives-passes : (s n d : ℕ) (S t : List ℕ) → Gives (chains s n d) d S t → (x : Name) → x among named s n d → passes s n t x ≡ not (meets S (cover n x))
+pub gives-passes : (s n d : ℕ) (S t : List ℕ) → Gives (chains s n d) d S t → (x : Name) → x among namesThrough s n d → passes s n t x ≡ not (meets S (coveredDays n x))
 unfolding chains tableOf
 gives-passes s n d S t h x m =
-    let e : map (outcome S) (map (cover n) (named s n d)) ≡ t = h .gives in
-    let f : map (λ (y : Name). outcome S (cover n y)) (named s n d) ≡ t = sym (map-map (outcome S) (cover n) (named s n d)) ∙ e in
-    let l : length t ≡ length (named s n d) = ap length (sym f) ∙ length-map (named s n d) (λ (y : Name). outcome S (cover n y)) in
-    passes-of s n t S x (cover n x)
-    (map-agree (λ (y : Name). getD t (position s n y) 0) (λ (y : Name). outcome S (cover n y)) m (sym (table-at s n d t l) ∙ sym f))
+    let e : map (setOutcome S) (map (coveredDays n) (namesThrough s n d)) ≡ t = h .gives in
+    let f : map (λ (y : Name). setOutcome S (coveredDays n y)) (namesThrough s n d) ≡ t = sym (map-map (setOutcome S) (coveredDays n) (namesThrough s n d)) ∙ e in
+    let l : length t ≡ length (namesThrough s n d) = ap length (sym f) ∙ length-map (namesThrough s n d) (λ (y : Name). setOutcome S (coveredDays n y)) in
+    passes-of s n t S x (coveredDays n x)
+    (map-agree (λ (y : Name). getD t (position s n y) 0) (λ (y : Name). setOutcome S (coveredDays n y)) m (sym (table-at s n d t l) ∙ sym f))
 
 -- and so it is of black, also where it is stored once
-pub gives-black : (s n d : ℕ) (S t : List ℕ) → Gives (chains s n d) d S t → 1 ≤ s → s ≤ 3 → (g : ℕ) → 1 ≤ g → g ≤ d → divides n g ≡ true → passes s n t (black g) ≡ not (meets S (ending g g))
+pub gives-black : (s n d : ℕ) (S t : List ℕ) → Gives (chains s n d) d S t → 1 ≤ s → s ≤ 3 → (g : ℕ) → 1 ≤ g → g ≤ d → divides n g ≡ true → passes s n t (black g) ≡ not (meets S (lastDays g g))
 unfolding tableOf
 gives-black s n d S t h a b g p l e =
     let r = black-position s n g d a b p l e in
-    let q : map (outcome S) (chains s n d) ≡ t = h .gives in
-    passes-of s n t S (black g) (ending g g)
-    (ap (λ (y : List ℕ). getD y (position s n (black g)) 0) (sym q) ∙ at (chains s n d) (position s n (black g)) (r .0) ∙ ap (outcome S) (r .1))
+    let q : map (setOutcome S) (chains s n d) ≡ t = h .gives in
+    passes-of s n t S (black g) (lastDays g g)
+    (ap (λ (y : List ℕ). getD y (position s n (black g)) 0) (sym q) ∙ at (chains s n d) (position s n (black g)) (r .0) ∙ ap (setOutcome S) (r .1))
   where
-    at : (cs : List (List ℕ)) (i : ℕ) → i < length cs → getD (map (outcome S) cs) i 0 ≡ outcome S (getD cs i [])
+    at : (cs : List (List ℕ)) (i : ℕ) → i < length cs → getD (map (setOutcome S) cs) i 0 ≡ setOutcome S (getD cs i [])
     at [] i k = absurd (omega arith)
     at (c ∷ cs) zero k = refl
     at (c ∷ cs) (suc i) k = at cs i (omega arith)
 
 -- a table of bits is given if each value is as the set says
 pub passes-gives : (s n d : ℕ) (S t : List ℕ) → Bits t → length t ≡ length (chains s n d) → Within d S →
-    ((x : Name) → x among named s n d → passes s n t x ≡ not (meets S (cover n x))) → Gives (chains s n d) d S t
+    ((x : Name) → x among namesThrough s n d → passes s n t x ≡ not (meets S (coveredDays n x))) → Gives (chains s n d) d S t
 unfolding chains tableOf
 passes-gives s n d S t b e w f =
     record {
       within = w;
-      gives = map-map (outcome S) (cover n) (named s n d) ∙
-          sym (table-at s n d t (e ∙ length-map (named s n d) (cover n)) ∙
-          map-same (λ (x : Name). getD t (position s n x) 0) (λ (x : Name). outcome S (cover n x)) (named s n d) (λ x m. of-passes s n t S x (cover n x) b (f x m)));
+      gives = map-map (setOutcome S) (coveredDays n) (namesThrough s n d) ∙
+          sym (table-at s n d t (e ∙ length-map (namesThrough s n d) (coveredDays n)) ∙
+          map-same (λ (x : Name). getD t (position s n x) 0) (λ (x : Name). setOutcome S (coveredDays n x)) (namesThrough s n d) (λ x m. of-passes s n t S x (coveredDays n x) b (f x m)));
     }
 
 -- ---- which names there are
 
-pub black-named : (s n d g : ℕ) → 1 ≤ g → g ≤ d → divides n g ≡ true → black g among names s n g → black g among named s n d
-black-named s n d g p l e m = named-in s n d (upFrom-mem 1 d g p (omega arith)) (black g) m
+pub black-named : (s n d g : ℕ) → 1 ≤ g → g ≤ d → divides n g ≡ true → black g among namesOfDay s n g → black g among namesThrough s n d
+black-named s n d g p l e m = namesThrough-in s n d (upFrom-mem 1 d g p (omega arith)) (black g) m
 
-pub tile-named : (n d g i : ℕ) → 1 ≤ g → g ≤ d → divides n g ≡ true → i ≤ lg n → tile i g among named 2 n d
+pub tile-named : (n d g i : ℕ) → 1 ≤ g → g ≤ d → divides n g ≡ true → i ≤ lg n → tile i g among namesThrough 2 n d
 tile-named n d g i p l e h =
-    named-in 2 n d (upFrom-mem 1 d g p (omega arith)) (tile i g)
+    namesThrough-in 2 n d (upFrom-mem 1 d g p (omega arith)) (tile i g)
     (rw e (Memᴰ·append-left (black g ∷ []) (Memᴰ·map (λ (j : ℕ). tile j g) (upFrom-mem 0 (suc (lg n)) i (omega arith) (omega arith)))))
 
-pub tree-named : (n d g l : ℕ) → 1 ≤ g → g ≤ d → divides (2 ^ l) g ≡ true → tree l g among named 3 n d
+pub tree-named : (n d g l : ℕ) → 1 ≤ g → g ≤ d → divides (2 ^ l) g ≡ true → tree l g among namesThrough 3 n d
 tree-named n d g l p h e =
     let b : 2 ^ l ≤ g = divisor-le (2 ^ l) g p e in
     let w = below-pow l in
-    named-in 3 n d (upFrom-mem 1 d g p (omega arith)) (tree l g)
+    namesThrough-in 3 n d (upFrom-mem 1 d g p (omega arith)) (tree l g)
     (Memᴰ·append-left (cond (divides n g && not (storedOnce g)) (black g ∷ []) [])
     (Memᴰ·map (λ (j : ℕ). tree j g) (mem-keep (λ x. divides (2 ^ x) g) (upFrom 0 g) l (upFrom-mem 0 g l (omega arith) (omega arith)) e)))
 
@@ -192,17 +192,17 @@ pub record Block (n d g : ℕ) : Type 0 where
   pub most : g ≤ d
   pub whole : divides n g ≡ true
 
-pub each-1 : (P : Name → Type 0) (n d : ℕ) → ((g : ℕ) → Block n d g → P (black g)) → (x : Name) → x among named 1 n d → P x
-each-1 P n d f x m = at (named-at 1 n d x m)
+pub each-1 : (P : Name → Type 0) (n d : ℕ) → ((g : ℕ) → Block n d g → P (black g)) → (x : Name) → x among namesThrough 1 n d → P x
+each-1 P n d f x m = at (namesThrough-at 1 n d x m)
   where
-    at : (g : ℕ) × (g among days d) × (x among names 1 n g) → P x
+    at : (g : ℕ) × (g among days d) × (x among namesOfDay 1 n g) → P x
     at r =
         let b = upFrom-bounds 1 d (r .0) (r .1) in
         let o = cond-mem (divides n (r .0)) (black (r .0) ∷ []) (r .2) in
         rw (List·Memᴰ·eq-of-singleton (o .1)) (f (r .0) (record { some = b .0; most = omega arith; whole = o .0 }))
 
-pub each-2 : (P : Name → Type 0) (n d : ℕ) → ((g : ℕ) → Block n d g → P (black g)) → ((g i : ℕ) → Block n d g → i ≤ lg n → P (tile i g)) → (x : Name) → x among named 2 n d → P x
-each-2 P n d f h x m = at (named-at 2 n d x m)
+pub each-2 : (P : Name → Type 0) (n d : ℕ) → ((g : ℕ) → Block n d g → P (black g)) → ((g i : ℕ) → Block n d g → i ≤ lg n → P (tile i g)) → (x : Name) → x among namesThrough 2 n d → P x
+each-2 P n d f h x m = at (namesThrough-at 2 n d x m)
   where
     part : (g : ℕ) → Block n d g → (i : ℕ) × (i among upFrom 0 (suc (lg n))) × (tile i g ≡ x) → P x
     part g b r = let k = upFrom-bounds 0 (suc (lg n)) (r .0) (r .1) in rw (← (r .2)) (h g (r .0) b (omega arith))
@@ -211,14 +211,14 @@ each-2 P n d f h x m = at (named-at 2 n d x m)
     go g b (inl k) = part g b (Memᴰ·of-map (λ (i : ℕ). tile i g) (upFrom 0 (suc (lg n))) k)
     go g b (inr k) = rw (List·Memᴰ·eq-of-singleton k) (f g b)
 
-    at : (g : ℕ) × (g among days d) × (x among names 2 n g) → P x
+    at : (g : ℕ) × (g among days d) × (x among namesOfDay 2 n g) → P x
     at r =
         let b = upFrom-bounds 1 d (r .0) (r .1) in
         let o = cond-mem (divides n (r .0)) (map (λ (i : ℕ). tile i (r .0)) (upFrom 0 (suc (lg n))) ++ (black (r .0) ∷ [])) (r .2) in
         go (r .0) (record { some = b .0; most = omega arith; whole = o .0 }) (List·Memᴰ·append-cases (map (λ (i : ℕ). tile i (r .0)) (upFrom 0 (suc (lg n)))) (o .1))
 
-pub each-3 : (P : Name → Type 0) (n d : ℕ) → ((g : ℕ) → Block n d g → P (black g)) → ((g l : ℕ) → Block (2 ^ l) d g → P (tree l g)) → (x : Name) → x among named 3 n d → P x
-each-3 P n d f h x m = at (named-at 3 n d x m)
+pub each-3 : (P : Name → Type 0) (n d : ℕ) → ((g : ℕ) → Block n d g → P (black g)) → ((g l : ℕ) → Block (2 ^ l) d g → P (tree l g)) → (x : Name) → x among namesThrough 3 n d → P x
+each-3 P n d f h x m = at (namesThrough-at 3 n d x m)
   where
     part : (g : ℕ) → 1 ≤ g → g ≤ d → (l : ℕ) × (l among levels g) × (tree l g ≡ x) → P x
     part g p q r = rw (← (r .2)) (h g (r .0) (record { some = p; most = q; whole = keep-mem (λ l. divides (2 ^ l) g) (upFrom 0 g) (r .0) (r .1) .1 }))
@@ -231,7 +231,7 @@ each-3 P n d f h x m = at (named-at 3 n d x m)
     go g p q (inl k) = part g p q (Memᴰ·of-map (λ (l : ℕ). tree l g) (levels g) k)
     go g p q (inr k) = last g p q (cond-mem (divides n g && not (storedOnce g)) (black g ∷ []) k)
 
-    at : (g : ℕ) × (g among days d) × (x among names 3 n g) → P x
+    at : (g : ℕ) × (g among days d) × (x among namesOfDay 3 n g) → P x
     at r =
         let b = upFrom-bounds 1 d (r .0) (r .1) in
         go (r .0) (b .0) (omega arith) (List·Memᴰ·append-cases (map (λ (l : ℕ). tree l (r .0)) (levels (r .0))) (r .2))

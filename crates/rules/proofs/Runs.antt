@@ -13,7 +13,7 @@ use lib.Pow.{field, mod-mod-pow}
 use borrow.Author.Tests.{eqb-true, eq-eqb}
 use Rattle.evidence.specs.Evidence.{_among_, has, upFrom, keep, days, Within, meets}
 use Rattle.evidence.proofs.ListLaws.{split, true-or-false, and-both, and-of, mem-has, upFrom-mem, upFrom-bounds, has-keep, keep-append}
-use Rattle.layouts.specs.Layouts.{divides, ending}
+use Rattle.layouts.specs.Layouts.{divides, lastDays}
 use Rattle.rules.specs.Reading.{lastOf}
 use Rattle.layouts.proofs.Coverage.{upFrom-snoc}
 use Rattle.rules.specs.Rules.{every}
@@ -132,20 +132,20 @@ upFrom-append i (suc a) b =
     rw (e, f) (ap (λ (r : List ℕ). i ∷ r) (upFrom-append (suc i) a b))
 
 -- the a + b days that end at g: a days, then b days
-pub ending-split : (a b g : ℕ) → a + b ≤ g → ending (a + b) g ≡ ending a (g - b) ++ ending b g
-ending-split a b g l =
+pub lastDays-split : (a b g : ℕ) → a + b ≤ g → lastDays (a + b) g ≡ lastDays a (g - b) ++ lastDays b g
+lastDays-split a b g l =
     let e : suc (g - b - a) ≡ suc (g - (a + b)) = omega arith in
     let f : suc (g - (a + b)) + a ≡ suc (g - b) = omega arith in
-    upFrom-append (suc (g - (a + b))) a b ∙ ap (λ (x : ℕ). upFrom (suc (g - (a + b))) a ++ upFrom x b) f ∙ ap (λ (x : ℕ). upFrom x a ++ ending b g) (sym e)
+    upFrom-append (suc (g - (a + b))) a b ∙ ap (λ (x : ℕ). upFrom (suc (g - (a + b))) a ++ upFrom x b) f ∙ ap (λ (x : ℕ). upFrom x a ++ lastDays b g) (sym e)
 
-pub ending-days : (g : ℕ) → ending g g ≡ days g
-ending-days g = let e : suc (g - g) ≡ 1 = omega arith in ap (λ (x : ℕ). upFrom x g) e
+pub lastDays-days : (g : ℕ) → lastDays g g ≡ days g
+lastDays-days g = let e : suc (g - g) ≡ 1 = omega arith in ap (λ (x : ℕ). upFrom x g) e
 
-pub ending-bounds : (k g x : ℕ) → k ≤ g → x among ending k g → (g - k < x) × (x ≤ g)
-ending-bounds k g x l m = let b = upFrom-bounds (suc (g - k)) k x m in (omega arith, omega arith)
+pub lastDays-bounds : (k g x : ℕ) → k ≤ g → x among lastDays k g → (g - k < x) × (x ≤ g)
+lastDays-bounds k g x l m = let b = upFrom-bounds (suc (g - k)) k x m in (omega arith, omega arith)
 
-pub ending-mem : (k g x : ℕ) → k ≤ g → g - k < x → x ≤ g → x among ending k g
-ending-mem k g x l a b = upFrom-mem (suc (g - k)) k x a (omega arith)
+pub lastDays-mem : (k g x : ℕ) → k ≤ g → g - k < x → x ≤ g → x among lastDays k g
+lastDays-mem k g x l a b = upFrom-mem (suc (g - k)) k x a (omega arith)
 
 pub days-bounds : (d g : ℕ) → g among days d → (1 ≤ g) × (g ≤ d)
 days-bounds d g m = let b = upFrom-bounds 1 d g m in (omega arith, omega arith)

@@ -4,7 +4,7 @@ use mathlib.Core.List.{List, [], _∷_}
 use Prim.Native.Nat.{ℕ, pred, _-_, _*_, _^_, max}
 use lib.Dec.{eqb}
 use Rattle.evidence.specs.Evidence.{keep, days}
-use Rattle.layouts.specs.Layouts.{divides, Name, black, tile, tree, named}
+use Rattle.layouts.specs.Layouts.{divides, Name, black, tile, tree, namesThrough}
 
 -- the first of the listed days, 0 if there is none
 abbrev pub firstOf : List ℕ → ℕ
@@ -33,4 +33,4 @@ lastOf none (g ∷ gs) = lastOf g gs
 
 -- 01's last good: the last day whose black value passes, else 0
 unfoldable pub lastGood : ℕ → ℕ → ℕ → List ℕ → ℕ
-lastGood scheme n d table = lastOf 0 (keep (λ g. divides n g && blackPasses g (named scheme n d) table) (days d))
+lastGood scheme n d table = lastOf 0 (keep (λ g. divides n g && blackPasses g (namesThrough scheme n d) table) (days d))

@@ -111,9 +111,9 @@ unfoldable pub bitsRule : (ℕ → Bool) → ℕ → ℕ → Bool
 bitsRule p l x = every (bitRule p x) (upFrom 0 l)
 
 -- a day is listed
-unfoldable pub local : ℕ → ℕ → List ℕ → ℕ → Bool
-local zero n t day = false
-local (suc zero) n t day = not (passes 1 n t (black (endOf n day)))
-local (suc (suc zero)) n t day = not (passes 2 n t (tile 0 (endOf n day))) && bitsRule (tileBit n t (endOf n day)) (lg n) (pred day)
-local (suc (suc (suc zero))) n t day = not (passes 3 n t (tree 0 day))
-local (suc (suc (suc (suc s)))) n t day = false
+unfoldable pub isListed : ℕ → ℕ → List ℕ → ℕ → Bool
+isListed zero n t day = false
+isListed (suc zero) n t day = not (passes 1 n t (black (endOf n day)))
+isListed (suc (suc zero)) n t day = not (passes 2 n t (tile 0 (endOf n day))) && bitsRule (tileBit n t (endOf n day)) (lg n) (pred day)
+isListed (suc (suc (suc zero))) n t day = not (passes 3 n t (tree 0 day))
+isListed (suc (suc (suc (suc s)))) n t day = false

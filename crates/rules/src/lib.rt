@@ -223,7 +223,7 @@ fn level_rules(n: u32, d: u32, t: &[u8]) -> bool
     true
 }
 
-pub fn hold(scheme: u32, n: u32, d: u32, t: &[u8]) -> bool
+pub fn accepts(scheme: u32, n: u32, d: u32, t: &[u8]) -> bool
     requires { ⌜ Table scheme n d (now t) ⌝ }
     ensures { λ r. ⌜ r ≡ rule.rules scheme n d (now (t .entry)) ⌝ }
 {

@@ -10,7 +10,7 @@ use lib.ListN.{length, take, drop, length-append, length-drop}
 use borrow.Author.Tests.{leb-true, le-leb, lt-ltb, lt-leb}
 use borrow.Rule.Slice.PartMut.{midOf, putMid}
 use Rattle.evidence.specs.Evidence.{values}
-use Rattle.layouts.specs.Layouts.{bookLimit, allowedScheme, allowedN, allowedD, unless, orElse, setupRefusal, layoutRefusal, chains, closing}
+use Rattle.layouts.specs.Layouts.{bookLimit, allowedScheme, allowedN, allowedD, unless, orElse, setupRefusal, layoutRefusal, chains, chainsOfDay}
 use Rattle.layouts.proofs.AllowedLaws.{unless-zero, or-else-zero, layout-is, allowed-d-is, Setup, Days}
 use Rattle.layouts.proofs.Coverage.{chains-front, chains-suc}
 use Rattle.ledger.specs.Ledger.{dayLimit, startOf, endOf, dayAt, daysOf, endsRefusal, EndsHold}
@@ -128,15 +128,15 @@ module _ (s n f d : ℕ) (ledger ends old : List ℕ) (ok : Taken s n f d ends (
     abbrev j′ : Journal
     j′ = record { entries = E i; day = day }
 
-    more : bookOf s n (E (suc i)) ≡ bookOf s n (E i) ++ values sha256 (start s n) (E i ++ (day ∷ [])) (closing s n (suc (length (E i))))
+    more : bookOf s n (E (suc i)) ≡ bookOf s n (E i) ++ values sha256 (start s n) (E i ++ (day ∷ [])) (chainsOfDay s n (suc (length (E i))))
     more = ap (bookOf s n) (days-snoc ledger ends i) ∙ book-suc s n (E i) day
 
-    values-count : length (bookOf s n (E (suc i))) ≡ length (bookOf s n (E i)) + 32 * length (closing s n (suc (length (E i))))
+    values-count : length (bookOf s n (E (suc i))) ≡ length (bookOf s n (E i)) + 32 * length (chainsOfDay s n (suc (length (E i))))
     values-count =
         let a = count-through i in
         let b = count-through (suc i) in
-        let e : length (closing s n (suc (length (E i)))) ≡ length (closing s n (suc i)) = ap (λ (x : ℕ). length (closing s n (suc x))) (days-length ledger ends i) in
-        let c : length (chains s n (suc i)) ≡ length (chains s n i) + length (closing s n (suc i)) = ap length (chains-suc s n i) ∙ length-append (chains s n i) (closing s n (suc i)) in
+        let e : length (chainsOfDay s n (suc (length (E i)))) ≡ length (chainsOfDay s n (suc i)) = ap (λ (x : ℕ). length (chainsOfDay s n (suc x))) (days-length ledger ends i) in
+        let c : length (chains s n (suc i)) ≡ length (chains s n i) + length (chainsOfDay s n (suc i)) = ap length (chains-suc s n i) ∙ length-append (chains s n i) (chainsOfDay s n (suc i)) in
         omega arith
 
     days-left : ltb (length (E i)) bookLimit ≡ true
@@ -150,8 +150,8 @@ module _ (s n f d : ℕ) (ledger ends old : List ℕ) (ok : Taken s n f d ends (
     close-ok : refusalOf s n j′ (closes (length (midOf at (length book - at) book))) ≡ 0
     close-ok =
         let b = below (suc i) h in
-        let l : 32 * length (closing s n (suc (length (E i)))) ≤ length (midOf at (length book - at) book) = rw part-is (omega (arith, values-count, t .at-is, length-drop at old, t .same-length)) in
-        rw (days-left, le-leb (32 * length (closing s n (suc (length (E i))))) (length (midOf at (length book - at) book)) l)
+        let l : 32 * length (chainsOfDay s n (suc (length (E i)))) ≤ length (midOf at (length book - at) book) = rw part-is (omega (arith, values-count, t .at-is, length-drop at old, t .same-length)) in
+        rw (days-left, le-leb (32 * length (chainsOfDay s n (suc (length (E i))))) (length (midOf at (length book - at) book)) l)
 
     added-keeps : Keeps s n f j′ (added r day .state)
     added-keeps = taken-add s n f (ok .setup) j r (t .keeps) day add-ok
@@ -164,20 +164,20 @@ module _ (s n f d : ℕ) (ledger ends old : List ℕ) (ok : Taken s n f d ends (
         c-is : c ≡ closed (added r day .state) (length (midOf at (length book - at) book))
         c-is = ec ∙ ap (λ (x : List ℕ). closed (added r x .state) (length (midOf at (length book - at) book))) eb
 
-        count-is : k ≡ length (closing s n (suc (length (E i))))
+        count-is : k ≡ length (chainsOfDay s n (suc (length (E i))))
         count-is = ek ∙ ap (λ (x : Closed). countOf (x .answer)) c-is ∙ taken-count s n f (ok .setup) j′ (added r day .state) added-keeps (midOf at (length book - at) book) close-ok
 
-        y-is : y ≡ values sha256 (start s n) (E i ++ (day ∷ [])) (closing s n (suc (length (E i)))) ++ drop (32 * k) (midOf at (length book - at) book)
+        y-is : y ≡ values sha256 (start s n) (E i ++ (day ∷ [])) (chainsOfDay s n (suc (length (E i)))) ++ drop (32 * k) (midOf at (length book - at) book)
         y-is =
             ey ∙ ap (λ (x : List ℕ). written (added r x .state) (midOf at (length book - at) book)) eb ∙
             taken-writes s n f (ok .setup) j′ (added r day .state) added-keeps (midOf at (length book - at) book) close-ok ∙
             ap
-            (λ (x : ℕ). values sha256 (start s n) (E i ++ (day ∷ [])) (closing s n (suc (length (E i)))) ++ drop (32 * x) (midOf at (length book - at) book))
+            (λ (x : ℕ). values sha256 (start s n) (E i ++ (day ∷ [])) (chainsOfDay s n (suc (length (E i)))) ++ drop (32 * x) (midOf at (length book - at) book))
             (sym count-is)
 
         put : putMid at (length book - at) book y ≡ bookOf s n (E (suc i)) ++ drop (at + 32 * k) old
         put =
-            lent-put (bookOf s n (E i)) old book at (t .book-is) (sym (t .at-is)) (t .same-length) y (values sha256 (start s n) (E i ++ (day ∷ [])) (closing s n (suc (length (E i))))) (32 * k) y-is ∙
+            lent-put (bookOf s n (E i)) old book at (t .book-is) (sym (t .at-is)) (t .same-length) y (values sha256 (start s n) (E i ++ (day ∷ [])) (chainsOfDay s n (suc (length (E i))))) (32 * k) y-is ∙
             ap (λ (x : List ℕ). x ++ drop (at + 32 * k) old) (sym more)
 
         after : Through s n f ledger ends old (suc i) (at + 32 * k) (c .state) (putMid at (length book - at) book y)

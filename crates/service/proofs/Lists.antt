@@ -11,7 +11,7 @@ use lib.Seq.{take-at}
 use borrow.Author.Tests.{eqb-true, eq-eqb, leb-true, le-leb, ltb-true}
 use Rattle.evidence.specs.Evidence.{digest, values}
 use Rattle.evidence.proofs.ListLaws.{split}
-use Rattle.layouts.specs.Layouts.{bookLimit, unless, orElse, setupRefusal, closing}
+use Rattle.layouts.specs.Layouts.{bookLimit, unless, orElse, setupRefusal, chainsOfDay}
 use Rattle.layouts.proofs.AllowedLaws.{unless-zero, or-else-zero, setup-is}
 use Rattle.ledger.specs.Ledger.{dayLimit}
 use Rattle.sha256.specs.Sha256.{sha256, hashed, bytesOf}
@@ -108,13 +108,13 @@ module _ (s n f : ℕ) (setup : setupRefusal s n f ≡ 0) where
     room-left size e =
         ltb-true (length (j .entries)) bookLimit
         (unless-zero (ltb (length (j .entries)) bookLimit) 4
-        (or-else-zero (unless (ltb (length (j .entries)) bookLimit) 5) (unless (leb (32 * length (closing s n (suc (length (j .entries))))) size) 8) e .0))
+        (or-else-zero (unless (ltb (length (j .entries)) bookLimit) 5) (unless (leb (32 * length (chainsOfDay s n (suc (length (j .entries))))) size) 8) e .0))
 
-    enough : (size : ℕ) → refusalOf s n j (closes size) ≡ 0 → 32 * length (closing s n (suc (length (j .entries)))) ≤ size
+    enough : (size : ℕ) → refusalOf s n j (closes size) ≡ 0 → 32 * length (chainsOfDay s n (suc (length (j .entries)))) ≤ size
     enough size e =
-        leb-true (32 * length (closing s n (suc (length (j .entries))))) size
-        (unless-zero (leb (32 * length (closing s n (suc (length (j .entries))))) size) 7
-        (or-else-zero (unless (ltb (length (j .entries)) bookLimit) 5) (unless (leb (32 * length (closing s n (suc (length (j .entries))))) size) 8) e .1))
+        leb-true (32 * length (chainsOfDay s n (suc (length (j .entries))))) size
+        (unless-zero (leb (32 * length (chainsOfDay s n (suc (length (j .entries))))) size) 7
+        (or-else-zero (unless (ltb (length (j .entries)) bookLimit) 5) (unless (leb (32 * length (chainsOfDay s n (suc (length (j .entries))))) size) 8) e .1))
 
     -- a close that is taken
     keeps-closed : (size : ℕ) → refusalOf s n j (closes size) ≡ 0 → Keeps s n f (entered j (closes size)) (nextDay r)
@@ -137,7 +137,7 @@ module _ (s n f : ℕ) (setup : setupRefusal s n f ≡ 0) where
         }
 
     -- what it writes
-    day-bytes-are : (size : ℕ) → refusalOf s n j (closes size) ≡ 0 → dayBytes r ≡ values sha256 (start s n) (j .entries ++ (j .day ∷ [])) (closing s n (suc (length (j .entries))))
+    day-bytes-are : (size : ℕ) → refusalOf s n j (closes size) ≡ 0 → dayBytes r ≡ values sha256 (start s n) (j .entries ++ (j .day ∷ [])) (chainsOfDay s n (suc (length (j .entries))))
     unfolding dayBytes
     day-bytes-are size e =
         rw (k .scheme-is, k .n-is, k .days-are)
@@ -197,12 +197,12 @@ module _ (s n f : ℕ) (setup : setupRefusal s n f ≡ 0) where
 
   -- the values of the day stand at the front of the part
   front-is : (j : Journal) (r : Record) → Keeps s n f j r → (part : List ℕ) → refusalOf s n j (closes (length part)) ≡ 0 →
-      take (32 * length (closing (r .scheme) (r .n) (suc (r .days)))) (dayBytes r ++ drop (length (dayBytes r)) part) ≡ dayBytes r
+      take (32 * length (chainsOfDay (r .scheme) (r .n) (suc (r .days)))) (dayBytes r ++ drop (length (dayBytes r)) part) ≡ dayBytes r
   front-is j r k part e =
       let b = day-bytes-are s n f setup j r k (length part) e in
-      let l : length (dayBytes r) ≡ 32 * length (closing (r .scheme) (r .n) (suc (r .days))) =
-      ap length b ∙ values-of-length s n (j .entries ++ (j .day ∷ [])) (closing s n (suc (length (j .entries)))) ∙ rw (k .scheme-is, k .n-is, k .days-are) in
-      take-at (dayBytes r) (drop (length (dayBytes r)) part) (32 * length (closing (r .scheme) (r .n) (suc (r .days)))) l
+      let l : length (dayBytes r) ≡ 32 * length (chainsOfDay (r .scheme) (r .n) (suc (r .days))) =
+      ap length b ∙ values-of-length s n (j .entries ++ (j .day ∷ [])) (chainsOfDay s n (suc (length (j .entries)))) ∙ rw (k .scheme-is, k .n-is, k .days-are) in
+      take-at (dayBytes r) (drop (length (dayBytes r)) part) (32 * length (chainsOfDay (r .scheme) (r .n) (suc (r .days)))) l
 
   after-close : (part : List ℕ) (cs : List Call) → Rest cs → (j : Journal) (r : Record) → Keeps s n f j r → (x : ℕ) → refusalOf s n j (closes (length part)) ≡ x → From s n f j r (close part ∷ cs)
   after-close part cs rest j r k zero e =
@@ -263,14 +263,14 @@ module _ (s n f : ℕ) (setup : setupRefusal s n f ≡ 0) (j : Journal) (r : Rec
   pub taken-close : (part : List ℕ) → refusalOf s n j (closes (length part)) ≡ 0 → Keeps s n f (entered j (closes (length part))) (closed r (length part) .state)
   taken-close part e = rw (closed-is r (length part) 0 (close-same s n f setup j r k (length part) ∙ e)) (keeps-closed s n f setup j r k (length part) e)
 
-  pub taken-count : (part : List ℕ) → refusalOf s n j (closes (length part)) ≡ 0 → countOf (closed r (length part) .answer) ≡ length (closing s n (suc (length (j .entries))))
+  pub taken-count : (part : List ℕ) → refusalOf s n j (closes (length part)) ≡ 0 → countOf (closed r (length part) .answer) ≡ length (chainsOfDay s n (suc (length (j .entries))))
   taken-count part e = rw (closed-is r (length part) 0 (close-same s n f setup j r k (length part) ∙ e), k .scheme-is, k .n-is, k .days-are)
 
   pub taken-writes : (part : List ℕ) → refusalOf s n j (closes (length part)) ≡ 0 →
-      written r part ≡ values sha256 (start s n) (j .entries ++ (j .day ∷ [])) (closing s n (suc (length (j .entries)))) ++ drop (32 * length (closing s n (suc (length (j .entries))))) part
+      written r part ≡ values sha256 (start s n) (j .entries ++ (j .day ∷ [])) (chainsOfDay s n (suc (length (j .entries)))) ++ drop (32 * length (chainsOfDay s n (suc (length (j .entries))))) part
   taken-writes part e =
       let b = day-bytes-are s n f setup j r k (length part) e in
-      let l : length (dayBytes r) ≡ 32 * length (closing s n (suc (length (j .entries)))) = ap length b ∙ values-of-length s n (j .entries ++ (j .day ∷ [])) (closing s n (suc (length (j .entries)))) in
+      let l : length (dayBytes r) ≡ 32 * length (chainsOfDay s n (suc (length (j .entries)))) = ap length b ∙ values-of-length s n (j .entries ++ (j .day ∷ [])) (chainsOfDay s n (suc (length (j .entries)))) in
       written-is r part 0 (close-same s n f setup j r k (length part) ∙ e) ∙ ap₂ (λ (x : List ℕ) (y : ℕ). x ++ drop y part) b l
 
 pub keeps-open : (s n f : ℕ) → setupRefusal s n f ≡ 0 → Keeps s n f empty (opened s n f .state)

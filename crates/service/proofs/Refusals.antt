@@ -9,12 +9,12 @@ use lib.Dec.{eqb, leb, ltb}
 use lib.ListN.{length, take, drop}
 use borrow.Author.Tests.{eqb-true, eq-eqb, ne-eqb, leb-true, leb-false, le-leb, lt-leb, ltb-true, lt-ltb, le-ltb}
 use Rattle.evidence.proofs.ListLaws.{split, true-or-false, and-both}
-use Rattle.layouts.specs.Layouts.{bookLimit, allowedScheme, allowedN, unless, orElse, setupRefusal, names, closing}
+use Rattle.layouts.specs.Layouts.{bookLimit, allowedScheme, allowedN, unless, orElse, setupRefusal, namesOfDay, chainsOfDay}
 use Rattle.layouts.proofs.AllowedLaws.{unless-zero, or-else-zero, setup-is}
 use Rattle.chains.specs.declared.Value.{Value}
 use Rattle.chains.specs.declared.DayStep.{DayStep}
 use Rattle.chains.specs.Step.{startValue, linked, linkedSlots, dayValues, Stepped, valueBytes}
-use Rattle.chains.proofs.Values.{day-few, closing-length}
+use Rattle.chains.proofs.Values.{day-few, chainsOfDay-length}
 use Rattle.hasher.specs.declared.Hasher.{Hasher}
 use Rattle.hasher.specs.Hasher.{begun}
 use Rattle.ledger.specs.Ledger.{dayLimit}
@@ -137,7 +137,7 @@ module _ (r : Record) (size : ℕ) {x : ℕ} (e : x ≡ recordRefusal r) (z : x 
   unfolding closeRefusal
   close-5 h = rw (← e, z, le-ltb (r .days) 65536 h)
 
-  module _ (k need : ℕ) (count : k ≡ length (closing (r .scheme) (r .n) (suc (r .days)))) (bytes : need ≡ 32 * k) where
+  module _ (k need : ℕ) (count : k ≡ length (chainsOfDay (r .scheme) (r .n) (suc (r .days)))) (bytes : need ≡ 32 * k) where
     pub close-8 : r .days < 65536 → size < need → 8 ≡ closeRefusal r size
     unfolding closeRefusal
     close-8 h l = rw (← e, z, lt-ltb (r .days) 65536 h, ← count, lt-leb (32 * k) size (omega arith))
@@ -150,12 +150,12 @@ module _ (r : Record) (size : ℕ) {x : ℕ} (e : x ≡ recordRefusal r) (z : x 
 pub record CloseTaken (r : Record) (size : ℕ) : Type 0 where
   pub record-ok : recordRefusal r ≡ 0
   pub days-left : r .days < 65536
-  pub room : 32 * length (closing (r .scheme) (r .n) (suc (r .days))) ≤ size
+  pub room : 32 * length (chainsOfDay (r .scheme) (r .n) (suc (r .days))) ≤ size
 
 pub close-taken : (r : Record) (size : ℕ) → closeRefusal r size ≡ 0 → CloseTaken r size
 unfolding closeRefusal
 close-taken r size e =
-    let need = 32 * length (closing (r .scheme) (r .n) (suc (r .days))) in
+    let need = 32 * length (chainsOfDay (r .scheme) (r .n) (suc (r .days))) in
     let a = or-else-zero (recordRefusal r) (orElse (unless (ltb (r .days) bookLimit) 5) (unless (leb need size) 8)) e in
     let b = or-else-zero (unless (ltb (r .days) bookLimit) 5) (unless (leb need size) 8) (a .1) in
     record {
@@ -181,13 +181,13 @@ pub day-allowed : (r : Record) → setupRefusal (r .scheme) (r .n) (r .f) ≡ 0 
 day-allowed r e h = let u = setup-is (r .scheme) (r .n) (r .f) e in (u .scheme-ok, u .n-ok, omega arith, omega arith)
 
 -- how many values it has
-pub day-count : (r : Record) {k : ℕ} → setupRefusal (r .scheme) (r .n) (r .f) ≡ 0 → r .days < 65536 → k ≡ length (closing (r .scheme) (r .n) (r .days + 1)) →
-    (k ≤ 17) × (k ≡ length (closing (r .scheme) (r .n) (suc (r .days))))
+pub day-count : (r : Record) {k : ℕ} → setupRefusal (r .scheme) (r .n) (r .f) ≡ 0 → r .days < 65536 → k ≡ length (chainsOfDay (r .scheme) (r .n) (r .days + 1)) →
+    (k ≤ 17) × (k ≡ length (chainsOfDay (r .scheme) (r .n) (suc (r .days))))
 day-count r {k} e h q =
     let u = setup-is (r .scheme) (r .n) (r .f) e in
     let w = day-few (r .scheme) (r .n) (suc (r .days)) (u .scheme-ok) (u .n-ok) (omega arith) (omega arith) in
-    let v : k ≡ length (closing (r .scheme) (r .n) (suc (r .days))) = q ∙ ap (λ (x : ℕ). length (closing (r .scheme) (r .n) x)) (add-one (r .days)) in
-    (omega (arith, closing-length (r .scheme) (r .n) (suc (r .days))), v)
+    let v : k ≡ length (chainsOfDay (r .scheme) (r .n) (suc (r .days))) = q ∙ ap (λ (x : ℕ). length (chainsOfDay (r .scheme) (r .n) x)) (add-one (r .days)) in
+    (omega (arith, chainsOfDay-length (r .scheme) (r .n) (suc (r .days))), v)
 
 pub setup-of : (r : Record) {x : ℕ} → x ≡ recordRefusal r → x ≡ 0 → setupRefusal (r .scheme) (r .n) (r .f) ≡ 0
 setup-of r e z = taken r (sym e ∙ z) .setup
@@ -204,10 +204,10 @@ unfolding dayBytes
 step-bytes r d s = ap valueBytes (s .values-are) ∙ ap (λ (g : ℕ). valueBytes (dayValues (r .scheme) (r .n) g (linked (r .black) (digestOf r)) (linkedSlots (r .scheme) (r .n) g (digestOf r) (r .running)))) (add-one (r .days))
 
 pub step-count : (r : Record) (d : DayStep) → Stepped (r .scheme) (r .n) (r .days + 1) (startValue (r .scheme) (r .n)) (r .black) (r .running) (digestOf r) d →
-    d .count ≡ length (closing (r .scheme) (r .n) (suc (r .days)))
-step-count r d s = s .count-is ∙ ap (λ (g : ℕ). length (names (r .scheme) (r .n) g)) (add-one (r .days)) ∙ sym (closing-length (r .scheme) (r .n) (suc (r .days)))
+    d .count ≡ length (chainsOfDay (r .scheme) (r .n) (suc (r .days)))
+step-count r d s = s .count-is ∙ ap (λ (g : ℕ). length (namesOfDay (r .scheme) (r .n) g)) (add-one (r .days)) ∙ sym (chainsOfDay-length (r .scheme) (r .n) (suc (r .days)))
 
-pub closed-yes : (r : Record) (size : ℕ) {x k : ℕ} {z : Record} → x ≡ closeRefusal r size → x ≡ 0 → k ≡ length (closing (r .scheme) (r .n) (suc (r .days))) → z ≡ nextDay r →
+pub closed-yes : (r : Record) (size : ℕ) {x k : ℕ} {z : Record} → x ≡ closeRefusal r size → x ≡ 0 → k ≡ length (chainsOfDay (r .scheme) (r .n) (suc (r .days))) → z ≡ nextDay r →
     record { answer = writing.Wrote k; state = z } ≡ closed r size
 unfolding closed
 closed-yes r size e h q w = rw (← e, h, q, w)
@@ -229,6 +229,6 @@ write-asks r size d e z s =
     let t = close-taken r size (sym e ∙ z) in
     let u = taken r (t .record-ok) in
     let c = step-count r d s in
-    let v : length (closing (r .scheme) (r .n) (suc (r .days))) ≡ length (closing (r .scheme) (r .n) (r .days + 1)) = ap (λ (g : ℕ). length (closing (r .scheme) (r .n) g)) (sym (add-one (r .days))) in
+    let v : length (chainsOfDay (r .scheme) (r .n) (suc (r .days))) ≡ length (chainsOfDay (r .scheme) (r .n) (r .days + 1)) = ap (λ (g : ℕ). length (chainsOfDay (r .scheme) (r .n) g)) (sym (add-one (r .days))) in
     let k = day-count r (u .setup) (t .days-left) (c ∙ v) .0 in
     (k, omega (arith, t .room))

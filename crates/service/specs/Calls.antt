@@ -8,7 +8,7 @@ use Rattle.chains.specs.declared.Value.{Value}
 use Rattle.chains.specs.Step.{startValue, linked, linkedSlots, restarted, dayValues, valueBytes}
 use Rattle.hasher.specs.declared.Hasher.{Hasher}
 use Rattle.hasher.specs.Hasher.{begun, absorbed, finished}
-use Rattle.layouts.specs.Layouts.{bookLimit, unless, orElse, setupRefusal, closing}
+use Rattle.layouts.specs.Layouts.{bookLimit, unless, orElse, setupRefusal, chainsOfDay}
 use Rattle.ledger.specs.Ledger.{dayLimit}
 use Rattle.service.specs.declared.Record.{Record}
 use Rattle.service.specs.declared.Answer.{Answer}
@@ -103,7 +103,7 @@ added r piece = addedBy (addRefusal r (length piece)) r piece
 -- 01's tests 6 5 8, for a part of size bytes
 unfoldable pub closeRefusal : Record → ℕ → ℕ
 closeRefusal r size =
-    orElse (recordRefusal r) (orElse (unless (ltb (r .days) bookLimit) 5) (unless (leb (32 * length (closing (r .scheme) (r .n) (suc (r .days)))) size) 8))
+    orElse (recordRefusal r) (orElse (unless (ltb (r .days) bookLimit) 5) (unless (leb (32 * length (chainsOfDay (r .scheme) (r .n) (suc (r .days)))) size) 8))
 
 -- the digest of the open day, as words
 abbrev pub digestOf : Record → List ℕ
@@ -133,7 +133,7 @@ nextDay r =
     }
 
 abbrev pub closedBy : ℕ → Record → Closed
-closedBy zero r = record { answer = Wrote (length (closing (r .scheme) (r .n) (suc (r .days)))); state = nextDay r }
+closedBy zero r = record { answer = Wrote (length (chainsOfDay (r .scheme) (r .n) (suc (r .days)))); state = nextDay r }
 closedBy (suc x) r = record { answer = writing.Refused (suc x); state = r }
 
 unfoldable pub closed : Record → ℕ → Closed

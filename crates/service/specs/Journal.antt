@@ -4,7 +4,7 @@ use mathlib.Core.List.{List, [], _∷_, _++_}
 use Prim.Native.Nat.{ℕ, zero, suc, _+_, _*_}
 use lib.Dec.{leb, ltb}
 use lib.ListN.{length}
-use Rattle.layouts.specs.Layouts.{bookLimit, unless, orElse, closing}
+use Rattle.layouts.specs.Layouts.{bookLimit, unless, orElse, chainsOfDay}
 use Rattle.ledger.specs.Ledger.{dayLimit}
 
 -- one entry for each closed day, its bytes; and the open day's bytes
@@ -24,7 +24,7 @@ pub data Argument : Type 0 where
 abbrev pub refusalOf : ℕ → ℕ → Journal → Argument → ℕ
 refusalOf scheme n j (adds piece) = orElse (unless (ltb (length (j .entries)) bookLimit) 5) (unless (leb (length (j .day) + length piece) dayLimit) 4)
 refusalOf scheme n j (closes size) =
-    orElse (unless (ltb (length (j .entries)) bookLimit) 5) (unless (leb (32 * length (closing scheme n (suc (length (j .entries))))) size) 8)
+    orElse (unless (ltb (length (j .entries)) bookLimit) 5) (unless (leb (32 * length (chainsOfDay scheme n (suc (length (j .entries))))) size) 8)
 
 -- the piece goes to the open day's end; the open day becomes the next entry and an empty one opens
 abbrev pub entered : Journal → Argument → Journal

@@ -57,7 +57,7 @@ fn fresh(scheme: u32, n: u32, f: u32) -> Record
     let day = hasher::begin(0);
     let hash = day.words;
     let block = day.block;
-    let first = chains::start(scheme, n);
+    let start = chains::start(scheme, n);
     Record {
         scheme,
         n,
@@ -66,8 +66,8 @@ fn fresh(scheme: u32, n: u32, f: u32) -> Record
         bytes: 0,
         hash,
         block,
-        black: first,
-        running: [first; 17],
+        black: start,
+        running: [start; 17],
     }
 }
 
@@ -235,14 +235,14 @@ fn day_step(state: Record) -> DayStep
     ensures { λ r. ⌜ Stepped (state .scheme) (state .n) (state .days + 1) (startValue (state .scheme) (state .n)) (state .black) (state .running) (spec.digestOf state) r ⌝ }
 {
     let h = digest_of(state);
-    let first = chains::start(state.scheme, state.n);
+    let start = chains::start(state.scheme, state.n);
     let black = state.black;
     let running = state.running;
     chains::step(
         state.scheme,
         state.n,
         state.days + 1,
-        first,
+        start,
         black,
         running,
         h,

@@ -5,27 +5,27 @@ use mathlib.Core.Path.{_≡_, sym, ap, ap₂, _∙_}
 use native.Mathlib.Nat.{add-zero}
 use mathlib.Core.List.{List, [], _∷_}
 use lib.ListN.{getD, set}
-use Rattle.sha256.specs.Sha256.{plus, ch, maj, big0, big1, small0, small1, wordAt, words, first, second, turned, round, summed}
+use Rattle.sha256.specs.Sha256.{add32, ch, maj, bsig0, bsig1, ssig0, ssig1, wordAt, words, t1, t2, turned, round, summed}
 use Rattle.sha256.specs.Window.{mixed, slid, slides, roundsOn}
 
 pub round-of : (v : List ℕ) (k w : ℕ) {x y p q : ℕ}
-    → x ≡ first (getD v 4 0) (getD v 5 0) (getD v 6 0) (getD v 7 0) k w
-    → y ≡ second (getD v 0 0) (getD v 1 0) (getD v 2 0)
-    → p ≡ plus x y
-    → q ≡ plus (getD v 3 0) x
+    → x ≡ t1 (getD v 4 0) (getD v 5 0) (getD v 6 0) (getD v 7 0) k w
+    → y ≡ t2 (getD v 0 0) (getD v 1 0) (getD v 2 0)
+    → p ≡ add32 x y
+    → q ≡ add32 (getD v 3 0) x
     → p ∷ getD v 0 0 ∷ getD v 1 0 ∷ getD v 2 0 ∷ q ∷ getD v 4 0 ∷ getD v 5 0 ∷ getD v 6 0 ∷ [] ≡ round v k w
 unfolding round turned
 round-of v k w hx hy hp hq = cc
 
 pub summed-of : (h v : List ℕ) {a b c d e f g i : ℕ}
-    → a ≡ plus (getD h 0 0) (getD v 0 0)
-    → b ≡ plus (getD h 1 0) (getD v 1 0)
-    → c ≡ plus (getD h 2 0) (getD v 2 0)
-    → d ≡ plus (getD h 3 0) (getD v 3 0)
-    → e ≡ plus (getD h 4 0) (getD v 4 0)
-    → f ≡ plus (getD h 5 0) (getD v 5 0)
-    → g ≡ plus (getD h 6 0) (getD v 6 0)
-    → i ≡ plus (getD h 7 0) (getD v 7 0)
+    → a ≡ add32 (getD h 0 0) (getD v 0 0)
+    → b ≡ add32 (getD h 1 0) (getD v 1 0)
+    → c ≡ add32 (getD h 2 0) (getD v 2 0)
+    → d ≡ add32 (getD h 3 0) (getD v 3 0)
+    → e ≡ add32 (getD h 4 0) (getD v 4 0)
+    → f ≡ add32 (getD h 5 0) (getD v 5 0)
+    → g ≡ add32 (getD h 6 0) (getD v 6 0)
+    → i ≡ add32 (getD h 7 0) (getD v 7 0)
     → a ∷ b ∷ c ∷ d ∷ e ∷ f ∷ g ∷ i ∷ [] ≡ summed h v
 unfolding summed
 summed-of h v ha hb hc hd he hf hg hi = cc
@@ -135,17 +135,17 @@ rounds-of v w k t e1 e2 e3 e4 e5 e6 e7 e8 e9 e10 e11 e12 e13 e14 e15 e16 =
     ∙ ap (λ (u : List ℕ). round u (getD k (t + 2) 0) (getD w 2 0)) (e2
     ∙ ap (λ (u : List ℕ). round u (getD k (t + 1) 0) (getD w 1 0)) (e1 ∙ ap (λ (n : ℕ). round v (getD k n 0) (getD w 0 0)) (sym (add-zero t)))))))))))))))))
 
-pub first-of : (e f g h k w : ℕ) {a b c d x y : ℕ} → a ≡ big1 e → b ≡ plus h a → c ≡ ch e f g → d ≡ plus b c → x ≡ plus d k → y ≡ plus x w
-    → y ≡ first e f g h k w
-unfolding first
-first-of e f g h k w ea eb ec ed ex ey =
-    ey ∙ ap (λ (n : ℕ). plus n w) (ex ∙ ap (λ (n : ℕ). plus n k) (ed ∙ ap₂ plus (eb ∙ ap (plus h) ea) ec))
+pub t1-of : (e f g h k w : ℕ) {a b c d x y : ℕ} → a ≡ bsig1 e → b ≡ add32 h a → c ≡ ch e f g → d ≡ add32 b c → x ≡ add32 d k → y ≡ add32 x w
+    → y ≡ t1 e f g h k w
+unfolding t1
+t1-of e f g h k w ea eb ec ed ex ey =
+    ey ∙ ap (λ (n : ℕ). add32 n w) (ex ∙ ap (λ (n : ℕ). add32 n k) (ed ∙ ap₂ add32 (eb ∙ ap (add32 h) ea) ec))
 
-pub second-of : (a b c : ℕ) {x y z : ℕ} → x ≡ big0 a → y ≡ maj a b c → z ≡ plus x y → z ≡ second a b c
-unfolding second
-second-of a b c ex ey ez = ez ∙ ap₂ plus ex ey
+pub t2-of : (a b c : ℕ) {x y z : ℕ} → x ≡ bsig0 a → y ≡ maj a b c → z ≡ add32 x y → z ≡ t2 a b c
+unfolding t2
+t2-of a b c ex ey ez = ez ∙ ap₂ add32 ex ey
 
-pub mixed-of : (a b c d : ℕ) {x y z u r : ℕ} → x ≡ small1 a → y ≡ plus x b → z ≡ small0 c → u ≡ plus y z → r ≡ plus u d
+pub mixed-of : (a b c d : ℕ) {x y z u r : ℕ} → x ≡ ssig1 a → y ≡ add32 x b → z ≡ ssig0 c → u ≡ add32 y z → r ≡ add32 u d
     → r ≡ mixed a b c d
 unfolding mixed
-mixed-of a b c d ex ey ez eu er = er ∙ ap (λ (n : ℕ). plus n d) (eu ∙ ap₂ plus (ey ∙ ap (λ (n : ℕ). plus n b) ex) ez)
+mixed-of a b c d ex ey ez eu er = er ∙ ap (λ (n : ℕ). add32 n d) (eu ∙ ap₂ add32 (ey ∙ ap (λ (n : ℕ). add32 n b) ex) ez)

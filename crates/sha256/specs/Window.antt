@@ -3,14 +3,14 @@
 use Prim.Native.Nat.{ℕ, zero, suc, _+_, _%_}
 use mathlib.Core.List.{List}
 use lib.ListN.{getD, take, drop, set}
-use Rattle.sha256.specs.Sha256.{plus, small0, small1, round}
+use Rattle.sha256.specs.Sha256.{add32, ssig0, ssig1, round}
 
 -- the sixteen words of w from word t on
 abbrev pub window : List ℕ → ℕ → List ℕ
 window w t = take 16 (drop t w)
 
 unfoldable pub mixed : ℕ → ℕ → ℕ → ℕ → ℕ
-mixed a b c d = plus (plus (plus (small1 a) b) (small0 c)) d
+mixed a b c d = add32 (add32 (add32 (ssig1 a) b) (ssig0 c)) d
 
 -- the window as a ring: word i made the word sixteen on; and so the first n words
 unfoldable pub slid : List ℕ → ℕ → List ℕ

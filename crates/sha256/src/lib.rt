@@ -5,8 +5,8 @@ ghost use lib.ListN.{length};
 ghost use Rattle.sha256.specs.Sha256 as spec;
 ghost use Rattle.sha256.specs.Window as form;
 
-fn plus(a: u32, b: u32) -> u32
-    ensures { λ r. ⌜ r ≡ spec.plus a b ⌝ }
+fn add32(a: u32, b: u32) -> u32
+    ensures { λ r. ⌜ r ≡ spec.add32 a b ⌝ }
 {
     std::num::wrapping_add_u32(a, b)
 }
@@ -24,41 +24,41 @@ fn maj(x: u32, y: u32, z: u32) -> u32
     (x & y) ^ (x & z) ^ (y & z)
 }
 
-fn big0(x: u32) -> u32
-    ensures { λ r. ⌜ r ≡ spec.big0 x ⌝ }
+fn bsig0(x: u32) -> u32
+    ensures { λ r. ⌜ r ≡ spec.bsig0 x ⌝ }
 {
     ((x >> 2) | (x << 30)) ^ ((x >> 13) | (x << 19)) ^ ((x >> 22) | (x << 10))
 }
 
-fn big1(x: u32) -> u32
-    ensures { λ r. ⌜ r ≡ spec.big1 x ⌝ }
+fn bsig1(x: u32) -> u32
+    ensures { λ r. ⌜ r ≡ spec.bsig1 x ⌝ }
 {
     ((x >> 6) | (x << 26)) ^ ((x >> 11) | (x << 21)) ^ ((x >> 25) | (x << 7))
 }
 
-fn small0(x: u32) -> u32
-    ensures { λ r. ⌜ r ≡ spec.small0 x ⌝ }
+fn ssig0(x: u32) -> u32
+    ensures { λ r. ⌜ r ≡ spec.ssig0 x ⌝ }
 {
     ((x >> 7) | (x << 25)) ^ ((x >> 18) | (x << 14)) ^ (x >> 3)
 }
 
-fn small1(x: u32) -> u32
-    ensures { λ r. ⌜ r ≡ spec.small1 x ⌝ }
+fn ssig1(x: u32) -> u32
+    ensures { λ r. ⌜ r ≡ spec.ssig1 x ⌝ }
 {
     ((x >> 17) | (x << 15)) ^ ((x >> 19) | (x << 13)) ^ (x >> 10)
 }
 
 // The terms T1 and T2 of a round.
-fn first(e: u32, f: u32, g: u32, h: u32, k: u32, w: u32) -> u32
-    ensures { λ r. ⌜ r ≡ spec.first e f g h k w ⌝ }
+fn t1(e: u32, f: u32, g: u32, h: u32, k: u32, w: u32) -> u32
+    ensures { λ r. ⌜ r ≡ spec.t1 e f g h k w ⌝ }
 {
-    plus(plus(plus(plus(h, big1(e)), ch(e, f, g)), k), w)
+    add32(add32(add32(add32(h, bsig1(e)), ch(e, f, g)), k), w)
 }
 
-fn second(a: u32, b: u32, c: u32) -> u32
-    ensures { λ r. ⌜ r ≡ spec.second a b c ⌝ }
+fn t2(a: u32, b: u32, c: u32) -> u32
+    ensures { λ r. ⌜ r ≡ spec.t2 a b c ⌝ }
 {
-    plus(big0(a), maj(a, b, c))
+    add32(bsig0(a), maj(a, b, c))
 }
 
 // A byte as a word.
@@ -84,7 +84,7 @@ fn word_at(s: &[u8], i: usize) -> u32
 fn mixed(a: u32, b: u32, c: u32, d: u32) -> u32
     ensures { λ r. ⌜ r ≡ form.mixed a b c d ⌝ }
 {
-    plus(plus(plus(small1(a), b), small0(c)), d)
+    add32(add32(add32(ssig1(a), b), ssig0(c)), d)
 }
 
 // The window of sixteen words as a ring: word i made the word sixteen on.
@@ -124,14 +124,14 @@ fn slides(w: [u32; 16]) -> [u32; 16]
 fn round(v: [u32; 8], k: u32, w: u32) -> [u32; 8]
     ensures { λ r. ⌜ r ≡ spec.round v k w ⌝ }
 {
-    let x = first(v[4], v[5], v[6], v[7], k, w);
-    let y = second(v[0], v[1], v[2]);
+    let x = t1(v[4], v[5], v[6], v[7], k, w);
+    let y = t2(v[0], v[1], v[2]);
     [
-        plus(x, y),
+        add32(x, y),
         v[0],
         v[1],
         v[2],
-        plus(v[3], x),
+        add32(v[3], x),
         v[4],
         v[5],
         v[6],
@@ -143,14 +143,14 @@ fn summed(h: [u32; 8], v: [u32; 8]) -> [u32; 8]
     ensures { λ r. ⌜ r ≡ spec.summed h v ⌝ }
 {
     [
-        plus(h[0], v[0]),
-        plus(h[1], v[1]),
-        plus(h[2], v[2]),
-        plus(h[3], v[3]),
-        plus(h[4], v[4]),
-        plus(h[5], v[5]),
-        plus(h[6], v[6]),
-        plus(h[7], v[7]),
+        add32(h[0], v[0]),
+        add32(h[1], v[1]),
+        add32(h[2], v[2]),
+        add32(h[3], v[3]),
+        add32(h[4], v[4]),
+        add32(h[5], v[5]),
+        add32(h[6], v[6]),
+        add32(h[7], v[7]),
     ]
 }
 

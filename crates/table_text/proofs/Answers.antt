@@ -15,15 +15,15 @@ use Rattle.rules.specs.Reading.{lastGood}
 use Rattle.layouts.proofs.Counts.{length-upFrom}
 use Rattle.rules.proofs.Runs.{keep-length}
 use Rattle.reading.specs.Answers as answer
-use Rattle.reading.specs.Answers.{saidOf, readRefusal, says, listAfter, listedIn, tableIn, found, unlessRefused}
+use Rattle.reading.specs.Answers.{reportOf, readRefusal, reportOn, listAfter, listedIn, tableIn, found, unlessRefused}
 use Rattle.reading.specs.declared.Reading.{Reading}
 use Rattle.reading.specs.declared.Reading.the-variants.{Clean, Changed, Refused}
 use Rattle.reading.specs.declared.Numbers.{Numbers}
-use Rattle.reading.proofs.Said.{says-found, list-found}
+use Rattle.reading.proofs.Report.{reportOn-found, list-found}
 use Rattle.listing.specs.Walks.{Wrote}
 use Rattle.table_text.specs.Text.{digitOf, digits, lastLine, outcomesIn, unlessFormed, formRefusal, extraRefusal, tableRefusal, textRefusal, decimal, line, noLine, dayLines, lines, report, printed, textOf}
 use Rattle.table_text.specs.Fields.{TypedIs, SaidIs}
-use Rattle.table_text.specs.declared.Said.{Said}
+use Rattle.table_text.specs.declared.Report.{Report}
 use Rattle.table_text.specs.declared.Typed.{Typed}
 
 -- ---- extra digits
@@ -44,18 +44,18 @@ module _ (s n f d count : ℕ) where
 
 -- ---- what reading said
 
-pub said-clean : (d : ℕ) {a : Reading} → a ≡ Clean → SaidIs (saidOf d a) (record { refusal = 0; listed = 0; first = 0; low = 0; high = 0; good = d })
-unfolding saidOf
-said-clean d e = rw e (record { refusal-is = refl; listed-is = refl; first-is = refl; low-is = refl; high-is = refl; good-is = refl })
+pub report-clean : (d : ℕ) {a : Reading} → a ≡ Clean → SaidIs (reportOf d a) (record { refusal = 0; listed = 0; first = 0; low = 0; high = 0; last_good = d })
+unfolding reportOf
+report-clean d e = rw e (record { refusal-is = refl; listed-is = refl; first-is = refl; low-is = refl; high-is = refl; good-is = refl })
 
-pub said-changed : (d : ℕ) {a : Reading} {m : Numbers} → a ≡ Changed m →
-    SaidIs (saidOf d a) (record { refusal = 0; listed = m .listed; first = m .first; low = m .low; high = m .high; good = m .good })
-unfolding saidOf
-said-changed d e = rw e (record { refusal-is = refl; listed-is = refl; first-is = refl; low-is = refl; high-is = refl; good-is = refl })
+pub report-changed : (d : ℕ) {a : Reading} {m : Numbers} → a ≡ Changed m →
+    SaidIs (reportOf d a) (record { refusal = 0; listed = m .listed; first = m .first; low = m .low; high = m .high; last_good = m .last_good })
+unfolding reportOf
+report-changed d e = rw e (record { refusal-is = refl; listed-is = refl; first-is = refl; low-is = refl; high-is = refl; good-is = refl })
 
-pub said-refused : (d : ℕ) {a : Reading} {x : ℕ} → a ≡ Refused x → SaidIs (saidOf d a) (record { refusal = x; listed = 0; first = 0; low = 0; high = 0; good = 0 })
-unfolding saidOf
-said-refused d e = rw e (record { refusal-is = refl; listed-is = refl; first-is = refl; low-is = refl; high-is = refl; good-is = refl })
+pub report-refused : (d : ℕ) {a : Reading} {x : ℕ} → a ≡ Refused x → SaidIs (reportOf d a) (record { refusal = x; listed = 0; first = 0; low = 0; high = 0; last_good = 0 })
+unfolding reportOf
+report-refused d e = rw e (record { refusal-is = refl; listed-is = refl; first-is = refl; low-is = refl; high-is = refl; good-is = refl })
 
 -- ---- room for the day lines
 
@@ -94,23 +94,23 @@ days-most s n d o h =
 
 -- ---- a table's answer
 
-found-taken : (n f d : ℕ) (gs : List ℕ) (good : ℕ) → found n f d gs good .refusal ≡ 0
+found-taken : (n f d : ℕ) (gs : List ℕ) (last_good : ℕ) → found n f d gs last_good .refusal ≡ 0
 unfolding found
-found-taken n f d [] good = refl
-found-taken n f d (g ∷ gs) good = refl
+found-taken n f d [] last_good = refl
+found-taken n f d (g ∷ gs) last_good = refl
 
-pub says-refusal : (s n f d : ℕ) (o : List ℕ) (places : ℕ) → says s n f d o places .refusal ≡ readRefusal s n f d o places
-unfolding says
-says-refusal s n f d o places = go (readRefusal s n f d o places)
+pub reportOn-refusal : (s n f d : ℕ) (o : List ℕ) (places : ℕ) → reportOn s n f d o places .refusal ≡ readRefusal s n f d o places
+unfolding reportOn
+reportOn-refusal s n f d o places = go (readRefusal s n f d o places)
   where
     go : (x : ℕ) → unlessRefused x (found n f d (listedIn s n d o) (lastGood s n d (tableIn s n d o))) .refusal ≡ x
     go zero = found-taken n f d (listedIn s n d o) (lastGood s n d (tableIn s n d o))
     go (suc x) = refl
 
-found-listed : (n f d : ℕ) (gs : List ℕ) (good : ℕ) → found n f d gs good .listed ≡ length gs
+found-listed : (n f d : ℕ) (gs : List ℕ) (last_good : ℕ) → found n f d gs last_good .listed ≡ length gs
 unfolding found
-found-listed n f d [] good = refl
-found-listed n f d (g ∷ gs) good = refl
+found-listed n f d [] last_good = refl
+found-listed n f d (g ∷ gs) last_good = refl
 
 pub printed-no : (x y : ℕ) (L : List ℕ) → x ≡ y → (x ≡ 0 → ⊥) → printed y L ≡ noLine x
 printed-no zero y L e h = absurd (h refl)
@@ -121,13 +121,13 @@ unfolding tableRefusal
 table-early s n f d o L zero e h = absurd (h refl)
 table-early s n f d o L (suc x) e h = rw (← e)
 
-module _ (s n f d : ℕ) (o l : List ℕ) {x : ℕ} {a : answer.Said} {r : Said} (e : x ≡ extraRefusal s n f d (length o)) (z : x ≡ 0) (size : length l ≡ 256)
-    (h : a ≡ says s n f d o (length l)) (k : SaidIs a r) where
-  said-is : a ≡ says s n f d o 256
-  said-is = h ∙ ap (says s n f d o) size
+module _ (s n f d : ℕ) (o l : List ℕ) {x : ℕ} {a : answer.Report} {r : Report} (e : x ≡ extraRefusal s n f d (length o)) (z : x ≡ 0) (size : length l ≡ 256)
+    (h : a ≡ reportOn s n f d o (length l)) (k : SaidIs a r) where
+  report-is : a ≡ reportOn s n f d o 256
+  report-is = h ∙ ap (reportOn s n f d o) size
 
   refusal-is : r .refusal ≡ readRefusal s n f d o 256
-  refusal-is = k .refusal-is ∙ ap (λ (y : answer.Said). y .refusal) said-is ∙ says-refusal s n f d o 256
+  refusal-is = k .refusal-is ∙ ap (λ (y : answer.Report). y .refusal) report-is ∙ reportOn-refusal s n f d o 256
 
   table-refusal : tableRefusal s n f d o ≡ readRefusal s n f d o 256
   unfolding tableRefusal
@@ -142,7 +142,7 @@ module _ (s n f d : ℕ) (o l : List ℕ) {x : ℕ} {a : answer.Said} {r : Said}
 
     listed-is : r .listed ≡ length (listedIn s n d o)
     listed-is =
-        k .listed-is ∙ ap (λ (y : answer.Said). y .listed) (said-is ∙ says-found s n f d o 256 taken) ∙
+        k .listed-is ∙ ap (λ (y : answer.Report). y .listed) (report-is ∙ reportOn-found s n f d o 256 taken) ∙
         found-listed n f d (listedIn s n d o) (lastGood s n d (tableIn s n d o))
 
     list-is : m ≡ listedIn s n d o ++ drop (length (listedIn s n d o)) l
@@ -162,12 +162,12 @@ module _ (s n f d : ℕ) (o l : List ℕ) {x : ℕ} {a : answer.Said} {r : Said}
     pub part-room : (size : ℕ) → d ≤ 256 → 2048 ≤ size → 85 + length (dayLines (take (r .listed) m)) ≤ size
     part-room size b c = rw part-is (let y = days-most s n d o b in omega arith)
 
-    pub table-read : printed (tableRefusal s n f d o) (report s n f d o) ≡ lines s (r .listed) (r .first) (r .low) (r .high) (r .good) (take (r .listed) m)
+    pub table-read : printed (tableRefusal s n f d o) (report s n f d o) ≡ lines s (r .listed) (r .first) (r .low) (r .high) (r .last_good) (take (r .listed) m)
     unfolding report
     table-read =
-        let p : a ≡ says s n f d o 256 = said-is in
+        let p : a ≡ reportOn s n f d o 256 = report-is in
         ap (λ (y : ℕ). printed y (report s n f d o)) (table-refusal ∙ taken) ∙ sym (
-        ap (λ (y : List ℕ). lines s (r .listed) (r .first) (r .low) (r .high) (r .good) y) part-is ∙
+        ap (λ (y : List ℕ). lines s (r .listed) (r .first) (r .low) (r .high) (r .last_good) y) part-is ∙
         rw (k .listed-is, k .first-is, k .low-is, k .high-is, k .good-is, p)
         )
 

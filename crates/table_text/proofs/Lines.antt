@@ -182,15 +182,15 @@ days-done at i r xs l m h w = wrote-as (dayLines xs) (ap dayLines (sym (take-all
 
 -- ---- the report
 
-module _ (scheme listed first low high good : ℕ) (xs l : List ℕ) where
+module _ (scheme listed first low high last_good : ℕ) (xs l : List ℕ) where
   pub ref-room : (m : List ℕ) (r n : ℕ) → 85 + length (dayLines xs) ≤ length l → n ≡ length l →
-      Wrote 0 (line (82 ∷ 69 ∷ 70 ∷ []) (scheme ∷ listed ∷ first ∷ low ∷ high ∷ good ∷ [])) l r m → r + (length (dayLines xs) + 15) ≤ n
-  ref-room m r n h e w = let f = line-few (82 ∷ 69 ∷ 70 ∷ []) (scheme ∷ listed ∷ first ∷ low ∷ high ∷ good ∷ []) in omega (arith, w .count)
+      Wrote 0 (line (82 ∷ 69 ∷ 70 ∷ []) (scheme ∷ listed ∷ first ∷ low ∷ high ∷ last_good ∷ [])) l r m → r + (length (dayLines xs) + 15) ≤ n
+  ref-room m r n h e w = let f = line-few (82 ∷ 69 ∷ 70 ∷ []) (scheme ∷ listed ∷ first ∷ low ∷ high ∷ last_good ∷ []) in omega (arith, w .count)
 
-  pub ref-put : (m k : List ℕ) (r t : ℕ) → 85 + length (dayLines xs) ≤ length l → Wrote 0 (line (82 ∷ 69 ∷ 70 ∷ []) (scheme ∷ listed ∷ first ∷ low ∷ high ∷ good ∷ [])) l r m →
-      Wrote r (dayLines xs) m t k → Wrote 0 (lines scheme listed first low high good xs) l t k
+  pub ref-put : (m k : List ℕ) (r t : ℕ) → 85 + length (dayLines xs) ≤ length l → Wrote 0 (line (82 ∷ 69 ∷ 70 ∷ []) (scheme ∷ listed ∷ first ∷ low ∷ high ∷ last_good ∷ [])) l r m →
+      Wrote r (dayLines xs) m t k → Wrote 0 (lines scheme listed first low high last_good xs) l t k
   unfolding lines refLine
   ref-put m k r t h w v =
-      let L : List ℕ = line (82 ∷ 69 ∷ 70 ∷ []) (scheme ∷ listed ∷ first ∷ low ∷ high ∷ good ∷ []) in
-      let f = line-few (82 ∷ 69 ∷ 70 ∷ []) (scheme ∷ listed ∷ first ∷ low ∷ high ∷ good ∷ []) in
+      let L : List ℕ = line (82 ∷ 69 ∷ 70 ∷ []) (scheme ∷ listed ∷ first ∷ low ∷ high ∷ last_good ∷ []) in
+      let f = line-few (82 ∷ 69 ∷ 70 ∷ []) (scheme ∷ listed ∷ first ∷ low ∷ high ∷ last_good ∷ []) in
       wrote-join 0 (L ++ dayLines xs) L (dayLines xs) l m k r t refl (omega (arith, length-append L (dayLines xs))) w v

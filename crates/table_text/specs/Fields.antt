@@ -7,7 +7,7 @@ use Rattle.reading.specs.Answers as answer
 use Rattle.table_text.specs.Text.{digits, isField, valueIn, afterField, isFormed, schemeIn, nIn, fIn, dIn, lastLine}
 use Rattle.table_text.specs.declared.Field.{Field}
 use Rattle.table_text.specs.declared.Typed.{Typed}
-use Rattle.table_text.specs.declared.Said.{Said}
+use Rattle.table_text.specs.declared.Report.{Report}
 
 -- the field of s at a place
 pub record FieldAt (s : List ℕ) (at mark : ℕ) (r : Field) : Type 0 where
@@ -28,10 +28,10 @@ pub record TypedIs (s : List ℕ) (r : Typed) : Type 0 where
   pub within : r .end ≤ length s
 
 -- the numbers of an answer
-pub record SaidIs (x : answer.Said) (r : Said) : Type 0 where
+pub record SaidIs (x : answer.Report) (r : Report) : Type 0 where
   pub refusal-is : r .refusal ≡ x .refusal
   pub listed-is : r .listed ≡ x .listed
   pub first-is : r .first ≡ x .first
   pub low-is : r .low ≡ x .low
   pub high-is : r .high ≡ x .high
-  pub good-is : r .good ≡ x .good
+  pub good-is : r .last_good ≡ x .last_good

@@ -6,7 +6,7 @@ use lib.Dec.{eqb, leb, ltb}
 use lib.ListN.{length, take, drop, getD}
 use Rattle.evidence.specs.Evidence.{same}
 use Rattle.layouts.specs.Layouts.{unless, orElse, layoutRefusal, chains}
-use Rattle.reading.specs.Answers.{Said, readRefusal, says, listedIn}
+use Rattle.reading.specs.Answers.{Report, readRefusal, reportOn, listedIn}
 
 abbrev pub comma : ℕ
 comma = 44
@@ -135,7 +135,7 @@ noLine number = line (78 ∷ 79 ∷ []) (number ∷ [])
 
 -- REF, scheme, number listed, first listed, low, high, last good
 unfoldable pub refLine : ℕ → ℕ → ℕ → ℕ → ℕ → ℕ → List ℕ
-refLine scheme listed first low high good = line (82 ∷ 69 ∷ 70 ∷ []) (scheme ∷ listed ∷ first ∷ low ∷ high ∷ good ∷ [])
+refLine scheme listed first low high last_good = line (82 ∷ 69 ∷ 70 ∷ []) (scheme ∷ listed ∷ first ∷ low ∷ high ∷ last_good ∷ [])
 
 -- DAY and the day, for each day
 unfoldable pub dayLines : List ℕ → List ℕ
@@ -143,14 +143,14 @@ dayLines [] = []
 dayLines (g ∷ gs) = line (68 ∷ 65 ∷ 89 ∷ []) (g ∷ []) ++ dayLines gs
 
 unfoldable pub lines : ℕ → ℕ → ℕ → ℕ → ℕ → ℕ → List ℕ → List ℕ
-lines scheme listed first low high good days = refLine scheme listed first low high good ++ dayLines days
+lines scheme listed first low high last_good days = refLine scheme listed first low high last_good ++ dayLines days
 
 -- what reading says, and the days that it lists
-abbrev pub reported : ℕ → Said → List ℕ → List ℕ
-reported scheme said days = lines scheme (said .listed) (said .first) (said .low) (said .high) (said .good) days
+abbrev pub reported : ℕ → Report → List ℕ → List ℕ
+reported scheme report days = lines scheme (report .listed) (report .first) (report .low) (report .high) (report .last_good) days
 
 unfoldable pub report : ℕ → ℕ → ℕ → ℕ → List ℕ → List ℕ
-report scheme n f d outcomes = reported scheme (says scheme n f d outcomes 256) (listedIn scheme n d outcomes)
+report scheme n f d outcomes = reported scheme (reportOn scheme n f d outcomes 256) (listedIn scheme n d outcomes)
 
 -- the refusal, or the report
 abbrev pub printed : ℕ → List ℕ → List ℕ

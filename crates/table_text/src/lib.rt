@@ -7,7 +7,7 @@ ghost use Prim.Native.Nat.{_+_, _-_, _*_, _≤_, _<_};
 ghost use lib.ListN.{length, take, drop};
 ghost use Rattle.evidence.specs.Evidence.{same};
 ghost use Rattle.listing.specs.Walks.{Wrote};
-ghost use Rattle.reading.specs.Answers.{saidOf};
+ghost use Rattle.reading.specs.Answers.{reportOf};
 ghost use Rattle.table_text.specs.Text as spec;
 ghost use Rattle.table_text.specs.Text.{isDigit, digitOf, digits, isNumber, numberFrom, startsWith, extraRefusal, tableRefusal, decimalIn, decimal, commaNumbers, noLine, dayLines, printed, textOf};
 ghost use Rattle.table_text.specs.Fields.{FieldAt, TypedIs, SaidIs};
@@ -31,13 +31,13 @@ struct Typed {
 }
 
 // What reading said.
-struct Said {
+struct Report {
     refusal: u32,
     listed: u32,
     first: u32,
     low: u32,
     high: u32,
-    good: u32,
+    last_good: u32,
 }
 
 // ---- fields
@@ -321,49 +321,49 @@ fn refuse(out: &mut [u8], number: u32) -> usize
 }
 
 // What reading said, by 01's numbers for each case.
-fn said_by(reading: Reading, d: u32) -> Said
-    ensures { λ r. ⌜ SaidIs (saidOf d reading) r ⌝ }
+fn report_by(reading: Reading, d: u32) -> Report
+    ensures { λ r. ⌜ SaidIs (reportOf d reading) r ⌝ }
 {
     match reading {
-        Reading::Clean => Said {
+        Reading::Clean => Report {
             refusal: 0,
             listed: 0,
             first: 0,
             low: 0,
             high: 0,
-            good: d,
+            last_good: d,
         },
-        Reading::Changed(m) => Said {
+        Reading::Changed(m) => Report {
             refusal: 0,
             listed: m.listed,
             first: m.first,
             low: m.low,
             high: m.high,
-            good: m.good,
+            last_good: m.last_good,
         },
-        Reading::Refused(number) => Said {
+        Reading::Refused(number) => Report {
             refusal: number,
             listed: 0,
             first: 0,
             low: 0,
             high: 0,
-            good: 0,
+            last_good: 0,
         },
     }
 }
 
 // The line REF, and a line for each day.
-fn put_report(out: &mut [u8], scheme: u32, said: Said, days: &[u32]) -> usize
+fn put_report(out: &mut [u8], scheme: u32, report: Report, days: &[u32]) -> usize
     requires { ⌜ 85 + length (dayLines (now days)) ≤ length (now out) ⌝ }
-    ensures { λ r. ⌜ Wrote 0 (spec.lines scheme (said .listed) (said .first) (said .low) (said .high) (said .good) (now (days .entry))) (now (out .entry)) r (now (out .exit)) ⌝ }
+    ensures { λ r. ⌜ Wrote 0 (spec.lines scheme (report .listed) (report .first) (report .low) (report .high) (report .last_good) (now (days .entry))) (now (out .entry)) r (now (out .exit)) ⌝ }
 {
     let numbers = [
         scheme,
-        said.listed,
-        said.first,
-        said.low,
-        said.high,
-        said.good,
+        report.listed,
+        report.first,
+        report.low,
+        report.high,
+        report.last_good,
     ];
     let at = put_line(out, 0, b"REF", &numbers);
     put_days(out, at, days)
@@ -393,13 +393,13 @@ fn answer(scheme: u32, n: u32, f: u32, d: u32, outcomes: &[u8], out: &mut [u8]) 
         return refuse(out, x);
     }
     let mut list = [0u32; 256];
-    let said = said_by(reading::read(scheme, n, f, d, outcomes, &mut list), d);
-    let y = said.refusal;
+    let report = report_by(reading::read(scheme, n, f, d, outcomes, &mut list), d);
+    let y = report.refusal;
     if y != 0 {
         return refuse(out, y);
     }
-    let k = said.listed as usize;
-    put_report(out, scheme, said, &list[..k])
+    let k = report.listed as usize;
+    put_report(out, scheme, report, &list[..k])
 }
 
 // What a text of any form says.

@@ -8,10 +8,10 @@ use Rattle.chains.proofs.restart_slots.Statement.{statement}
 use Rattle.chains.proofs.restart_slots.Tie as tie
 
 abbrev Inv-loop : tie.InvT-loop
-Inv-loop scheme n g first r₀ i₀ r i = (i ≤ 17) × (length r ≡ 17) × (r ≡ upto (restartSlot scheme n g first) 0 i r₀)
+Inv-loop scheme n g start r₀ i₀ r i = (i ≤ 17) × (length r ≡ 17) × (r ≡ upto (restartSlot scheme n g start) 0 i r₀)
 
 abbrev μ-loop : tie.MeasureT-loop
-μ-loop scheme n g first r₀ i₀ r i = 17 - i
+μ-loop scheme n g start r₀ i₀ r i = 17 - i
 
 loop-holds : tie.Need-loop-holds Inv-loop μ-loop
 loop-holds c = (search needs, search needs, refl)
@@ -41,7 +41,7 @@ loop-again : tie.Need-loop-again Inv-loop μ-loop
 loop-again c = (search needs, search needs, upto-next _ _ _ _ _ _ (c .before .before .before .loop .inv .2) (c .slot-restarted .ensures) (search needs))
 
 returns : tie.Need-returns Inv-loop μ-loop
-returns c = restarted-done (c .before .before .args .scheme) (c .before .before .args .n) (c .before .before .args .g) (c .before .before .args .first) (c .before .loop .i) (c .before .before .args .slots) (c .before .loop .inv .2) (search needs) (search needs)
+returns c = restarted-done (c .before .before .args .scheme) (c .before .before .args .n) (c .before .before .args .g) (c .before .before .args .start) (c .before .loop .i) (c .before .before .args .slots) (c .before .loop .inv .2) (search needs) (search needs)
 
 pub restart-slots-spec : {M : Type 1} → statement M
 restart-slots-spec =

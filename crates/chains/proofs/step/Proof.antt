@@ -1,4 +1,4 @@
-use Rattle.chains.proofs.Values.{stepped, closing-length}
+use Rattle.chains.proofs.Values.{stepped, chainsOfDay-length}
 use mathlib.Core.Path.{_∙_}
 use borrow.Author.Needs.{needs}
 use Rattle.chains.proofs.step.Statement.{statement}
@@ -14,14 +14,14 @@ values-of-day-requires : tie.Need-values-of-day-requires
 values-of-day-requires c κs = search needs
 
 day-values-requires : tie.Need-day-values-requires
-day-values-requires c κs = let p = c .before .before .before .pre in (p .0, p .1, p .2, p .3, c .values-of-day .ensures ∙ closing-length _ _ _)
+day-values-requires c κs = let p = c .before .before .before .pre in (p .0, p .1, p .2, p .3, c .values-of-day .ensures ∙ chainsOfDay-length _ _ _)
 
 restart-slots-requires : tie.Need-restart-slots-requires
 restart-slots-requires c κs = search needs
 
 returns : tie.Need-returns
 returns c = let a = c .before .before .before .before .before .args in
-    stepped (a .scheme) (a .n) (a .g) (a .first) (a .black) (a .slots) (a .h) (c .before .before .before .before .link .ensures) (c .before .before .before .link-slots .ensures) (c .before .before .values-of-day .ensures) (c .before .day-values .ensures) (c .restart-slots .ensures)
+    stepped (a .scheme) (a .n) (a .g) (a .start) (a .black) (a .slots) (a .h) (c .before .before .before .before .link .ensures) (c .before .before .before .link-slots .ensures) (c .before .before .values-of-day .ensures) (c .before .day-values .ensures) (c .restart-slots .ensures)
 
 pub step-spec : {M : Type 1} → statement M
 step-spec =

@@ -9,11 +9,11 @@ use Rattle.checking.proofs.check_days.Statement.{statement}
 use Rattle.checking.proofs.check_days.Tie as tie
 
 abbrev Inv-loop : tie.InvT-loop
-Inv-loop scheme n d ledger ends book work₀ outcomes₀ first black₀ slots₀ at₀ i₀ days work outcomes black slots at i =
-    (i ≤ d) × (days ≡ d) × (first ≡ startValue scheme n) × Through scheme n ledger ends book work₀ outcomes₀ i at black slots work outcomes
+Inv-loop scheme n d ledger ends book work₀ outcomes₀ start black₀ slots₀ at₀ i₀ days work outcomes black slots at i =
+    (i ≤ d) × (days ≡ d) × (start ≡ startValue scheme n) × Through scheme n ledger ends book work₀ outcomes₀ i at black slots work outcomes
 
 abbrev μ-loop : tie.MeasureT-loop
-μ-loop scheme n d ledger ends book work₀ outcomes₀ first black₀ slots₀ at₀ i₀ days work outcomes black slots at i =
+μ-loop scheme n d ledger ends book work₀ outcomes₀ start black₀ slots₀ at₀ i₀ days work outcomes black slots at i =
     d - i
 
 -- a turn's day is one of the first d

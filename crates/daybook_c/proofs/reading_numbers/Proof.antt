@@ -1,4 +1,4 @@
-use Rattle.reading.specs.Answers.{saidOf}
+use Rattle.reading.specs.Answers.{reportOf}
 use borrow.Author.Needs.{needs}
 use Rattle.daybook_c.proofs.reading_numbers.Statement.{statement}
 use Rattle.daybook_c.proofs.reading_numbers.Tie as tie
@@ -13,15 +13,15 @@ enum-told-2 : tie.Need-enum-told-2
 enum-told-2 c = search needs
 
 returns : tie.Need-returns
-unfolding saidOf
+unfolding reportOf
 returns c = search needs
 
 returns-2 : tie.Need-returns-2
-unfolding saidOf
+unfolding reportOf
 returns-2 c = search needs
 
 returns-3 : tie.Need-returns-3
-unfolding saidOf
+unfolding reportOf
 returns-3 c = search needs
 
 pub reading-numbers-spec : {M : Type 1} → statement M

@@ -1,5 +1,5 @@
-use Rattle.layouts.specs.Layouts.{ending}
-use Rattle.listing.proofs.Lists.{second, local-as}
+use Rattle.layouts.specs.Layouts.{lastDays}
+use Rattle.listing.proofs.Lists.{second, isListed-as}
 use Rattle.listing.proofs.Writes.{wrote-as}
 use Rattle.rules.proofs.Steps.{interval-as}
 use borrow.Author.Needs.{needs}
@@ -15,7 +15,7 @@ same-length c = search needs
 returns : tie.Need-returns
 returns c =
     let args = c .before .before .before .before .before .before .before .args in
-    wrote-as _ (local-as _ (args .n) (args .t .now) (ending (args .n) (args .g)) 1 (c .before .before .before .before .if1 .taken)) (c .before .before .black-days .ensures)
+    wrote-as _ (isListed-as _ (args .n) (args .t .now) (lastDays (args .n) (args .g)) 1 (c .before .before .before .before .if1 .taken)) (c .before .before .black-days .ensures)
 
 tile-days-requires : tie.Need-tile-days-requires
 tile-days-requires c κs =
@@ -29,7 +29,7 @@ returns-2 : tie.Need-returns-2
 returns-2 c =
     let args = c .before .before .before .before .before .before .before .args in
     let pre = c .before .before .before .before .before .before .before .pre in
-    wrote-as _ (local-as _ (args .n) (args .t .now) (ending (args .n) (args .g)) 2 (second _ (pre .0 .has .scheme-ok) (pre .2) (c .before .before .before .before .if1 .left))) (c .before .before .tile-days .ensures)
+    wrote-as _ (isListed-as _ (args .n) (args .t .now) (lastDays (args .n) (args .g)) 2 (second _ (pre .0 .has .scheme-ok) (pre .2) (c .before .before .before .before .if1 .left))) (c .before .before .tile-days .ensures)
 
 pub interval-days-spec : {M : Type 1} → statement M
 interval-days-spec =

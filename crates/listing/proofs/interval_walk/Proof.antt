@@ -1,6 +1,6 @@
 use Rattle.listing.proofs.Lists.{none-yet, so-far-length, next-place, next-interval, all-intervals}
 use Rattle.rules.proofs.Steps.{interval-of, interval-end, count-fits, product-fits}
-use Rattle.rules.specs.Rules.{local}
+use Rattle.rules.specs.Rules.{isListed}
 use Rattle.listing.specs.Walks.{Wrote}
 use Rattle.layouts.proofs.AllowedLaws.{allowed-n-is}
 use Rattle.evidence.specs.Evidence.{days, keep}
@@ -11,7 +11,7 @@ use Rattle.listing.proofs.interval_walk.Statement.{statement}
 use Rattle.listing.proofs.interval_walk.Tie as tie
 
 abbrev Inv-loop : tie.InvT-loop
-Inv-loop scheme n d t list₀ m k₀ at₀ list k at = (k ≤ m) × Wrote 0 (keep (local scheme n t) (days (k * n))) list₀ at list
+Inv-loop scheme n d t list₀ m k₀ at₀ list k at = (k ≤ m) × Wrote 0 (keep (isListed scheme n t) (days (k * n))) list₀ at list
 
 abbrev μ-loop : tie.MeasureT-loop
 μ-loop scheme n d t list₀ m k₀ at₀ list k at = m - k
@@ -22,7 +22,7 @@ div-m c = allowed-n-is _ (c .before .before .pre .0 .n-ok) .some
 loop-holds : tie.Need-loop-holds Inv-loop μ-loop
 loop-holds c =
     let args = c .before .before .args in
-    (omega arith, none-yet (local (args .scheme) (args .n) (args .t .now)) _ _ (zero-mul (args .n)))
+    (omega arith, none-yet (isListed (args .scheme) (args .n) (args .t .now)) _ _ (zero-mul (args .n)))
 
 add-k : tie.Need-add-k Inv-loop μ-loop
 add-k c =
@@ -39,7 +39,7 @@ interval-days-requires c κs =
     let args = c .before .before .before .before .before .args in
     let loop = c .before .before .loop in
     let pre = c .before .before .before .before .before .pre in
-    (interval-of _ (pre .0) (omega arith) (omega arith), next-place (local (args .scheme) (args .n) (args .t .now)) (args .n) (args .d) (loop .k) (loop .at) (args .list .now) (loop .list) (c .before .loop-test .taken) (pre .1) (loop .inv .1), pre .2)
+    (interval-of _ (pre .0) (omega arith) (omega arith), next-place (isListed (args .scheme) (args .n) (args .t .now)) (args .n) (args .d) (loop .k) (loop .at) (args .list .now) (loop .list) (c .before .loop-test .taken) (pre .1) (loop .inv .1), pre .2)
 
 loop-less : tie.Need-loop-less Inv-loop μ-loop
 loop-less c = omega arith
@@ -48,19 +48,19 @@ loop-again : tie.Need-loop-again Inv-loop μ-loop
 loop-again c =
     let args = c .before .before .before .before .before .before .before .before .args in
     let loop = c .before .before .before .before .before .loop in
-    (omega arith, next-interval (local (args .scheme) (args .n) (args .t .now)) (args .n) (args .d) (loop .k) (loop .at) (c .before .before .interval-days .result) (args .list .now) (loop .list) _ (c .before .before .before .before .loop-test .taken) (c .before .before .before .before .before .before .before .before .pre .1) (loop .inv .1) (c .before .before .interval-days .ensures))
+    (omega arith, next-interval (isListed (args .scheme) (args .n) (args .t .now)) (args .n) (args .d) (loop .k) (loop .at) (c .before .before .interval-days .result) (args .list .now) (loop .list) _ (c .before .before .before .before .loop-test .taken) (c .before .before .before .before .before .before .before .before .pre .1) (loop .inv .1) (c .before .before .interval-days .ensures))
 
 same-length : tie.Need-same-length Inv-loop μ-loop
 same-length c =
     let args = c .before .before .before .before .args in
     let loop = c .before .loop in
-    so-far-length (local (args .scheme) (args .n) (args .t .now)) (loop .k * args .n) (args .d) (loop .at) (args .list .now) (loop .list) (interval-end (args .n) (args .d) (loop .k) (loop .inv .0)) (c .before .before .before .before .pre .1) (loop .inv .1)
+    so-far-length (isListed (args .scheme) (args .n) (args .t .now)) (loop .k * args .n) (args .d) (loop .at) (args .list .now) (loop .list) (interval-end (args .n) (args .d) (loop .k) (loop .inv .0)) (c .before .before .before .before .pre .1) (loop .inv .1)
 
 returns : tie.Need-returns Inv-loop μ-loop
 returns c =
     let args = c .before .before .before .before .args in
     let loop = c .before .loop in
-    all-intervals (local (args .scheme) (args .n) (args .t .now)) (args .n) (args .d) (loop .k) (loop .at) (args .list .now) (loop .list) (c .before .before .before .before .pre .0 .whole) (loop .inv .0) (c .loop-test .left) (loop .inv .1)
+    all-intervals (isListed (args .scheme) (args .n) (args .t .now)) (args .n) (args .d) (loop .k) (loop .at) (args .list .now) (loop .list) (c .before .before .before .before .pre .0 .whole) (loop .inv .0) (c .loop-test .left) (loop .inv .1)
 
 pub interval-walk-spec : {M : Type 1} → statement M
 interval-walk-spec =

@@ -1,4 +1,4 @@
-use Rattle.listing.proofs.Lists.{local-as, below-third, rules-levels}
+use Rattle.listing.proofs.Lists.{isListed-as, below-third, rules-levels}
 use Rattle.listing.proofs.Writes.{wrote-as}
 use Rattle.rules.proofs.Steps.{table-as}
 use Rattle.evidence.specs.Evidence.{days}
@@ -17,7 +17,7 @@ same-length c = search needs
 returns : tie.Need-returns
 returns c =
     let args = c .before .before .before .before .before .before .before .args in
-    wrote-as _ (local-as _ (args .n) (args .t .now) (days (args .d)) 3 (c .before .before .before .before .if1 .taken)) (c .before .before .tree-walk .ensures)
+    wrote-as _ (isListed-as _ (args .n) (args .t .now) (days (args .d)) 3 (c .before .before .before .before .if1 .taken)) (c .before .before .tree-walk .ensures)
 
 interval-walk-requires : tie.Need-interval-walk-requires
 interval-walk-requires c κs =

@@ -1,5 +1,5 @@
 use Rattle.listing.proofs.Lists.{none-yet, no-level, level-place, next-level, level-length, all-levels}
-use Rattle.rules.specs.Rules.{local}
+use Rattle.rules.specs.Rules.{isListed}
 use Rattle.listing.specs.Walks.{Wrote}
 use Rattle.evidence.specs.Evidence.{days, keep}
 use native.Mathlib.Omega.{arith}
@@ -8,7 +8,7 @@ use Rattle.listing.proofs.tree_walk.Statement.{statement}
 use Rattle.listing.proofs.tree_walk.Tie as tie
 
 abbrev Inv-loop : tie.InvT-loop
-Inv-loop n d t list₀ level₀ at₀ list level at = (level ≤ 17) × Wrote 0 (keep (local 3 n t) (days (d / 2 ^ level * 2 ^ level))) list₀ at list
+Inv-loop n d t list₀ level₀ at₀ list level at = (level ≤ 17) × Wrote 0 (keep (isListed 3 n t) (days (d / 2 ^ level * 2 ^ level))) list₀ at list
 
 abbrev μ-loop : tie.MeasureT-loop
 μ-loop n d t list₀ level₀ at₀ list level at = level
@@ -24,7 +24,7 @@ top-days-requires c κs =
     let args = c .before .before .before .before .before .args in
     let loop = c .before .before .loop in
     let pre = c .before .before .before .before .before .pre in
-    (pre .0, level-place (local 3 (args .n) (args .t .now)) (args .d) (loop .level) (loop .at) (args .list .now) (loop .list) (c .before .loop-test .taken) (pre .1) (loop .inv .1) .0, omega arith, level-place (local 3 (args .n) (args .t .now)) (args .d) (loop .level) (loop .at) (args .list .now) (loop .list) (c .before .loop-test .taken) (pre .1) (loop .inv .1) .1)
+    (pre .0, level-place (isListed 3 (args .n) (args .t .now)) (args .d) (loop .level) (loop .at) (args .list .now) (loop .list) (c .before .loop-test .taken) (pre .1) (loop .inv .1) .0, omega arith, level-place (isListed 3 (args .n) (args .t .now)) (args .d) (loop .level) (loop .at) (args .list .now) (loop .list) (c .before .loop-test .taken) (pre .1) (loop .inv .1) .1)
 
 loop-less : tie.Need-loop-less Inv-loop μ-loop
 loop-less c = omega arith
@@ -40,13 +40,13 @@ same-length : tie.Need-same-length Inv-loop μ-loop
 same-length c =
     let args = c .before .before .before .before .args in
     let loop = c .before .loop in
-    level-length (local 3 (args .n) (args .t .now)) (args .d) (loop .level) (loop .at) (args .list .now) (loop .list) (c .before .before .before .before .pre .1) (loop .inv .1)
+    level-length (isListed 3 (args .n) (args .t .now)) (args .d) (loop .level) (loop .at) (args .list .now) (loop .list) (c .before .before .before .before .pre .1) (loop .inv .1)
 
 returns : tie.Need-returns Inv-loop μ-loop
 returns c =
     let args = c .before .before .before .before .args in
     let loop = c .before .loop in
-    all-levels (local 3 (args .n) (args .t .now)) (args .d) (loop .level) (loop .at) (args .list .now) (loop .list) (c .loop-test .left) (loop .inv .1)
+    all-levels (isListed 3 (args .n) (args .t .now)) (args .d) (loop .level) (loop .at) (args .list .now) (loop .list) (c .loop-test .left) (loop .inv .1)
 
 pub tree-walk-spec : {M : Type 1} → statement M
 tree-walk-spec =

@@ -1,4 +1,4 @@
-use Rattle.reading.proofs.Said.{changed-by, good-fits}
+use Rattle.reading.proofs.Report.{changed-by, good-fits}
 use mathlib.Core.Path.{refl}
 use borrow.Author.Needs.{needs}
 use Rattle.reading.proofs.changed.Statement.{statement}

@@ -17,14 +17,14 @@ least-requires c κs = search needs
 returns-2 : tie.Need-returns-2
 returns-2 c = refuse-none _ _ _ _ (c .before .before .before .before .before .pre) (c .before .before .before .bits .ensures) (c .before .before .if1 .left) (c .before .least .ensures) (c .if2 .taken)
 
-hold-requires : tie.Need-hold-requires
-hold-requires c κs = search needs
+accepts-requires : tie.Need-accepts-requires
+accepts-requires c κs = search needs
 
 returns-3 : tie.Need-returns-3
-returns-3 c = refuse-14 _ _ _ _ (c .before .before .before .before .before .before .before .pre) (c .before .before .before .before .before .bits .ensures) (c .before .before .before .before .if1 .left) (c .before .hold .ensures) (c .if3 .taken)
+returns-3 c = refuse-14 _ _ _ _ (c .before .before .before .before .before .before .before .pre) (c .before .before .before .before .before .bits .ensures) (c .before .before .before .before .if1 .left) (c .before .accepts .ensures) (c .if3 .taken)
 
 returns-4 : tie.Need-returns-4
-returns-4 c = refuse-0 _ _ _ _ (c .before .before .before .before .before .before .before .pre) (c .before .before .before .before .before .bits .ensures) (c .before .before .before .before .if1 .left) (c .before .hold .ensures) (c .if3 .left)
+returns-4 c = refuse-0 _ _ _ _ (c .before .before .before .before .before .before .before .pre) (c .before .before .before .before .before .bits .ensures) (c .before .before .before .before .if1 .left) (c .before .accepts .ensures) (c .if3 .left)
 
 pub table-refusal-spec : {M : Type 1} → statement M
-table-refusal-spec = tie.close (tie.spec bits-requires returns least-requires returns-2 hold-requires returns-3 returns-4)
+table-refusal-spec = tie.close (tie.spec bits-requires returns least-requires returns-2 accepts-requires returns-3 returns-4)

@@ -5,35 +5,35 @@ use borrow.Author.Needs.{needs}
 use Rattle.sha256.proofs.round.Statement.{statement}
 use Rattle.sha256.proofs.round.Tie as tie
 
-array-read-first : tie.Need-array-read-first
-array-read-first c = search needs
+array-read-t1 : tie.Need-array-read-t1
+array-read-t1 c = search needs
 
-array-read-first-2 : tie.Need-array-read-first-2
-array-read-first-2 c = search needs
+array-read-t1-2 : tie.Need-array-read-t1-2
+array-read-t1-2 c = search needs
 
-array-read-first-3 : tie.Need-array-read-first-3
-array-read-first-3 c = search needs
+array-read-t1-3 : tie.Need-array-read-t1-3
+array-read-t1-3 c = search needs
 
-array-read-first-4 : tie.Need-array-read-first-4
-array-read-first-4 c = search needs
+array-read-t1-4 : tie.Need-array-read-t1-4
+array-read-t1-4 c = search needs
 
-first-requires : tie.Need-first-requires
-first-requires c κs = search needs
+t1-requires : tie.Need-t1-requires
+t1-requires c κs = search needs
 
-array-read-second : tie.Need-array-read-second
-array-read-second c = search needs
+array-read-t2 : tie.Need-array-read-t2
+array-read-t2 c = search needs
 
-array-read-second-2 : tie.Need-array-read-second-2
-array-read-second-2 c = search needs
+array-read-t2-2 : tie.Need-array-read-t2-2
+array-read-t2-2 c = search needs
 
-array-read-second-3 : tie.Need-array-read-second-3
-array-read-second-3 c = search needs
+array-read-t2-3 : tie.Need-array-read-t2-3
+array-read-t2-3 c = search needs
 
-second-requires : tie.Need-second-requires
-second-requires c κs = search needs
+t2-requires : tie.Need-t2-requires
+t2-requires c κs = search needs
 
-plus-requires : tie.Need-plus-requires
-plus-requires c κs = search needs
+add32-requires : tie.Need-add32-requires
+add32-requires c κs = search needs
 
 array-read-t15 : tie.Need-array-read-t15
 array-read-t15 c = search needs
@@ -44,11 +44,11 @@ array-read-t18 c = search needs
 array-read-t9 : tie.Need-array-read-t9
 array-read-t9 c = search needs
 
-array-read-plus : tie.Need-array-read-plus
-array-read-plus c = search needs
+array-read-add32 : tie.Need-array-read-add32
+array-read-add32 c = search needs
 
-plus-requires-2 : tie.Need-plus-requires-2
-plus-requires-2 c κs = search needs
+add32-requires-2 : tie.Need-add32-requires-2
+add32-requires-2 c κs = search needs
 
 array-read-t37 : tie.Need-array-read-t37
 array-read-t37 c = search needs
@@ -60,27 +60,27 @@ array-read-t43 : tie.Need-array-read-t43
 array-read-t43 c = search needs
 
 returns : tie.Need-returns
-returns c = round-of _ _ _ (c .before .before .before .first .ensures) (c .before .before .second .ensures) (c .before .plus .ensures) (c .plus2 .ensures)
+returns c = round-of _ _ _ (c .before .before .before .t1 .ensures) (c .before .before .t2 .ensures) (c .before .add32 .ensures) (c .add322 .ensures)
 
 pub round-spec : {M : Type 1} → statement M
 round-spec =
     tie.close
     (tie.spec
-    array-read-first
-    array-read-first-2
-    array-read-first-3
-    array-read-first-4
-    first-requires
-    array-read-second
-    array-read-second-2
-    array-read-second-3
-    second-requires
-    plus-requires
+    array-read-t1
+    array-read-t1-2
+    array-read-t1-3
+    array-read-t1-4
+    t1-requires
+    array-read-t2
+    array-read-t2-2
+    array-read-t2-3
+    t2-requires
+    add32-requires
     array-read-t15
     array-read-t18
     array-read-t9
-    array-read-plus
-    plus-requires-2
+    array-read-add32
+    add32-requires-2
     array-read-t37
     array-read-t40
     array-read-t43

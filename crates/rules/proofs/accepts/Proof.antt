@@ -1,7 +1,7 @@
 use Rattle.rules.proofs.Steps.{table-as, rules-no, rules-blocks, rules-tree}
 use borrow.Author.Needs.{needs}
-use Rattle.rules.proofs.hold.Statement.{statement}
-use Rattle.rules.proofs.hold.Tie as tie
+use Rattle.rules.proofs.accepts.Statement.{statement}
+use Rattle.rules.proofs.accepts.Tie as tie
 
 block-rules-requires : tie.Need-block-rules-requires
 block-rules-requires c κs = search needs
@@ -18,6 +18,6 @@ level-rules-requires c κs = table-as 3 (c .if2 .left) (c .before .before .befor
 returns-3 : tie.Need-returns-3
 returns-3 c = rules-tree _ _ _ _ (c .before .before .before .block-rules .ensures) (c .before .before .if1 .left) (c .before .if2 .left) (c .level-rules .ensures)
 
-pub hold-spec : {M : Type 1} → statement M
-hold-spec =
+pub accepts-spec : {M : Type 1} → statement M
+accepts-spec =
     tie.close (tie.spec block-rules-requires returns returns-2 level-rules-requires returns-3)

@@ -1,7 +1,7 @@
-use Rattle.table_text.proofs.Answers.{said-clean, said-changed, said-refused}
+use Rattle.table_text.proofs.Answers.{report-clean, report-changed, report-refused}
 use borrow.Author.Needs.{needs}
-use Rattle.table_text.proofs.said_by.Statement.{statement}
-use Rattle.table_text.proofs.said_by.Tie as tie
+use Rattle.table_text.proofs.report_by.Statement.{statement}
+use Rattle.table_text.proofs.report_by.Tie as tie
 
 enum-told : tie.Need-enum-told
 enum-told c = search needs
@@ -13,15 +13,15 @@ enum-known-reading-2 : tie.Need-enum-known-reading-2
 enum-known-reading-2 c = search needs
 
 returns : tie.Need-returns
-returns c = said-clean _ (c .enum-told .given .1)
+returns c = report-clean _ (c .enum-told .given .1)
 
 returns-2 : tie.Need-returns-2
-returns-2 c = said-changed _ (c .before .reading .given .1)
+returns-2 c = report-changed _ (c .before .reading .given .1)
 
 returns-3 : tie.Need-returns-3
-returns-3 c = said-refused _ (c .before .reading2 .given .1)
+returns-3 c = report-refused _ (c .before .reading2 .given .1)
 
-pub said-by-spec : {M : Type 1} → statement M
-said-by-spec =
+pub report-by-spec : {M : Type 1} → statement M
+report-by-spec =
     tie.close
     (tie.spec enum-told enum-known-reading enum-known-reading-2 returns returns-2 returns-3)
