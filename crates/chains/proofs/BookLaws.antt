@@ -5,8 +5,9 @@ use Prim.Native.Nat.{ℕ, zero, suc, pred, _+_, _-_, _*_, _≤_, _<_}
 use native.Mathlib.Omega.{arith}
 use lib.ListN.{length, getD, take, length-append, List·getD-append}
 use lib.Seq.{take-length}
-use Rattle.evidence.specs.Evidence.{_among_, days, Within, tableOf, dayOf, changed, value, values, checkOutcomes, NoCollision}
-use Rattle.evidence.proofs.ListLaws.{upFrom-bounds}
+use Rattle.lists.specs.Lists.{_among_}
+use Rattle.evidence.specs.Evidence.{days, Within, tableOf, dayOf, changed, value, values, checkOutcomes, NoCollision}
+use Rattle.lists.proofs.Laws.{upFrom-bounds}
 use Rattle.evidence.proofs.ValueLaws.{values-append, values-same, value-same, length-values, check-table, check-unaltered}
 use Rattle.layouts.specs.Layouts.{chains, chainsOfDay}
 use Rattle.layouts.proofs.Coverage.{chains-within, chains-suc, chains-front}

@@ -2,4 +2,3 @@ pub mod Slots
 pub mod Values
 pub mod Running
 pub mod BookLaws
-pub mod Puts

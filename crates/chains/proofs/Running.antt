@@ -12,18 +12,19 @@ use lib.ListN.{length, getD, replicate, length-append, length-replicate, getD-re
 use lib.Pow.{pow-pos}
 use lib.Seq.{getD-at}
 use borrow.Author.Tests.{eqb-true, leb-true, le-leb}
-use Rattle.evidence.specs.Evidence.{_among_, upFrom, keep, days, Within, dayOf, digest, linkInput, value, values}
-use Rattle.evidence.proofs.ListLaws.{split, true-or-false, and-both, upFrom-bounds, keep-mem, keep-append}
+use Rattle.lists.specs.Lists.{_among_, upFrom, keep}
+use Rattle.evidence.specs.Evidence.{days, Within, dayOf, digest, linkInput, value, values}
+use Rattle.lists.proofs.Laws.{split, true-or-false, and-both, upFrom-bounds, keep-mem, keep-append, upFrom-snoc}
 use Rattle.evidence.proofs.ValueLaws.{value-append, value-same}
 use Rattle.layouts.specs.Layouts.{divides, allowedScheme, allowedN, lg, Name, black, tile, tree, lastDays, offset, covers, coveredDays, levels, storesBlackOfTree, namesOfDay, chainsOfDay}
 use Rattle.layouts.proofs.AllowedLaws.{allowed-scheme-is, allowed-n-is}
 use Rattle.layouts.proofs.Counts.{bit, div-step}
-use Rattle.layouts.proofs.Coverage.{upFrom-snoc, cond-mem}
+use Rattle.layouts.proofs.Coverage.{cond-mem}
 use Rattle.sha256.specs.Sha256.{sha256, hashed, bytesOf}
 use Rattle.chains.specs.declared.Value.{Value}
 use Rattle.chains.specs.declared.DayStep.{DayStep}
 use Rattle.chains.specs.Book.{start}
-use Rattle.chains.specs.Step.{pick, startValue, linked, linksSlot, storesSlot, linkSlot, restartSlot, each, linkedSlots, restarted, current, dayValues, Stepped, valueBytes}
+use Rattle.chains.specs.Step.{startValue, linked, linksSlot, storesSlot, linkSlot, restartSlot, each, linkedSlots, restarted, current, dayValues, Stepped, valueBytes}
 use Rattle.chains.proofs.Values.{level-small}
 
 -- ---- the start
@@ -103,7 +104,7 @@ slotName (suc (suc (suc s))) i g = tree i g
 
 -- with the next day
 abbrev grown : ℕ → ℕ → ℕ → ℕ → List ℕ
-grown s n d i = pick (linksSlot s n (suc d) i) (openDays s n d i ++ (suc d ∷ [])) (openDays s n d i)
+grown s n d i = cond (linksSlot s n (suc d) i) (openDays s n d i ++ (suc d ∷ [])) (openDays s n d i)
 
 -- one more day of a tile chain
 tile-grown : (n d i : ℕ) → leb i (lg n) ≡ true → grown 2 n d i ≡ keep (λ x. covers n i (offset n x)) (since n d ++ (suc d ∷ []))
@@ -112,7 +113,7 @@ tile-grown n d i u = rw u (go (covers n i (offset n (suc d))) refl)
     q : ℕ → Bool
     q x = covers n i (offset n x)
 
-    go : (b : Bool) → q (suc d) ≡ b → pick b (keep (λ x. covers n i (offset n x)) (since n d) ++ (suc d ∷ [])) (keep (λ x. covers n i (offset n x)) (since n d)) ≡ keep (λ x. covers n i (offset n x)) (since n d ++ (suc d ∷ []))
+    go : (b : Bool) → q (suc d) ≡ b → cond b (keep (λ x. covers n i (offset n x)) (since n d) ++ (suc d ∷ [])) (keep (λ x. covers n i (offset n x)) (since n d)) ≡ keep (λ x. covers n i (offset n x)) (since n d ++ (suc d ∷ []))
     go true e = sym (keep-append (λ x. covers n i (offset n x)) (since n d) (suc d ∷ []) ∙ rw e)
     go false e = sym (keep-append (λ x. covers n i (offset n x)) (since n d) (suc d ∷ []) ∙ rw (e, append-nil))
 
@@ -232,7 +233,7 @@ module _ (s n : ℕ) (E : List (List ℕ)) (day : List ℕ) where
         ap (λ (v : Value). bytesOf (v .words)) (getD-each (linkSlot s n (suc d) h) 0 i slots z l ∙ ap (λ (k : ℕ). linkSlot s n (suc d) h k (getD slots i z)) (zero-add i)) ∙
         go (linksSlot s n (suc d) i)
       where
-        go : (c : Bool) → bytesOf (pick c (linked (getD slots i z) h) (getD slots i z) .words) ≡ value sha256 (start s n) F (pick c (openDays s n d i ++ (suc d ∷ [])) (openDays s n d i))
+        go : (c : Bool) → bytesOf (cond c (linked (getD slots i z) h) (getD slots i z) .words) ≡ value sha256 (start s n) F (cond c (openDays s n d i ++ (suc d ∷ [])) (openDays s n d i))
         go true = value-new (getD slots i z) h (openDays s n d i) (open-within s n d i) (held .slot-holds i z u) hash
         go false = held .slot-holds i z u ∙ value-old (openDays s n d i) (open-within s n d i)
 
@@ -249,7 +250,7 @@ module _ (s n : ℕ) (E : List (List ℕ)) (day : List ℕ) where
         (getD-each (restartSlot s n (suc d) (startValue s n)) 0 i (linkedSlots s n (suc d) h slots) z l ∙ ap (λ (k : ℕ). restartSlot s n (suc d) (startValue s n) k (getD (linkedSlots s n (suc d) h slots) i z)) (zero-add i)) ∙
         go (storesSlot s n (suc d) i) refl
       where
-        go : (c : Bool) → storesSlot s n (suc d) i ≡ c → bytesOf (pick c (startValue s n) (getD (linkedSlots s n (suc d) h slots) i z) .words) ≡ value sha256 (start s n) F (openDays s n (suc d) i)
+        go : (c : Bool) → storesSlot s n (suc d) i ≡ c → bytesOf (cond c (startValue s n) (getD (linkedSlots s n (suc d) h slots) i z) .words) ≡ value sha256 (start s n) F (openDays s n (suc d) i)
         go true e = start-bytes s n ∙ ap (value sha256 (start s n) F) (sym (ended s n d i a u e .1))
         go false e = slot-next i z u ∙ ap (value sha256 (start s n) F) (goes-on s n d i a u e)
 

@@ -1,6 +1,6 @@
 -- The cases of the tests on slots, and the loops over them.
 use mathlib.Core.Path.{_≡_, refl, sym, ap, _∙_}
-use mathlib.Core.Bool.{Bool, true, false, not, _&&_}
+use mathlib.Core.Bool.{Bool, true, false, not, _&&_, cond}
 use mathlib.Core.Logic.{_⊎_, inl, inr}
 use mathlib.Core.List.{List, [], _∷_, _++_}
 use Prim.Native.Nat.{ℕ, zero, suc, pred, _+_, _-_, _*_, _/_, _%_, _^_, _≤_, _<_}
@@ -10,17 +10,12 @@ use lib.Dec.{eqb, leb, ltb}
 use lib.ListN.{length, getD, set}
 use lib.Pow.{pow-pos, pow-lt, pow-mono}
 use borrow.Author.Tests.{eqb-true, eq-eqb, ne-eqb, leb-true, leb-false, le-leb, lt-leb}
-use Rattle.evidence.proofs.ListLaws.{split, true-or-false, bool-ext}
+use Rattle.lists.proofs.Laws.{split, true-or-false, bool-ext}
 use Rattle.layouts.specs.Layouts.{divides, allowedScheme, allowedN, lg, offset, covers, storedOnce, storesBlackOfTree}
 use Rattle.layouts.proofs.AllowedLaws.{allowed-scheme-is, allowed-n-is}
 use Rattle.layouts.proofs.Counts.{lg-unique, lg-bounds, power-of, of-power}
 use Rattle.chains.specs.declared.Value.{Value}
-use Rattle.chains.specs.Step.{pick, linked, linksSlot, storesSlot, storesBlack, linkSlot, restartSlot, each, linkedSlots, restarted}
-
-pub size-of : (l : ℕ) → l ≤ 16 → 1 * 2 ^ l % 4294967296 ≡ 2 ^ l
-size-of l h =
-    let b : 2 ^ l < 2 ^ 32 = pow-lt {i = l} {j = 32} (omega arith) in
-    ap (λ (x : ℕ). x % 4294967296) (one-mul (2 ^ l)) ∙ mod-eq-of-lt b
+use Rattle.chains.specs.Step.{linked, linksSlot, storesSlot, storesBlack, linkSlot, restartSlot, each, linkedSlots, restarted}
 
 -- ---- whether a day is linked to a slot
 

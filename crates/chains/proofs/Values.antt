@@ -10,12 +10,12 @@ use lib.ListN.{length, getD, take, set, length-map, length-append}
 use lib.Pow.{pow-mono}
 use lib.Seq.{take-suc, take-suc-set}
 use borrow.Author.Tests.{leb-true, leb-false}
-use Rattle.evidence.specs.Evidence.{_among_, upFrom, keep}
-use Rattle.evidence.proofs.ListLaws.{split, true-or-false, and-both, upFrom-mem, keep-mem}
+use Rattle.lists.specs.Lists.{_among_, upFrom, keep}
+use Rattle.lists.proofs.Laws.{split, true-or-false, and-both, upFrom-mem, keep-mem, upFrom-snoc, length-upFrom}
 use Rattle.layouts.specs.Layouts.{divides, allowedScheme, allowedN, lg, Name, black, tile, tree, levels, storedOnce, storesBlackOfTree, namesOfDay, chainsOfDay, coveredDays}
 use Rattle.layouts.proofs.AllowedLaws.{allowed-scheme-is, allowed-n-is}
-use Rattle.layouts.proofs.Coverage.{divisor-le, upFrom-snoc}
-use Rattle.layouts.proofs.Counts.{of-power, length-upFrom}
+use Rattle.layouts.proofs.Coverage.{divisor-le}
+use Rattle.layouts.proofs.Counts.{of-power}
 use Rattle.layouts.proofs.Positions.{levels-run}
 use Rattle.chains.specs.declared.Value.{Value}
 use Rattle.chains.specs.Step.{linked, storesBlack, linkedSlots, restarted, current, dayValues, Stepped}

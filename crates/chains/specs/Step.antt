@@ -1,7 +1,7 @@
 -- The running hashes, and what one more day does to them. Definitions only.
 -- There is one for black and seventeen slots: tile chain c(i) in slot i, or the tree's level l in slot l.
 use mathlib.Core.Path.{_≡_}
-use mathlib.Core.Bool.{Bool, true, false, _&&_}
+use mathlib.Core.Bool.{Bool, true, false, _&&_, cond}
 use mathlib.Core.List.{List, [], _∷_, _++_, map}
 use Prim.Native.Nat.{ℕ, zero, suc, _^_}
 use lib.Dec.{leb}
@@ -10,10 +10,6 @@ use Rattle.layouts.specs.Layouts.{divides, lg, Name, black, tile, tree, offset,
 use Rattle.sha256.specs.Sha256.{hashed, bytesOf}
 use Rattle.chains.specs.declared.DayStep.{DayStep}
 use Rattle.chains.specs.declared.Value.{Value}
-
-abbrev pub pick : {A : Type 0} → Bool → A → A → A
-pick true a b = a
-pick false a b = b
 
 -- the start of a chain, as words
 unfoldable pub startValue : ℕ → ℕ → Value
@@ -48,10 +44,10 @@ storesBlack (suc (suc (suc zero))) n g = storesBlackOfTree n g
 storesBlack (suc (suc (suc (suc s)))) n g = false
 
 abbrev pub linkSlot : ℕ → ℕ → ℕ → List ℕ → ℕ → Value → Value
-linkSlot scheme n g h i v = pick (linksSlot scheme n g i) (linked v h) v
+linkSlot scheme n g h i v = cond (linksSlot scheme n g i) (linked v h) v
 
 abbrev pub restartSlot : ℕ → ℕ → ℕ → Value → ℕ → Value → Value
-restartSlot scheme n g start i v = pick (storesSlot scheme n g i) start v
+restartSlot scheme n g start i v = cond (storesSlot scheme n g i) start v
 
 -- a function of the index and the value, at each slot from i on
 abbrev pub each : (ℕ → Value → Value) → ℕ → List Value → List Value

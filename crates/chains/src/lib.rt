@@ -36,13 +36,6 @@ fn link(v: Value, h: [u32; 8]) -> Value
     }
 }
 
-fn size(l: u32) -> u32
-    requires { ⌜ l ≤ 16 ⌝ }
-    ensures { λ r. ⌜ r ≡ 2 ^ l ⌝ }
-{
-    1u32 << l
-}
-
 fn links_slot(scheme: u32, n: u32, g: u32, i: u32) -> bool
     requires { ⌜ (allowedN n ≡ true) × (1 ≤ g) ⌝ }
     ensures { λ r. ⌜ r ≡ linksSlot scheme n g i ⌝ }
@@ -67,7 +60,7 @@ fn stores_slot(scheme: u32, n: u32, g: u32, i: u32) -> bool
         return g % n == 0;
     }
     if scheme == 3 {
-        return g % size(i) == 0;
+        return g % layouts::size(i) == 0;
     }
     false
 }
@@ -82,7 +75,7 @@ fn stores_black(scheme: u32, n: u32, g: u32) -> bool
     if scheme != 3 {
         return true;
     }
-    size(layouts::lg(g)) != g
+    layouts::size(layouts::lg(g)) != g
 }
 
 fn slot_linked(scheme: u32, n: u32, g: u32, i: usize, v: Value, h: [u32; 8]) -> Value
@@ -171,17 +164,5 @@ pub fn step(
         slots: next,
         values,
         count: k,
-    }
-}
-
-// Writes 32 bytes at a place of the part.
-pub fn put(part: &mut [u8], at: usize, b: [u8; 32])
-    requires { ⌜ at + 32 ≤ length (now part) ⌝ }
-    ensures { λ r. ⌜ now (part .exit) ≡ take at (now (part .entry)) ++ b ++ drop (at + 32) (now (part .entry)) ⌝ }
-{
-    let mut j = 0usize;
-    while j < 32 {
-        part[at + j] = b[j];
-        j += 1;
     }
 }

@@ -6,14 +6,15 @@ use Prim.Native.Nat.{ℕ, zero, suc, _+_, _*_, _≤_}
 use native.Mathlib.Omega.{arith}
 use lib.ListN.{length, take, drop}
 use lib.Seq.{take-take, take-nil}
-use Rattle.evidence.specs.Evidence.{_among_, same, days, tableOf, dayOf, changed, value, values, checkOutcomes, NoCollision}
+use Rattle.lists.specs.Lists.{_among_, same}
+use Rattle.evidence.specs.Evidence.{days, tableOf, dayOf, changed, value, values, checkOutcomes, NoCollision}
 use Rattle.layouts.specs.Layouts.{chains}
 use Rattle.ledger.specs.Ledger.{startOf, daysOf, EndsHold}
 use Rattle.ledger.proofs.DayLaws.{days-read}
 use Rattle.sha256.specs.Sha256.{sha256}
 use Rattle.chains.specs.Book.{start, bookOf, inputsOf}
 use Rattle.chains.proofs.BookLaws.{book-front, check-finds, check-passes}
-use Rattle.checking.specs.Calls.{digestsOf, outcomesOf}
+use Rattle.checking.specs.Contract.{digestsOf, outcomesOf}
 
 -- a book that begins with the one over the days E, however it goes on
 module _ (s n d : ℕ) (E : List (List ℕ)) (ledger ends rest : List ℕ) (h : d ≤ length E) where

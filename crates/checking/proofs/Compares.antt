@@ -8,11 +8,11 @@ use native.Mathlib.Numerals.{add-one}
 use native.Mathlib.Omega.{arith}
 use lib.ListN.{length, getD, set, take, drop, length-append, length-drop}
 use lib.Seq.{take-all, ext-getD, getD-take, length-take-le, take-suc, set-at, drop-cons, drop-drop, length-front}
-use Rattle.evidence.specs.Evidence.{same}
-use Rattle.evidence.proofs.ListLaws.{split, same-eq, eq-same, same-refl}
+use Rattle.lists.specs.Lists.{same}
+use Rattle.lists.proofs.Laws.{split, same-eq, eq-same, same-refl}
 use Rattle.chains.specs.declared.Value.{Value}
 use Rattle.sha256.specs.Sha256.{bytesOf}
-use Rattle.checking.specs.Calls.{outcomeOf, compared}
+use Rattle.checking.specs.Contract.{outcomeOf, compared}
 
 -- two lists that differ somewhere are not the same
 pub differs : (book b : List ℕ) (j : ℕ) → length b ≡ 32 → 32 ≤ length book → j < 32 → (getD book j 0 ≡ getD b j 0 → ⊥) → false ≡ same (take 32 book) b

@@ -7,13 +7,13 @@ use native.Mathlib.Omega.{arith}
 use lib.Dec.{leb}
 use lib.ListN.{length, drop}
 use borrow.Author.Tests.{leb-true, le-leb, lt-leb}
-use Rattle.evidence.proofs.ListLaws.{and-both}
+use Rattle.lists.proofs.Laws.{and-both}
 use Rattle.layouts.specs.Layouts.{allowedScheme, allowedN, unless, orElse, layoutRefusal, chains}
 use Rattle.layouts.proofs.AllowedLaws.{unless-zero, or-else-zero, layout-is, allowed-d-is}
 use Rattle.ledger.specs.Ledger.{endsRefusal}
 use Rattle.ledger.proofs.EndLaws.{refusal-none}
 use Rattle.checking.specs.declared.Checked.the-variants.{Done, Refused}
-use Rattle.checking.specs.Calls.{checkedBy, checkRefusal, digestsOf, outcomesOf, front, workAfter, outcomesAfter, Ready}
+use Rattle.checking.specs.Contract.{checkedBy, checkRefusal, digestsOf, outcomesOf, front, workAfter, outcomesAfter, Ready}
 
 module _ (s n f d : ℕ) (ends : List ℕ) (size book work places : ℕ) where
   pub layout-first : {x : ℕ} → x ≡ layoutRefusal s n f d → (x ≡ 0 → ⊥) → x ≡ checkRefusal s n f d ends size book work places

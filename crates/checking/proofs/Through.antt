@@ -8,12 +8,12 @@ use native.Mathlib.Omega.{arith}
 use lib.ListN.{length, getD, take, drop, replicate, length-append, length-drop, List·getD-append}
 use lib.Seq.{drop-drop, getD-at, length-take-le}
 use borrow.Rule.Slice.PartMut.{midOf, putMid}
-use Rattle.evidence.specs.Evidence.{_among_, same, upFrom, days, Within, dayOf, digest, value, checkOutcomes}
-use Rattle.evidence.proofs.ListLaws.{upFrom-bounds}
+use Rattle.lists.specs.Lists.{_among_, same, upFrom}
+use Rattle.evidence.specs.Evidence.{days, Within, dayOf, digest, value, checkOutcomes}
+use Rattle.lists.proofs.Laws.{upFrom-bounds, length-upFrom, upFrom-snoc}
 use Rattle.evidence.proofs.ValueLaws.{value-same}
 use Rattle.layouts.specs.Layouts.{allowedScheme, allowedN, Name, coveredDays, namesOfDay, namesThrough, chainsOfDay, chains}
-use Rattle.layouts.proofs.Counts.{length-upFrom}
-use Rattle.layouts.proofs.Coverage.{chains-within, chains-front, chains-suc, upFrom-snoc}
+use Rattle.layouts.proofs.Coverage.{chains-within, chains-front, chains-suc}
 use Rattle.ledger.specs.Ledger.{startOf, endOf, dayAt, daysOf, EndsHold}
 use Rattle.ledger.proofs.DayLaws.{days-none, days-snoc, days-length}
 use Rattle.sha256.specs.Sha256.{sha256, hashed, bytesOf}
@@ -24,9 +24,9 @@ use Rattle.chains.specs.Book.{start}
 use Rattle.chains.specs.Step.{startValue, linked, linkedSlots, current, dayValues, Stepped}
 use Rattle.chains.proofs.Values.{chainsOfDay-length}
 use Rattle.chains.proofs.Running.{Holds, holds-fresh, holds-next, namesOfDay-right}
-use Rattle.chains.proofs.Puts.{lent-put, lent-length}
+use Rattle.buffers.proofs.Lent.{lent-put, lent-length}
 use Rattle.checking.proofs.Compares.{to-end}
-use Rattle.checking.specs.Calls.{digestsOf, outcomesOf, outcomeOf, compared, Ready}
+use Rattle.checking.specs.Contract.{digestsOf, outcomesOf, outcomeOf, compared, Ready}
 
 -- ---- digests and outcomes of one more day
 

@@ -10,7 +10,7 @@ ghost use Rattle.evidence.specs.Evidence as lists;
 ghost use Rattle.chains.specs.Step.{Stepped};
 ghost use Rattle.layouts.specs.Layouts.{allowedScheme, allowedN, namesOfDay, chains};
 ghost use Rattle.sha256.specs.Sha256.{hashed, bytesOf};
-ghost use Rattle.checking.specs.Calls.{numberOf, checkedBy, checkRefusal, Ready, digestsOf, outcomesOf, workAfter, outcomesAfter, outcomeOf, compared};
+ghost use Rattle.checking.specs.Contract.{numberOf, checkedBy, checkRefusal, Ready, digestsOf, outcomesOf, workAfter, outcomesAfter, outcomeOf, compared};
 
 pub enum Checked {
     Done,
@@ -113,7 +113,7 @@ fn check_day(
     ensures { λ r. ⌜ now (outcomes .exit) ≡ compared (take (r .count) (r .values)) (now (book .entry)) ++ drop (r .count) (now (outcomes .entry)) ⌝ }
 {
     let h = hasher::digest(0, day);
-    chains::put(work, 0, sha256::bytes(h));
+    buffers::put(work, 0, sha256::bytes(h));
     let step = chains::step(scheme, n, g, start, black, slots, h);
     let values = step.values;
     let k = step.count;

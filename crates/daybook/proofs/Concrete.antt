@@ -6,8 +6,9 @@ use mathlib.Core.Bool.{Bool, true, false, not, _&&_, _||_}
 use mathlib.Core.List.{List, [], _∷_, _++_, List·Memᴰ, List·Memᴰ·head, List·Memᴰ·tail}
 use Prim.Native.Nat.{ℕ, zero, suc, _+_, _*_, _/_, _%_, _^_, _≤_}
 use lib.ListN.{length, replicate, length-replicate}
-use Rattle.evidence.specs.Evidence.{_among_, same, tableOf, changed, values, checkOutcomes, inputs, NoCollision}
-use Rattle.evidence.proofs.ListLaws.{true-or-false, or-split, and-both, same-eq, eq-same}
+use Rattle.lists.specs.Lists.{_among_, same}
+use Rattle.evidence.specs.Evidence.{tableOf, changed, values, checkOutcomes, inputs, NoCollision}
+use Rattle.lists.proofs.Laws.{true-or-false, or-split, and-both, same-eq, eq-same}
 use Rattle.evidence.proofs.ValueLaws.{check-table}
 use Rattle.layouts.specs.Layouts.{namesThrough, chains}
 use Rattle.layouts.proofs.Coverage.{chains-within}

@@ -9,25 +9,26 @@ use lib.Dec.{leb}
 use lib.ListN.{length, take, drop, length-append, length-map, take-append-drop}
 use lib.Seq.{take-at, drop-at, take-all, length-take-le, take-append-le}
 use borrow.Author.Tests.{le-leb}
-use Rattle.evidence.specs.Evidence.{_among_, keep, Ascends, days, Within, meets, setOutcome, tableOf, Gives, listing, accepted, dayOf, changed, values, checkOutcomes, NoCollision}
+use Rattle.lists.specs.Lists.{every, _among_, keep, Ascends, lastOf}
+use Rattle.evidence.specs.Evidence.{days, Within, meets, setOutcome, tableOf, Gives, listing, accepted, dayOf, changed, values, checkOutcomes, NoCollision}
 use Rattle.evidence.proofs.TableLaws.{listing-ascends, listed-iff, given-iff-accepted, lists-none}
 use Rattle.evidence.proofs.ValueLaws.{changed-within, changed-listed, listed-changed, none-listed, none-changed}
 use Rattle.layouts.specs.Layouts.{divides, allowedScheme, allowedN, allowedD, unless, orElse, setupRefusal, layoutRefusal, lastDays, chains}
-use Rattle.rules.specs.Reading.{lowOf, lastOf, lastGood}
+use Rattle.reading.specs.Numbers.{lowOf, lastGood}
 use Rattle.layouts.proofs.AllowedLaws.{Setup, setup-is, allowed-scheme-is, allowed-n-is, allowed-d-is, divides-factor}
 use Rattle.layouts.proofs.Coverage.{chains-cover, tree-single, chains-front}
 use Rattle.ledger.specs.Ledger.{daysOf, endsRefusal}
 use Rattle.sha256.specs.Sha256.{sha256}
 use Rattle.chains.specs.Book.{start, bookOf, inputsOf}
 use Rattle.chains.proofs.BookLaws.{book-front, book-length, values-of-length, check-finds, check-passes}
-use Rattle.service.specs.Calls.{numberOf, openedBy, fresh, opened}
+use Rattle.service.specs.Contract.{numberOf, openedBy, fresh, opened}
 use Rattle.service.specs.Journal.{empty, refusals}
 use Rattle.service.specs.Run.{Call, argumentOf, answers, bookWritten, journalOf}
 use Rattle.service.proofs.Lists as service
 use Rattle.checking.specs.declared.Checked.the-variants.{Done}
-use Rattle.checking.specs.Calls.{checkedBy, checkRefusal, digestsOf, outcomesOf, front, workAfter, outcomesAfter}
+use Rattle.checking.specs.Contract.{checkedBy, checkRefusal, digestsOf, outcomesOf, front, workAfter, outcomesAfter}
 use Rattle.checking.proofs.Through.{digests-whole, outcomes-whole}
-use Rattle.reading.specs.Answers.{Report, tableIn, readRefusal, listedIn, found, reportOn, listAfter}
+use Rattle.reading.specs.Contract.{Report, tableIn, readRefusal, listedIn, found, reportOn, listAfter}
 use Rattle.reading.proofs.Good.{good-given}
 use Rattle.reading.proofs.Report.{reportOn-found, list-found, read-given}
 use Rattle.daybook.specs.Claim.{Handed, sealed, wrote, changedDays, tableOfChanges, lastUnchanged, Premises, SealedApart, refusalOf, workLeft, outcomesLeft, report, listLeft, listedDays, Detected, Guarantee, Claim, Unaltered}

@@ -9,14 +9,14 @@ use lib.Dec.{leb, ltb}
 use lib.ListN.{length, getD, take, drop, replicate, length-append, length-replicate}
 use lib.Seq.{take-at, drop-at, take-length, take-suc, split-at, ext-getD}
 use borrow.Author.Tests.{leb-true}
-use Rattle.evidence.specs.Evidence.{_among_}
-use Rattle.layouts.specs.Layouts.{bookLimit, allowedD, unless, orElse, chains}
+use Rattle.lists.specs.Lists.{_among_, joined}
+use Rattle.refusals.specs.Refusals.{bookLimit, dayLimit}
+use Rattle.layouts.specs.Layouts.{allowedD, unless, orElse, chains}
 use Rattle.layouts.proofs.AllowedLaws.{unless-zero, or-else-zero}
-use Rattle.ledger.specs.Ledger.{dayLimit, startOf, endOf, dayAt, daysOf, endsRefusal, EndsHold}
+use Rattle.ledger.specs.Ledger.{startOf, endOf, dayAt, daysOf, endsRefusal, EndsHold}
 use Rattle.ledger.proofs.EndLaws.{none-refusal}
 use Rattle.ledger.proofs.DayLaws.{days-length, days-at}
-use Rattle.hasher.specs.Hasher.{joined}
-use Rattle.service.specs.Calls.{numberOf, opened}
+use Rattle.service.specs.Contract.{numberOf, opened}
 use Rattle.service.specs.Journal.{Journal, empty, Argument, adds, closes, refusalOf, entered, unlessRefused, kept, journalAfter}
 use Rattle.service.specs.Run.{Call, argumentOf, journalOf}
 use Rattle.daybook.specs.Claim.{Handed, sealed, wrote, Premises, report, Same, Met}

@@ -7,18 +7,18 @@ use mathlib.Core.Bool.{Bool, true, not, _&&_}
 use mathlib.Core.List.{List, [], _∷_, _++_, map}
 use Prim.Native.Nat.{ℕ, _*_, _≤_}
 use lib.ListN.{length, take, drop}
-use Rattle.evidence.specs.Evidence.{_among_, keep, Ascends, days, meets, tableOf, Gives, dayOf, changed, NoCollision}
+use Rattle.lists.specs.Lists.{every, _among_, keep, Ascends, lastOf}
+use Rattle.evidence.specs.Evidence.{days, meets, tableOf, Gives, dayOf, changed, NoCollision}
 use Rattle.layouts.specs.Layouts.{divides, allowedD, lastDays, chains}
-use Rattle.rules.specs.Reading.{lastOf}
 use Rattle.ledger.specs.Ledger.{daysOf, endsRefusal}
 use Rattle.sha256.specs.Sha256.{sha256}
 use Rattle.chains.specs.Book.{bookOf, inputsOf}
-use Rattle.service.specs.Calls.{numberOf, opened}
+use Rattle.service.specs.Contract.{numberOf, opened}
 use Rattle.service.specs.Journal.{empty, refusals}
 use Rattle.service.specs.Run.{Call, argumentOf, answers, bookWritten, journalOf}
 use Rattle.checking.specs.declared.Checked.the-variants.{Done}
-use Rattle.checking.specs.Calls.{checkedBy, checkRefusal, digestsOf, workAfter, outcomesAfter}
-use Rattle.reading.specs.Answers.{Report, found, reportOn, listAfter}
+use Rattle.checking.specs.Contract.{checkedBy, checkRefusal, digestsOf, workAfter, outcomesAfter}
+use Rattle.reading.specs.Contract.{Report, found, reportOn, listAfter}
 
 -- what is handed to checking and reading: the altered ledger with its ends, the book, and the buffers, with any contents
 pub record Handed : Type 0 where

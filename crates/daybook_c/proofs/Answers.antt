@@ -9,20 +9,20 @@ use native.Mathlib.Nat.{div-add-mod', pos-of-ne-zero}
 use native.Mathlib.Omega.{arith}
 use borrow.Author.Tests.{eqb-true}
 use Rattle.layouts.specs.Layouts.{allowedScheme, allowedN, layoutRefusal, lg, chains, valueCount}
-use Rattle.rules.specs.Reading.{lastGood}
+use Rattle.reading.specs.Numbers.{lastGood}
 use Rattle.layouts.proofs.AllowedLaws.{layout-is, allowed-scheme-is, allowed-n-is, allowed-d-is, divides-factor}
 use Rattle.layouts.proofs.Counts.{values-length}
-use Rattle.reading.specs.Answers.{Report, tableIn, readRefusal, listedIn, reportOf, reportOn, unlessRefused, found}
+use Rattle.reading.specs.Contract.{Report, tableIn, readRefusal, listedIn, reportOf, reportOn, unlessRefused, found}
 use Rattle.reading.specs.declared.Numbers.{Numbers}
 use Rattle.reading.specs.declared.Reading.{Reading}
 use Rattle.reading.specs.declared.Reading.the-variants.{Clean, Changed, Refused}
 use Rattle.record_bytes.specs.Bytes.{recordBytes, recordOf}
-use Rattle.service.specs.Calls.{numberOf, writingNumber, countOf, addRefusal, added, closeRefusal, closed}
+use Rattle.service.specs.Contract.{numberOf, writingNumber, countOf, addRefusal, added, closeRefusal, closed}
 use Rattle.service.specs.declared.Record.{Record}
 use Rattle.service.specs.declared.Added.{Added}
 use Rattle.service.specs.declared.Closed.{Closed}
-use Rattle.daybook_c.specs.Calls as spec
-use Rattle.daybook_c.specs.Calls.{recordAfterAdd, recordAfterClose, valuesAfterClose, numbersAfter, valuesAfter}
+use Rattle.daybook_c.specs.Contract as spec
+use Rattle.daybook_c.specs.Contract.{recordAfterAdd, recordAfterClose, valuesAfterClose, numbersAfter, valuesAfter}
 
 done : {A : Type 0} {x k : ℕ} (new old : A) → x ≡ k → x ≡ 0 → new ≡ spec.keptIfRefused k new old
 done new old e z = ap (λ k. spec.keptIfRefused k new old) (sym z ∙ e)

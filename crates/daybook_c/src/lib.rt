@@ -9,15 +9,15 @@ use service::Writing;
 ghost use mathlib.Core.Path.{_≡_};
 ghost use mathlib.Core.List.{[], _∷_};
 ghost use lib.ListN.{length};
-ghost use Rattle.checking.specs.Calls as checking;
-ghost use Rattle.checking.specs.Calls.{checkRefusal, workAfter, outcomesAfter};
+ghost use Rattle.checking.specs.Contract as checking;
+ghost use Rattle.checking.specs.Contract.{checkRefusal, workAfter, outcomesAfter};
 ghost use Rattle.layouts.specs.Layouts.{setupRefusal, layoutRefusal};
-ghost use Rattle.reading.specs.Answers.{readRefusal, reportOf, reportOn, listAfter};
+ghost use Rattle.reading.specs.Contract.{readRefusal, reportOf, reportOn, listAfter};
 ghost use Rattle.record_bytes.specs.Bytes.{recordBytes, recordOf};
-ghost use Rattle.sealing.specs.Calls as sealing;
-ghost use Rattle.sealing.specs.Calls.{sealRefusal, bookAfter};
-ghost use Rattle.service.specs.Calls.{numberOf, writingNumber, countOf, opened, addRefusal, closeRefusal, written};
-ghost use Rattle.daybook_c.specs.Calls.{recordAfterAdd, recordAfterClose, valuesAfterClose, numbersAfter, valuesAfter};
+ghost use Rattle.sealing.specs.Contract as sealing;
+ghost use Rattle.sealing.specs.Contract.{sealRefusal, bookAfter};
+ghost use Rattle.service.specs.Contract.{numberOf, writingNumber, countOf, opened, addRefusal, closeRefusal, written};
+ghost use Rattle.daybook_c.specs.Contract.{recordAfterAdd, recordAfterClose, valuesAfterClose, numbersAfter, valuesAfter};
 
 fn answer_number(a: Answer) -> u32
     ensures { λ r. ⌜ r ≡ numberOf a ⌝ }

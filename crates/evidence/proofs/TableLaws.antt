@@ -7,8 +7,9 @@ use Prim.Native.Nat.{ℕ, zero, suc, _+_, _≤_, _<_}
 use native.Mathlib.Omega.{arith}
 use lib.Dec.{eqb}
 use borrow.Author.Tests.{eqb-true, eqb-false, eq-eqb, not-true}
-use Rattle.evidence.specs.Evidence.{_among_, has, same, upFrom, keep, Ascends, days, Within, meets, setOutcome, tableOf, Gives, cleared, listing, accepted}
-use Rattle.evidence.proofs.ListLaws.{split, true-or-false, or-split, or-left, or-right, bool-ext, has-mem, mem-has, same-eq, eq-same, upFrom-mem, upFrom-bounds, keep-mem, mem-keep, keep-congr, keep-ascends, no-mem, mem-nil, map-same}
+use Rattle.lists.specs.Lists.{_among_, has, same, upFrom, keep, Ascends}
+use Rattle.evidence.specs.Evidence.{days, Within, meets, setOutcome, tableOf, Gives, cleared, listing, accepted}
+use Rattle.lists.proofs.Laws.{split, true-or-false, or-split, or-left, or-right, bool-ext, has-mem, mem-has, same-eq, eq-same, upFrom-mem, upFrom-bounds, keep-mem, mem-keep, keep-congr, keep-ascends, no-mem, mem-nil, map-same}
 
 -- a chain covers a day of S exactly if there is such a day
 pub meets-of : (S c : List ℕ) (g : ℕ) → g among c → g among S → meets S c ≡ true

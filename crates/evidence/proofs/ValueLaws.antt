@@ -10,8 +10,9 @@ use native.Mathlib.Omega.{arith}
 use lib.ListN.{length, getD, take, drop, length-append}
 use lib.Seq.{take-at, drop-at}
 use borrow.Author.Tests.{not-true}
-use Rattle.evidence.specs.Evidence.{_among_, same, upFrom, keep, days, Within, meets, setOutcome, tableOf, listing, accepted, Gives, dayOf, changed, digest, linkInput, value, values, checkOutcomes, linkInputs, inputs, NoCollision}
-use Rattle.evidence.proofs.ListLaws.{split, true-or-false, same-eq, eq-same, no-mem, upFrom-mem, upFrom-bounds, keep-mem, mem-keep, map-same}
+use Rattle.lists.specs.Lists.{_among_, same, upFrom, keep}
+use Rattle.evidence.specs.Evidence.{days, Within, meets, setOutcome, tableOf, listing, accepted, Gives, dayOf, changed, digest, linkInput, value, values, checkOutcomes, linkInputs, inputs, NoCollision}
+use Rattle.lists.proofs.Laws.{split, true-or-false, same-eq, eq-same, no-mem, upFrom-mem, upFrom-bounds, keep-mem, mem-keep, map-same}
 use Rattle.evidence.proofs.TableLaws.{meets-of, meets-day, lists-all, lists-exactly, lists-none}
 
 -- the inputs of the days' digests

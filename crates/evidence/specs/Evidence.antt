@@ -6,34 +6,7 @@ use mathlib.Core.List.{List, [], _∷_, _++_, map, flatMap, List·Memᴰ}
 use Prim.Native.Nat.{ℕ, zero, suc, pred, _≤_}
 use lib.Dec.{eqb}
 use lib.ListN.{getD, take, drop}
-
--- ---- lists
-
-infix 4 _among_
-abbrev pub _among_ : {A : Type 0} → A → List A → Type 0  -- a stands in l: the library's membership
-a among l = List·Memᴰ a l
-
-abbrev pub has : ℕ → List ℕ → Bool  -- the test of it, for numbers
-has g [] = false
-has g (x ∷ xs) = eqb g x || has g xs
-
-abbrev pub same : List ℕ → List ℕ → Bool  -- the test that two lists are equal
-same [] [] = true
-same [] (y ∷ ys) = false
-same (x ∷ xs) [] = false
-same (x ∷ xs) (y ∷ ys) = eqb x y && same xs ys
-
-abbrev pub upFrom : ℕ → ℕ → List ℕ  -- n numbers from i on
-upFrom i zero = []
-upFrom i (suc n) = i ∷ upFrom (suc i) n
-
-abbrev pub keep : (ℕ → Bool) → List ℕ → List ℕ  -- the numbers that pass a test, in order
-keep p [] = []
-keep p (x ∷ xs) = cond (p x) (x ∷ keep p xs) (keep p xs)
-
-abbrev pub Ascends : ℕ → List ℕ → Type 0  -- ascending, each once, none below i
-Ascends i [] = Unit {0}
-Ascends i (x ∷ xs) = (i ≤ x) × Ascends (suc x) xs
+use Rattle.lists.specs.Lists.{_among_, has, same, upFrom, keep}
 
 -- ---- hashing and checking
 

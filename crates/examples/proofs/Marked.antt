@@ -5,10 +5,10 @@ use mathlib.Core.Bool.{true, false}
 use mathlib.Core.List.{List, flatMap}
 use Prim.Native.Nat.{ℕ}
 use Rattle.evidence.specs.Evidence.{tableOf, listing, accepted}
-use Rattle.evidence.proofs.ListLaws.{true-or-false}
+use Rattle.lists.proofs.Laws.{true-or-false}
 use Rattle.evidence.proofs.TableLaws.{listing-ascends, given-iff-accepted, listed-iff}
 use Rattle.layouts.specs.Layouts.{lg, namesThrough, chains}
-use Rattle.rules.specs.Reading.{lastGood}
+use Rattle.reading.specs.Numbers.{lastGood}
 use Rattle.examples.specs.Examples.{Lists, NotGiven, Examples}
 
 lists : (s n d : ℕ) (table list : List ℕ) → accepted (chains s n d) d table ≡ true → listing (chains s n d) d table ≡ list → Lists s n d table list

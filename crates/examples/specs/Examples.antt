@@ -4,9 +4,10 @@ use mathlib.Core.Logic.{_↔_}
 use mathlib.Core.List.{List, [], _∷_}
 use Prim.Native.Nat.{ℕ}
 use lib.ListN.{length}
-use Rattle.evidence.specs.Evidence.{_among_, upFrom, Ascends, tableOf, Gives}
+use Rattle.lists.specs.Lists.{_among_, upFrom, Ascends, firstOf}
+use Rattle.evidence.specs.Evidence.{tableOf, Gives}
 use Rattle.layouts.specs.Layouts.{chains, valueCount}
-use Rattle.rules.specs.Reading.{firstOf, lowOf, lastGood}
+use Rattle.reading.specs.Numbers.{lowOf, lastGood}
 
 -- some set gives the table, and the list is that of the days of such sets, ascending, each once
 pub record Lists (scheme n d : ℕ) (table list : List ℕ) : Type 0 where

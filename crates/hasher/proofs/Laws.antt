@@ -9,7 +9,8 @@ use lib.Seq.{drop-append-le, drop-drop, take-at, length-take-le}
 use Rattle.sha256.specs.Sha256.{initial, chunks, blocks, padding, hashed}
 use Rattle.sha256.proofs.Laws.{chunks-append, chunks-add, length-blocks}
 use Rattle.hasher.specs.declared.Hasher.{Hasher}
-use Rattle.hasher.specs.Hasher.{rest, filled, onward, begun, held, absorbed, finished, absorbedAll, joined}
+use Rattle.hasher.specs.Hasher.{rest, filled, onward, begun, held, absorbed, finished, absorbedAll}
+use Rattle.lists.specs.Lists.{joined}
 
 -- ---- the bytes after the last whole block
 

@@ -7,7 +7,7 @@ use native.Mathlib.Omega.{arith}
 use lib.ListN.{length, getD, drop, drop-of-length-le}
 use lib.Seq.{drop-cons}
 use Rattle.sha256.specs.Sha256.{initial, wordAt, words, compress, chunks, blocks, wide, padding, hashed, bytesOf}
-use Rattle.hasher.specs.Link.{across, front, back}
+use Rattle.hasher.specs.Private.{across, front, back}
 
 pub across-of : (a b : ℕ) → b < 2 ^ 32 → a % 256 * 16777216 + b / 256 ≡ across a b
 unfolding across

@@ -35,11 +35,7 @@ absorbed st n y = onward (st .words) (held st n ++ y)
 unfoldable pub finished : Hasher → ℕ → List ℕ
 finished st n = blocks (st .words) (held st n ++ padding n)
 
--- the pieces ps more, one after the other, after n bytes; and the pieces as one list of bytes
+-- the pieces ps more, one after the other, after n bytes
 unfoldable pub absorbedAll : Hasher → ℕ → List (List ℕ) → Hasher
 absorbedAll st n [] = st
 absorbedAll st n (p ∷ ps) = absorbedAll (absorbed st n p) (n + length p) ps
-
-unfoldable pub joined : List (List ℕ) → List ℕ
-joined [] = []
-joined (p ∷ ps) = p ++ joined ps

@@ -6,7 +6,7 @@ ghost use lib.ListN.{length, take};
 ghost use Rattle.sha256.specs.Sha256.{words, wide, hashed, bytesOf};
 ghost use Rattle.hasher.specs.Hasher as spec;
 ghost use Rattle.hasher.specs.Hasher.{filled};
-ghost use Rattle.hasher.specs.Link as form;
+ghost use Rattle.hasher.specs.Private as form;
 
 // What the bytes of a message have come to: the hash value of its whole blocks, and the bytes since the last, followed by
 // zeros. How many bytes came is the caller's to know.

@@ -12,9 +12,12 @@ use lib.Dec.{eqb, leb}
 use lib.ListN.{length, length-map, length-append}
 use lib.Pow.{pow-pos, pow-mono}
 use borrow.Author.Tests.{eqb-true, eq-eqb, leb-true, not-true, not-false}
-use Rattle.evidence.specs.Evidence.{_among_, has, upFrom}
-use Rattle.evidence.proofs.ListLaws.{split, true-or-false, and-both, bool-ext, has-mem, upFrom-mem}
-use Rattle.layouts.specs.Layouts.{bookLimit, divides, allowedScheme, allowedN, allowedF, allowedD, unless, orElse, setupRefusal, layoutRefusal, lgIn, lg, Name, black, covers, namesThrough, coveredDays, chainsOfDay, chains, position}
+use Rattle.lists.specs.Lists.{_among_, has, upFrom}
+use Rattle.lists.proofs.Laws.{split, true-or-false, and-both, bool-ext, has-mem, upFrom-mem}
+use Rattle.refusals.specs.Refusals.{bookLimit}
+use Rattle.refusals.specs.Refusals.{bookLimit, Test, _orRefuse_, firstRefusal}
+use Rattle.refusals.proofs.TestLaws.{Pass, none-fails, pass-split, refused-before, refused-after}
+use Rattle.layouts.specs.Layouts.{divides, allowedScheme, allowedN, allowedF, allowedD, setupTests, layoutTests, setupRefusal, layoutRefusal, lgIn, lg, Name, black, covers, namesThrough, coveredDays, chainsOfDay, chains, position}
 use Rattle.layouts.proofs.Coverage.{chains-suc}
 use Rattle.layouts.proofs.Counts.{lg-unique, ones-small, digits, digits-small, through, count-through}
 
@@ -107,31 +110,28 @@ divides-factor n f d p e =
 
 -- ---- no refusal
 
-pub unless-zero : (b : Bool) (x : ℕ) → unless b (suc x) ≡ 0 → b ≡ true
-unless-zero true x e = refl
-unless-zero false x e = absurd (omega arith)
-
-pub or-else-zero : (x y : ℕ) → orElse x y ≡ 0 → (x ≡ 0) × (y ≡ 0)
-or-else-zero zero y e = (refl, e)
-or-else-zero (suc x) y e = absurd (omega arith)
-
 pub record Setup (scheme n f : ℕ) : Type 0 where
   pub scheme-ok : allowedScheme scheme ≡ true
   pub n-ok : allowedN n ≡ true
   pub f-ok : allowedF scheme f ≡ true
 
+setup-passed : (s n f : ℕ) → Pass (setupTests s n f) → Setup s n f
+setup-passed s n f p = record { scheme-ok = p .0; n-ok = p .1 .0; f-ok = p .1 .1 .0 }
+
 pub setup-is : (s n f : ℕ) → setupRefusal s n f ≡ 0 → Setup s n f
 unfolding setupRefusal
-setup-is s n f e =
-    let a = or-else-zero (unless (allowedScheme s) 1) (orElse (unless (allowedN n) 2) (unless (allowedF s f) 3)) e in
-    let b = or-else-zero (unless (allowedN n) 2) (unless (allowedF s f) 3) (a .1) in
-    record { scheme-ok = unless-zero (allowedScheme s) 0 (a .0); n-ok = unless-zero (allowedN n) 1 (b .0); f-ok = unless-zero (allowedF s f) 2 (b .1) }
+setup-is s n f e = setup-passed s n f (none-fails (setupTests s n f) refl e)
+
+pub layout-passed : (s n f d : ℕ) → Pass (layoutTests s n f d) → Setup s n f × (allowedD n f d ≡ true)
+layout-passed s n f d p = let q = pass-split (setupTests s n f) (allowedD n f d orRefuse 7 ∷ []) p in (setup-passed s n f (q .0), q .1 .0)
 
 pub layout-is : (s n f d : ℕ) → layoutRefusal s n f d ≡ 0 → Setup s n f × (allowedD n f d ≡ true)
 unfolding layoutRefusal
-layout-is s n f d e =
-    let a = or-else-zero (setupRefusal s n f) (unless (allowedD n f d) 7) e in
-    (setup-is s n f (a .0), unless-zero (allowedD n f d) 6 (a .1))
+layout-is s n f d e = layout-passed s n f d (none-fails (layoutTests s n f d) refl e)
+
+-- what the layouts ask of a call whose tests 1 2 3 7 found no cause
+pub layout-asks : (s n f d : ℕ) {x : ℕ} → x ≡ layoutRefusal s n f d → x ≡ 0 → (allowedScheme s ≡ true) × (allowedN n ≡ true) × (d ≤ 65536)
+layout-asks s n f d e z = let l = layout-is s n f d (sym e ∙ z) in (l .0 .scheme-ok, l .0 .n-ok, allowed-d-is n f d (l .1) .most)
 
 -- ---- logarithms by leading zeros
 
@@ -178,17 +178,19 @@ module _ (s n f : ℕ) where
   setup-0 {r} {q} {p} e t h u k v = rw (← e, not-false r t, ← h, not-false q u, ← k, not-false p v)
 
   pub layout-early : (d r : ℕ) → r ≡ setupRefusal s n f → (r ≡ 0 → ⊥) → r ≡ layoutRefusal s n f d
-  unfolding layoutRefusal
-  layout-early d zero e h = absurd (h refl)
-  layout-early d (suc r) e h = rw (← e)
+  unfolding setupRefusal layoutRefusal
+  layout-early d r e h = refused-before (setupTests s n f) (allowedD n f d orRefuse 7 ∷ []) e h
+
+  -- with tests 1 2 3 passed, the refusal is test 7's
+  layout-last : (d : ℕ) {r : ℕ} {q : Bool} → r ≡ setupRefusal s n f → r ≡ 0 → q ≡ allowedD n f d → cond q 0 7 ≡ layoutRefusal s n f d
+  unfolding setupRefusal layoutRefusal
+  layout-last d e z h = rw h (sym (refused-after (setupTests s n f) (allowedD n f d orRefuse 7 ∷ []) refl (sym e ∙ z)))
 
   pub layout-7 : (d : ℕ) {r : ℕ} {q : Bool} → r ≡ setupRefusal s n f → r ≡ 0 → q ≡ allowedD n f d → not q ≡ true → 7 ≡ layoutRefusal s n f d
-  unfolding layoutRefusal
-  layout-7 d {r} {q} e z h t = rw (← e, z, ← h, not-true q t)
+  layout-7 d {r} {q} e z h t = let w = layout-last d e z h in rw (not-true q t) at w
 
   pub layout-0 : (d : ℕ) {r : ℕ} {q : Bool} → r ≡ setupRefusal s n f → r ≡ 0 → q ≡ allowedD n f d → not q ≡ false → 0 ≡ layoutRefusal s n f d
-  unfolding layoutRefusal
-  layout-0 d {r} {q} e z h t = rw (← e, z, ← h, not-false q t)
+  layout-0 d {r} {q} e z h t = let w = layout-last d e z h in rw (not-false q t) at w
 
   pub setup-bounds : setupRefusal s n f ≡ 0 → (1 ≤ n) × (n ≤ 256) × (1 ≤ f) × (f ≤ 64)
   setup-bounds e =
@@ -238,9 +240,9 @@ tile-bound n g e l =
     let m = mul-le-mul b k in
     omega arith
 
--- few values in all
-pub few : (s n g : ℕ) → allowedScheme s ≡ true → allowedN n ≡ true → g ≤ 65536 → length (chains s n g) < 1000000
-few s n g a e l = rw (chains-through s n g a e) (go s (allowed-scheme-is s a))
+-- the values are few
+pub chains-few : (s n g : ℕ) → allowedScheme s ≡ true → allowedN n ≡ true → g ≤ 65536 → length (chains s n g) < 1000000
+chains-few s n g a e l = rw (chains-through s n g a e) (go s (allowed-scheme-is s a))
   where
     go : (t : ℕ) → (1 ≤ t) × (t ≤ 3) → through t n g < 1000000
     go zero r = absurd (omega (arith, r .0))
@@ -336,4 +338,4 @@ pub lg-fits : (n k : ℕ) → allowedN n ≡ true → k ≡ lg n → 2 + k < 2 ^
 lg-fits n k e h = let p = allowed-n-is n e in omega (arith, p .small)
 
 pub place-fits : (s n g i : ℕ) {p : ℕ} → allowedScheme s ≡ true → allowedN n ≡ true → g ≤ 65536 → i ≤ 16 → p ≡ length (chains s n (g - 1)) → p + i < 2 ^ 32
-place-fits s n g i a e l h q = let k = few s n (g - 1) a e (omega arith) in omega arith
+place-fits s n g i a e l h q = let k = chains-few s n (g - 1) a e (omega arith) in omega arith

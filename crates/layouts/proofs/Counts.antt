@@ -13,17 +13,14 @@ use lib.Pow.{pow-pos, pow-mono, pow-add}
 use lib.Count.{ones, ones-step, ones-le}
 use lib.ListN.{length, length-append, length-map}
 use borrow.Author.Tests.{eqb-true, eq-eqb, ne-eqb, leb-true, leb-false}
-use Rattle.evidence.specs.Evidence.{_among_, has, upFrom, keep, days}
-use Rattle.evidence.proofs.ListLaws.{split, true-or-false, bool-ext, has-mem, mem-has, upFrom-mem, keep-mem, mem-keep}
+use Rattle.lists.specs.Lists.{_among_, has, upFrom, keep}
+use Rattle.evidence.specs.Evidence.{days}
+use Rattle.lists.proofs.Laws.{length-upFrom, split, true-or-false, bool-ext, has-mem, mem-has, upFrom-mem, keep-mem, mem-keep}
 use Rattle.layouts.specs.Layouts.{divides, lgIn, lg, Name, black, tile, levels, storedOnce, namesOfDay, namesThrough, coveredDays, chains, valueCount}
 use Rattle.layouts.proofs.Coverage.{namesThrough-suc}
 
 abbrev pub bit : Bool → ℕ
 bit b = cond b 1 0
-
-pub length-upFrom : (i n : ℕ) → length (upFrom i n) ≡ n
-length-upFrom i zero = refl
-length-upFrom i (suc n) = ap suc (length-upFrom (suc i) n)
 
 count-suc : (s n d : ℕ) → length (namesThrough s n (suc d)) ≡ length (namesThrough s n d) + length (namesOfDay s n (suc d))
 count-suc s n d = rw (namesThrough-suc, length-append)

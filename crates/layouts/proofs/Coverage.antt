@@ -10,8 +10,9 @@ use native.Mathlib.Decide.{decLe}
 use native.Mathlib.Omega.{arith}
 use lib.Dec.{eqb, leb, ltb}
 use borrow.Author.Tests.{eqb-true, eq-eqb}
-use Rattle.evidence.specs.Evidence.{_among_, has, upFrom, keep, days, Within}
-use Rattle.evidence.proofs.ListLaws.{has-mem, upFrom-mem, upFrom-bounds, keep-mem, mem-keep}
+use Rattle.lists.specs.Lists.{_among_, has, upFrom, keep}
+use Rattle.evidence.specs.Evidence.{days, Within}
+use Rattle.lists.proofs.Laws.{upFrom-snoc, has-mem, upFrom-mem, upFrom-bounds, keep-mem, mem-keep}
 use Rattle.layouts.specs.Layouts.{divides, lg, Name, black, tile, tree, lastDays, offset, covers, coveredDays, levels, storedOnce, storesBlackOfTree, namesOfDay, namesThrough, chainsOfDay, chains}
 
 -- a divisor of a number that is not 0 is no greater
@@ -148,12 +149,6 @@ tree-single n d g m =
     none b = mem-keep (λ l. divides (2 ^ l) g) (upFrom 0 g) 0 (upFrom-mem 0 g 0 (omega arith) (omega arith)) (eq-eqb (g % 1) 0 (mod-one g))
 
 -- ---- the chains of d days are the front of those of more
-
-pub upFrom-snoc : (i k : ℕ) → upFrom i (suc k) ≡ upFrom i k ++ ((i + k) ∷ [])
-upFrom-snoc i zero = rw add-zero
-upFrom-snoc i (suc k) =
-    let e : suc i + k ≡ i + suc k = omega arith in
-    ap (λ (r : List ℕ). i ∷ r) (upFrom-snoc (suc i) k ∙ ap (λ (x : ℕ). upFrom (suc i) k ++ (x ∷ [])) e)
 
 namesOfDay-append : (s n : ℕ) (xs ys : List ℕ) → flatMap (namesOfDay s n) (xs ++ ys) ≡ flatMap (namesOfDay s n) xs ++ flatMap (namesOfDay s n) ys
 unfolding flatMap

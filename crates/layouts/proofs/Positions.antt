@@ -11,11 +11,11 @@ use lib.ListN.{length, getD, length-append, length-map, List·getD-append, List�
 use lib.Pow.{pow-pos}
 use lib.Seq.{getD-append-add}
 use borrow.Author.Tests.{eqb-true, eq-eqb}
-use Rattle.evidence.specs.Evidence.{_among_, upFrom, keep}
-use Rattle.evidence.proofs.ListLaws.{split, true-or-false, upFrom-mem, upFrom-bounds, mem-keep}
+use Rattle.lists.specs.Lists.{_among_, upFrom, keep}
+use Rattle.lists.proofs.Laws.{split, true-or-false, upFrom-mem, upFrom-bounds, mem-keep, length-upFrom}
 use Rattle.layouts.specs.Layouts.{divides, lg, Name, black, tile, tree, coveredDays, levels, storesBlackOfTree, namesOfDay, namesThrough, chains, position}
 use Rattle.layouts.proofs.Coverage.{divisor-le, namesThrough-suc, namesThrough-add}
-use Rattle.layouts.proofs.Counts.{length-upFrom, below-pow}
+use Rattle.layouts.proofs.Counts.{below-pow}
 
 -- ---- the numbers that pass a test are the first ones, where each number below one that passes does
 

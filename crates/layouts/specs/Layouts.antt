@@ -1,11 +1,13 @@
 -- 01's three layouts: what is allowed; the chains in book order, their number and places; refusals 1 2 3 7. Definitions only.
-use mathlib.Core.Bool.{Bool, true, not, _&&_, _||_, cond}
+use mathlib.Core.Bool.{Bool, true, false, not, _&&_, _||_, cond}
 use mathlib.Core.List.{List, [], _∷_, _++_, map, flatMap}
 use Prim.Native.Nat.{ℕ, zero, suc, pred, _+_, _-_, _*_, _/_, _%_, _^_}
 use lib.Count.{ones}
 use lib.Dec.{eqb, leb}
 use lib.ListN.{length}
-use Rattle.evidence.specs.Evidence.{has, upFrom, keep, days}
+use Rattle.lists.specs.Lists.{has, upFrom, keep}
+use Rattle.evidence.specs.Evidence.{days}
+use Rattle.refusals.specs.Refusals.{bookLimit, Test, _orRefuse_, firstRefusal}
 
 abbrev pub divides : ℕ → ℕ → Bool  -- n divides g
 divides n g = eqb (g % n) 0
@@ -21,10 +23,6 @@ allowedN n = has n (1 ∷ 2 ∷ 4 ∷ 8 ∷ 16 ∷ 32 ∷ 64 ∷ 128 ∷ 256 ∷
 -- 01's F: intervals per validation, 1 to 64, and 1 under scheme 3
 abbrev pub allowedF : ℕ → ℕ → Bool
 allowedF scheme f = (leb 1 f && leb f 64) && (not (eqb scheme 3) || eqb f 1)
-
--- 01's limit of the days in a book
-abbrev pub bookLimit : ℕ
-bookLimit = 65536
 
 -- 01's D: the days sealed, 1 to 65,536, a multiple of f · n
 abbrev pub allowedD : ℕ → ℕ → ℕ → Bool
@@ -92,6 +90,12 @@ chainsOfDay scheme n g = map (coveredDays n) (namesOfDay scheme n g)
 unfoldable pub chains : ℕ → ℕ → ℕ → List (List ℕ)
 chains scheme n d = map (coveredDays n) (namesThrough scheme n d)
 
+-- 01's black value of day g: black, or the tree's chain over the same days, stored once
+abbrev pub blackAt : ℕ → Name → Bool
+blackAt g (black h) = eqb h g
+blackAt g (tile i h) = false
+blackAt g (tree l h) = eqb h g && eqb (2 ^ l) g
+
 -- 01's number of values for d days; the law `values-length`: the number of these chains
 abbrev pub valueCount : ℕ → ℕ → ℕ → ℕ
 valueCount zero n d = 0
@@ -106,19 +110,18 @@ position scheme n (black g) = pred (length (namesThrough scheme n g))
 position scheme n (tile i g) = length (namesThrough scheme n (pred g)) + i
 position scheme n (tree l g) = length (namesThrough scheme n (pred g)) + l
 
--- ---- refusals: the number of the first test that finds its cause, 0 where none does
-
-abbrev pub unless : Bool → ℕ → ℕ  -- the number, if the test fails
-unless ok number = cond ok 0 number
-
-abbrev pub orElse : ℕ → ℕ → ℕ  -- the first of two refusals
-orElse zero y = y
-orElse (suc x) y = suc x
+-- ---- refusals
 
 -- 01's tests 1 2 3
-unfoldable pub setupRefusal : ℕ → ℕ → ℕ → ℕ
-setupRefusal scheme n f = orElse (unless (allowedScheme scheme) 1) (orElse (unless (allowedN n) 2) (unless (allowedF scheme f) 3))
+abbrev pub setupTests : ℕ → ℕ → ℕ → List Test
+setupTests scheme n f = allowedScheme scheme orRefuse 1 ∷ allowedN n orRefuse 2 ∷ allowedF scheme f orRefuse 3 ∷ []
 
 -- 01's tests 1 2 3 7
+abbrev pub layoutTests : ℕ → ℕ → ℕ → ℕ → List Test
+layoutTests scheme n f d = setupTests scheme n f ++ (allowedD n f d orRefuse 7 ∷ [])
+
+unfoldable pub setupRefusal : ℕ → ℕ → ℕ → ℕ
+setupRefusal scheme n f = firstRefusal (setupTests scheme n f)
+
 unfoldable pub layoutRefusal : ℕ → ℕ → ℕ → ℕ → ℕ
-layoutRefusal scheme n f d = orElse (setupRefusal scheme n f) (unless (allowedD n f d) 7)
+layoutRefusal scheme n f d = firstRefusal (layoutTests scheme n f d)

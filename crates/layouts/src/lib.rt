@@ -2,9 +2,10 @@
 // whether a tile chain covers a day.
 ghost use mathlib.Core.Path.{_≡_};
 ghost use mathlib.Core.Bool.{true};
-ghost use Prim.Native.Nat.{_+_, _/_, _≤_, _<_, pred};
+ghost use Prim.Native.Nat.{_/_, _^_, _≤_, _<_};
 ghost use lib.ListN.{length};
-ghost use Rattle.layouts.specs.Layouts.{allowedScheme, allowedN, allowedF, allowedD, setupRefusal, layoutRefusal, bookLimit, black, tile, tree, chains, chainsOfDay, namesThrough, position};
+ghost use Rattle.layouts.specs.Layouts.{allowedScheme, allowedN, allowedF, allowedD, setupRefusal, layoutRefusal, black, tile, tree, chains, chainsOfDay, namesThrough, position};
+ghost use Rattle.refusals.specs.Refusals.{bookLimit};
 ghost use Rattle.layouts.specs.Layouts as spec;
 
 fn allowed_scheme(scheme: u32) -> bool
@@ -47,7 +48,7 @@ fn allowed_d(n: u32, f: u32, d: u32) -> bool
     if d < 1 {
         return false;
     }
-    if 65536 < d {
+    if refusals::BOOK_LIMIT < d {
         return false;
     }
     d % (f * n) == 0
@@ -81,6 +82,14 @@ pub fn layout_refusal(scheme: u32, n: u32, f: u32, d: u32) -> u32
         return 7;
     }
     0
+}
+
+// 2 to the power of level.
+pub fn size(level: u32) -> u32
+    requires { ⌜ level ≤ 16 ⌝ }
+    ensures { λ r. ⌜ r ≡ 2 ^ level ⌝ }
+{
+    1u32 << level
 }
 
 // The base-2 logarithm, rounded down.
@@ -157,7 +166,7 @@ pub fn tree_at(n: u32, l: u32, g: u32) -> u32
 
 // Whether tile chain c(i) covers the offset o.
 pub fn covers(n: u32, i: u32, o: u32) -> bool
-    requires { ⌜ (allowedN n ≡ true) × (i ≤ spec.lg n) ⌝ }
+    requires { ⌜ (allowedN n ≡ true) × (i ≤ spec.lg n) × (o < n) ⌝ }
     ensures { λ r. ⌜ r ≡ spec.covers n i o ⌝ }
 {
     if i == 0 {

@@ -10,17 +10,11 @@ use native.Mathlib.Omega.{arith}
 use lib.Dec.{leb, ltb}
 use lib.ListN.{length, take}
 use lib.Seq.{getD-take, take-all, length-take-le}
-use borrow.Author.Tests.{ltb-false, lt-ltb, le-ltb, leb-true, leb-false, le-leb}
-use Rattle.ledger.specs.Ledger.{dayLimit, startOf, endOf, goodEnd, goodEnds, endsRefusal, EndsHold}
-
--- ---- tests
-
-true-or-false : {b : Bool} → b ≡ true → b ≡ false → ⊥
-true-or-false {b} p q = let z : _≡_ {A = ℕ} 0 1 = cc in omega arith
-
-and-both : (a b : Bool) → a && b ≡ true → (a ≡ true) × (b ≡ true)
-and-both true b e = (refl, e)
-and-both false b e = absurd (true-or-false e refl)
+use borrow.Author.Tests.{leb-true, leb-false, le-leb, lt-leb}
+use Rattle.refusals.specs.Refusals.{dayLimit}
+use Rattle.lists.proofs.Laws.{true-or-false, and-both}
+use Rattle.refusals.proofs.TestLaws.{none-fails}
+use Rattle.ledger.specs.Ledger.{startOf, endOf, goodEnd, goodEnds, endsTests, endsRefusal, EndsHold}
 
 -- ---- one end
 
@@ -71,17 +65,17 @@ bad-at d ends size i l e = go (goodEnds d ends size) refl
 
 -- ---- the refusal
 
-pub refusal-few : (d : ℕ) (ends : List ℕ) (size : ℕ) → length ends < d → endsRefusal d ends size ≡ 9
+pub refusal-9 : (d : ℕ) (ends : List ℕ) (size : ℕ) → length ends < d → endsRefusal d ends size ≡ 9
 unfolding endsRefusal
-refusal-few d ends size l = rw (lt-ltb (length ends) d l)
+refusal-9 d ends size l = rw (lt-leb d (length ends) l)
 
-pub refusal-bad : (d : ℕ) (ends : List ℕ) (size i : ℕ) → d ≤ length ends → i < d → goodEnd (startOf ends i) (endOf ends i) size ≡ false → endsRefusal d ends size ≡ 10
+pub refusal-10 : (d : ℕ) (ends : List ℕ) (size i : ℕ) → d ≤ length ends → i < d → goodEnd (startOf ends i) (endOf ends i) size ≡ false → endsRefusal d ends size ≡ 10
 unfolding endsRefusal
-refusal-bad d ends size i m l e = rw (le-ltb (length ends) d m, bad-at d ends size i l e)
+refusal-10 d ends size i m l e = rw (le-leb d (length ends) m, bad-at d ends size i l e)
 
-pub refusal-good : (d : ℕ) (ends : List ℕ) (size i : ℕ) → goodEnds i ends size ≡ true → i ≡ d → d ≤ length ends → endsRefusal d ends size ≡ 0
+pub refusal-0 : (d : ℕ) (ends : List ℕ) (size i : ℕ) → goodEnds i ends size ≡ true → i ≡ d → d ≤ length ends → endsRefusal d ends size ≡ 0
 unfolding endsRefusal
-refusal-good d ends size i e q m = rw (le-ltb (length ends) d m, ← q, e)
+refusal-0 d ends size i e q m = rw (le-leb d (length ends) m, ← q, e)
 
 -- ---- a program's test of the end at i, from the parts that it computed
 
@@ -93,24 +87,19 @@ module _ (ends : List ℕ) (size i s e : ℕ) (b : Bool) (start : s ≡ startOf 
   test-good q p = rw (add-one i) (good-more ends size i p (sym tested ∙ q))
 
   pub test-bad : b ≡ false → (d : ℕ) → d ≤ length ends → i < d → endsRefusal d ends size ≡ 10
-  test-bad q d m l = refusal-bad d ends size i m l (sym tested ∙ q)
+  test-bad q d m l = refusal-10 d ends size i m l (sym tested ∙ q)
 
 -- ---- no refusal
-
-none-tests : (few good : Bool) → _≡_ {A = ℕ} (cond few 9 (cond good 0 10)) 0 → (few ≡ false) × (good ≡ true)
-none-tests true good e = absurd (let z : _≡_ {A = ℕ} 9 0 = e in omega arith)
-none-tests false true e = (refl, refl)
-none-tests false false e = absurd (let z : _≡_ {A = ℕ} 10 0 = e in omega arith)
 
 -- there are d ends, and each of the first d is good
 pub refusal-none : (d : ℕ) (ends : List ℕ) (size : ℕ) → endsRefusal d ends size ≡ 0 → EndsHold d ends size
 unfolding endsRefusal
 refusal-none d ends size e =
-    let t = none-tests (ltb (length ends) d) (goodEnds d ends size) e in
+    let t = none-fails (endsTests d ends size) refl e in
     let g : (i : ℕ) → i < d → (startOf ends i ≤ endOf ends i) × (endOf ends i ≤ size) × (endOf ends i - startOf ends i ≤ dayLimit) =
-    λ i l. good-end (startOf ends i) (endOf ends i) size (good-at d ends size i (t .1) l) in
+    λ i l. good-end (startOf ends i) (endOf ends i) size (good-at d ends size i (t .1 .0) l) in
     record {
-      enough = ltb-false (length ends) d (t .0);
+      enough = leb-true d (length ends) (t .0);
       ascend = λ i l. g i l .0;
       within = λ i l. g i l .1;
       limited = λ i l. g i l .2;
@@ -118,7 +107,7 @@ refusal-none d ends size e =
 
 pub none-refusal : (d : ℕ) (ends : List ℕ) (size : ℕ) → EndsHold d ends size → endsRefusal d ends size ≡ 0
 none-refusal d ends size h =
-    refusal-good d ends size d
+    refusal-0 d ends size d
     (at-good d ends size (λ i l. end-good (startOf ends i) (endOf ends i) size (h .ascend i l) (h .within i l) (h .limited i l))) refl (h .enough)
 
 -- ---- starts
@@ -157,7 +146,7 @@ read-enough : (d : ℕ) (ends : List ℕ) (size : ℕ) → d ≤ length ends →
 unfolding endsRefusal
 read-enough d ends size l =
     let m : d ≤ length (take d ends) = rw (length-take-le d ends l) (le-refl d) in
-    rw (le-ltb (length ends) d l, le-ltb (length (take d ends)) d m, good-front d ends size d (le-refl d))
+    rw (le-leb d (length ends) l, le-leb d (length (take d ends)) m, good-front d ends size d (le-refl d))
 
 -- the refusal looks at the first d ends only
 pub refusal-read : (d : ℕ) (ends : List ℕ) (size : ℕ) → endsRefusal d ends size ≡ endsRefusal d (take d ends) size

@@ -5,10 +5,7 @@ use mathlib.Core.List.{List, [], _∷_, _++_, map}
 use Prim.Native.Nat.{ℕ, zero, suc, _-_, _≤_, _<_}
 use lib.Dec.{leb, ltb}
 use lib.ListN.{length, getD, take, drop}
-
--- 01's limit: the bytes that a day holds at most
-abbrev pub dayLimit : ℕ
-dayLimit = 16777216
+use Rattle.refusals.specs.Refusals.{dayLimit, Test, _orRefuse_, firstRefusal}
 
 -- 01's end of a day: the number at its place
 abbrev pub endOf : List ℕ → ℕ → ℕ
@@ -41,9 +38,12 @@ abbrev pub goodEnds : ℕ → List ℕ → ℕ → Bool
 goodEnds zero ends size = true
 goodEnds (suc i) ends size = goodEnds i ends size && goodEnd (startOf ends i) (endOf ends i) size
 
--- 01's refusals 9 and 10, in this order; 0 where neither finds its cause
+-- 01's tests 9 10
+abbrev pub endsTests : ℕ → List ℕ → ℕ → List Test
+endsTests d ends size = leb d (length ends) orRefuse 9 ∷ goodEnds d ends size orRefuse 10 ∷ []
+
 unfoldable pub endsRefusal : ℕ → List ℕ → ℕ → ℕ
-endsRefusal d ends size = cond (ltb (length ends) d) 9 (cond (goodEnds d ends size) 0 10)
+endsRefusal d ends size = firstRefusal (endsTests d ends size)
 
 -- what no refusal says; the laws `refusal-none` and `none-refusal`: it is this exactly
 pub record EndsHold (d : ℕ) (ends : List ℕ) (size : ℕ) : Type 0 where

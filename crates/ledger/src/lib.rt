@@ -4,15 +4,6 @@ ghost use Prim.Native.Nat.{_<_, _≤_};
 ghost use lib.ListN.{length};
 ghost use Rattle.ledger.specs.Ledger.{startOf, endOf, goodEnd, endsRefusal};
 
-// The bytes that a day holds at most.
-const DAY_LIMIT: usize = 16777216;
-
-fn wide(x: u32) -> usize
-    ensures { λ r. ⌜ r ≡ x ⌝ }
-{
-    x as usize
-}
-
 // Where the day of index i starts.
 pub fn start_of(ends: &[u32], i: usize) -> usize
     requires { ⌜ i ≤ length (now ends) ⌝ }
@@ -21,7 +12,7 @@ pub fn start_of(ends: &[u32], i: usize) -> usize
     if i == 0 {
         return 0;
     }
-    wide(ends[i - 1])
+    buffers::wide(ends[i - 1])
 }
 
 // Where the day of index i ends.
@@ -29,7 +20,7 @@ pub fn end_of(ends: &[u32], i: usize) -> usize
     requires { ⌜ i < length (now ends) ⌝ }
     ensures { λ r. ⌜ r ≡ endOf (now (ends .entry)) i ⌝ }
 {
-    wide(ends[i])
+    buffers::wide(ends[i])
 }
 
 fn good_end(start: usize, end: usize, size: usize) -> bool
@@ -41,14 +32,14 @@ fn good_end(start: usize, end: usize, size: usize) -> bool
     if size < end {
         return false;
     }
-    end - start <= DAY_LIMIT
+    end - start <= buffers::wide(refusals::DAY_LIMIT)
 }
 
 // 9 for fewer than d ends, 10 for one of the first d that is not good, else 0. Ends past d are not read.
 pub fn ends_refusal(d: u32, ends: &[u32], size: usize) -> u32
     ensures { λ r. ⌜ r ≡ endsRefusal d (now (ends .entry)) size ⌝ }
 {
-    let days = wide(d);
+    let days = buffers::wide(d);
     if ends.len() < days {
         return 9;
     }

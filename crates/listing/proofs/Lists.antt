@@ -1,6 +1,6 @@
 -- The lists of an interval, of the intervals in turn and of the tree's maximal chains in turn are the days listed locally.
 use mathlib.Core.Path.{_≡_, refl, sym, ap, _∙_}
-use mathlib.Core.Bool.{Bool, true, false}
+use mathlib.Core.Bool.{Bool, true, false, cond}
 use mathlib.Core.List.{List, [], _++_, append-nil}
 use Prim.Native.Nat.{ℕ, zero, suc, pred, _+_, _-_, _*_, _/_, _%_, _^_, _≤_, _<_}
 use native.Mathlib.Nat.{pow-succ', suc-mul, mul-assoc, div-one, div-eq-of-lt, div-mul-le-self}
@@ -10,18 +10,19 @@ use lib.Dec.{eqb}
 use lib.ListN.{length}
 use lib.Pow.{shr-shr}
 use borrow.Author.Tests.{eq-eqb, ne-eqb}
-use Rattle.evidence.specs.Evidence.{upFrom, keep, days}
-use Rattle.evidence.proofs.ListLaws.{and-both}
+use Rattle.lists.specs.Lists.{upFrom, keep}
+use Rattle.evidence.specs.Evidence.{days}
+use Rattle.lists.proofs.Laws.{and-both, length-upFrom}
 use Rattle.layouts.specs.Layouts.{divides, allowedScheme, lg, black, tile, lastDays}
 use Rattle.layouts.proofs.AllowedLaws.{allowed-n-is, allowed-scheme-is}
 use Rattle.layouts.proofs.Coverage.{divisor-le}
-use Rattle.layouts.proofs.Counts.{length-upFrom}
-use Rattle.rules.specs.Rules.{Table, Interval, Chain, passes, levelsRule, rules, blocksRule, tileBit, isListed}
-use Rattle.listing.specs.Walks.{Tile, Wrote, pick, tileDays, treeDays, topDays}
-use Rattle.rules.proofs.Runs.{keep-length, div-whole}
+use Rattle.acceptance.specs.Private.{Table, Interval, Chain, passes, levelsRule, rules, blocksRule, tileBit, isListed}
+use Rattle.listing.specs.Private.{Tile, tileDays, treeDays, topDays}
+use Rattle.buffers.specs.Buffers.{Wrote}
+use Rattle.acceptance.proofs.Runs.{keep-length, div-whole}
 use Rattle.listing.proofs.Walks.{run-none, run-all, tile-none, tile-days, tree-days, days-block}
-use Rattle.rules.proofs.Steps.{interval-number, interval-end, chain-of}
-use Rattle.listing.proofs.Writes.{wrote-none, wrote-length, wrote-join}
+use Rattle.acceptance.proofs.Steps.{interval-number, interval-end, chain-of}
+use Rattle.buffers.proofs.Writes.{wrote-none, wrote-length, wrote-join}
 
 -- ---- an interval
 
@@ -165,7 +166,7 @@ module _ (n d : ℕ) (t : List ℕ) (small : d ≤ 65536) (r : levelsRule n d t 
       q : ℕ
       q = d / 2 ^ suc l
 
-      go : Dec (d / 2 ^ l % 2 ≡ 0) → keep p (days (d / 2 ^ l * 2 ^ l)) ≡ keep p (days (q * 2 ^ suc l)) ++ pick (eqb (d / 2 ^ l % 2) 0) [] (treeDays n t l (d / 2 ^ l * 2 ^ l))
+      go : Dec (d / 2 ^ l % 2 ≡ 0) → keep p (days (d / 2 ^ l * 2 ^ l)) ≡ keep p (days (q * 2 ^ suc l)) ++ cond (eqb (d / 2 ^ l % 2) 0) [] (treeDays n t l (d / 2 ^ l * 2 ^ l))
       go (yes z) = rw (eq-eqb (d / 2 ^ l % 2) 0 z) (ap (λ (x : ℕ). keep p (days x)) (top-even d l z) ∙ sym (append-nil (keep p (days (q * 2 ^ suc l)))))
       go (no z) =
           let o : d / 2 ^ l ≡ suc (q + q) = top-odd d l z in

@@ -1,23 +1,23 @@
 -- The walks of an interval, a tile and a tree's chain list the days that are listed locally.
 use mathlib.Core.Path.{_≡_, refl, sym, ap, _∙_}
 use mathlib.Core.Logic.{_⊎_, inl, inr}
-use mathlib.Core.Bool.{Bool, true, false, not, _&&_}
+use mathlib.Core.Bool.{Bool, true, false, not, _&&_, cond}
 use mathlib.Core.List.{List, [], _∷_, _++_}
 use Prim.Native.Nat.{ℕ, zero, suc, pred, _+_, _-_, _*_, _/_, _%_, _^_, _≤_}
 use native.Mathlib.Nat.{suc-mul, pow-succ', mul-assoc}
 use native.Mathlib.Omega.{arith}
 use lib.Arith.{digits-div}
 use lib.Dec.{eqb}
-use Rattle.evidence.specs.Evidence.{_among_, upFrom, keep, days}
-use Rattle.evidence.proofs.ListLaws.{split, true-or-false, upFrom-bounds, keep-congr, keep-append}
+use Rattle.lists.specs.Lists.{_among_, upFrom, keep, every}
+use Rattle.evidence.specs.Evidence.{days}
+use Rattle.lists.proofs.Laws.{split, true-or-false, upFrom-bounds, keep-congr, keep-append, upFrom-snoc, every-append, upFrom-append}
 use Rattle.layouts.specs.Layouts.{lg, black, tile, tree, lastDays}
 use Rattle.layouts.proofs.AllowedLaws.{Power}
-use Rattle.layouts.proofs.Coverage.{upFrom-snoc}
-use Rattle.rules.specs.Rules.{every, passes, levelsRule, tileBit, bitRule, bitsRule, isListed}
-use Rattle.listing.specs.Walks.{pick, tileDays, treeDays}
-use Rattle.rules.proofs.Runs.{every-append, some, some-of, keep-all, keep-none, upFrom-append, lastDays-days}
-use Rattle.rules.proofs.Given.{block-split, half-point, half-split}
-use Rattle.rules.proofs.Local.{end-of, in-block, isListed-1, isListed-2, isListed-3, tree-3}
+use Rattle.acceptance.specs.Private.{passes, levelsRule, tileBit, bitRule, bitsRule, isListed}
+use Rattle.listing.specs.Private.{tileDays, treeDays}
+use Rattle.acceptance.proofs.Runs.{some, some-of, keep-all, keep-none, lastDays-days}
+use Rattle.acceptance.proofs.Given.{block-split, half-point, half-split}
+use Rattle.acceptance.proofs.Listed.{end-of, in-block, isListed-1, isListed-2, isListed-3, tree-3}
 
 -- ---- an interval under scheme 1
 
@@ -104,7 +104,7 @@ tile-keep p (suc l) q =
         at = ap (λ (x : ℕ). not (p l && eqb (x % 2) 0)) (bit (suc (q + q)) day m) ∙ ap (λ (x : ℕ). not (p l && eqb x 0)) odd ∙ drop-false (p l)
 
     lower : (b : Bool) → p l ≡ b → keep (listedBits p l) (upFrom (suc ((q + q) * 2 ^ l)) (2 ^ l)) ≡ tileDays p l (suc ((q + q) * 2 ^ l)) →
-        keep (listedBits p (suc l)) (upFrom (suc (q * 2 ^ suc l)) (2 ^ l)) ≡ pick b [] (tileDays p l (suc (q * 2 ^ suc l)))
+        keep (listedBits p (suc l)) (upFrom (suc (q * 2 ^ suc l)) (2 ^ l)) ≡ cond b [] (tileDays p l (suc (q * 2 ^ suc l)))
     lower true e rec =
         rw base (keep-none (listedBits p (suc l)) (upFrom (suc ((q + q) * 2 ^ l)) (2 ^ l)) (λ day m. zero-bit day m ∙ rw e (never (listedBits p l day))))
       where
@@ -168,7 +168,7 @@ module _ (n d : ℕ) (t : List ℕ) (small : d ≤ 65536) (r : levelsRule n d t 
       g : ℕ
       g = suc j * 2 ^ 0
 
-      go : (b : Bool) → passes 3 n t (tree 0 g) ≡ b → keep (isListed 3 n t) (lastDays 1 g) ≡ pick b [] (g ∷ [])
+      go : (b : Bool) → passes 3 n t (tree 0 g) ≡ b → keep (isListed 3 n t) (lastDays 1 g) ≡ cond b [] (g ∷ [])
       go true e = passing 0 j h e
       go false e = let q : suc (g - 1) ≡ g = omega arith in ap (λ (x : ℕ). keep (isListed 3 n t) (x ∷ [])) q ∙ rw (isListed-3 n t g, e)
   tree-days (suc l) j h =
@@ -187,7 +187,7 @@ module _ (n d : ℕ) (t : List ℕ) (small : d ≤ 65536) (r : levelsRule n d t 
       go : (b : Bool) → passes 3 n t (tree (suc l) g) ≡ b →
           keep (isListed 3 n t) (lastDays (2 ^ l) (suc (j + j) * 2 ^ l)) ≡ treeDays n t l (suc (j + j) * 2 ^ l) →
           keep (isListed 3 n t) (lastDays (2 ^ l) (suc (suc (j + j)) * 2 ^ l)) ≡ treeDays n t l (suc (suc (j + j)) * 2 ^ l) →
-          keep (isListed 3 n t) (lastDays (2 ^ suc l) g) ≡ pick b [] (treeDays n t l (g - 2 ^ l) ++ treeDays n t l g)
+          keep (isListed 3 n t) (lastDays (2 ^ suc l) g) ≡ cond b [] (treeDays n t l (g - 2 ^ l) ++ treeDays n t l g)
       go true e a b = passing (suc l) j h e
       go false e a b =
           ap (keep (isListed 3 n t)) (half-split j l) ∙ keep-append (isListed 3 n t) (lastDays (2 ^ l) (g - 2 ^ l)) (lastDays (2 ^ l) g) ∙

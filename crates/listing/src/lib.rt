@@ -4,11 +4,13 @@ ghost use mathlib.Core.Path.{_≡_};
 ghost use mathlib.Core.Bool.{true};
 ghost use Prim.Native.Nat.{suc, _+_, _-_, _*_, _/_, _^_, _≤_};
 ghost use lib.ListN.{length};
-ghost use Rattle.evidence.specs.Evidence.{upFrom, keep, days};
+ghost use Rattle.lists.specs.Lists.{upFrom, keep};
+ghost use Rattle.evidence.specs.Evidence.{days};
 ghost use Rattle.layouts.specs.Layouts.{lastDays};
-ghost use Rattle.rules.specs.Rules as rule;
-ghost use Rattle.rules.specs.Rules.{Table, Interval, Chain, levelsRule, tileBit, isListed};
-ghost use Rattle.listing.specs.Walks.{Tile, Wrote, tileDays, treeDays, topDays};
+ghost use Rattle.acceptance.specs.Private as rule;
+ghost use Rattle.acceptance.specs.Private.{Table, Interval, Chain, levelsRule, tileBit, isListed};
+ghost use Rattle.listing.specs.Private.{Tile, tileDays, treeDays, topDays};
+ghost use Rattle.buffers.specs.Buffers.{Wrote};
 
 // The days from first to before end.
 fn run(first: u32, end: u32, list: &mut [u32], at: usize) -> usize
@@ -30,7 +32,7 @@ fn black_days(n: u32, g: u32, t: &[u8], list: &mut [u32], at: usize) -> usize
     requires { ⌜ Interval 1 n g (now t) × (at + n ≤ length (now list)) ⌝ }
     ensures { λ r. ⌜ Wrote at (keep (isListed 1 n (now (t .entry))) (lastDays n g)) (now (list .entry)) r (now (list .exit)) ⌝ }
 {
-    if rules::black_passes(1, n, g, t) {
+    if acceptance::black_passes(1, n, g, t) {
         return at;
     }
     run(g - n + 1, g + 1, list, at)
@@ -46,8 +48,8 @@ fn tile_walk(n: u32, g: u32, level: u32, day: u32, t: &[u8], list: &mut [u32], a
         return at + 1;
     }
     let l = level - 1;
-    let w = rules::size(l);
-    if rules::tile_bit(n, l, g, t) {
+    let w = layouts::size(l);
+    if acceptance::tile_bit(n, l, g, t) {
         return tile_walk(n, g, l, day + w, t, list, at);
     }
     let b = tile_walk(n, g, l, day, t, list, at);
@@ -59,7 +61,7 @@ fn tile_days(n: u32, g: u32, t: &[u8], list: &mut [u32], at: usize) -> usize
     requires { ⌜ Interval 2 n g (now t) × (at + n ≤ length (now list)) ⌝ }
     ensures { λ r. ⌜ Wrote at (keep (isListed 2 n (now (t .entry))) (lastDays n g)) (now (list .entry)) r (now (list .exit)) ⌝ }
 {
-    if rules::tile_passes(n, 0, g, t) {
+    if acceptance::tile_passes(n, 0, g, t) {
         return at;
     }
     tile_walk(n, g, layouts::lg(n), g - n + 1, t, list, at)
@@ -94,7 +96,7 @@ fn walk(n: u32, level: u32, g: u32, t: &[u8], list: &mut [u32], at: usize) -> us
     requires { ⌜ Chain n level g (now t) × (at + 2 ^ level ≤ length (now list)) ⌝ }
     ensures { λ r. ⌜ Wrote at (treeDays n (now (t .entry)) level g) (now (list .entry)) r (now (list .exit)) ⌝ }
 {
-    if rules::tree_passes(n, level, g, t) {
+    if acceptance::tree_passes(n, level, g, t) {
         return at;
     }
     if level == 0 {
@@ -102,7 +104,7 @@ fn walk(n: u32, level: u32, g: u32, t: &[u8], list: &mut [u32], at: usize) -> us
         return at + 1;
     }
     let l = level - 1;
-    let w = rules::size(l);
+    let w = layouts::size(l);
     let b = walk(n, l, g - w, t, list, at);
     walk(n, l, g, t, list, b)
 }
@@ -112,7 +114,7 @@ fn top_days(n: u32, d: u32, level: u32, t: &[u8], list: &mut [u32], at: usize) -
     requires { ⌜ Table 3 n d (now t) × (d ≤ length (now list)) × (level ≤ 16) × (at ≤ d / 2 ^ suc level * 2 ^ suc level) ⌝ }
     ensures { λ r. ⌜ Wrote at (topDays n d (now (t .entry)) level) (now (list .entry)) r (now (list .exit)) ⌝ }
 {
-    let w = rules::size(level);
+    let w = layouts::size(level);
     let k = d / w;
     if k % 2 == 0 {
         return at;

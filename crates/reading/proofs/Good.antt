@@ -9,14 +9,15 @@ use native.Mathlib.Nat.{mul-le-mul-right, div-mul-le-self, suc-mul, div-add-mod'
 use native.Mathlib.Decide.{decLt}
 use native.Mathlib.Omega.{arith}
 use lib.Dec.{eqb}
-use Rattle.evidence.specs.Evidence.{_among_, keep, Ascends, days, meets, setOutcome, tableOf, Gives, listing}
-use Rattle.evidence.proofs.ListLaws.{split, keep-congr}
+use Rattle.lists.specs.Lists.{_among_, keep, Ascends, lastOf}
+use Rattle.evidence.specs.Evidence.{days, meets, setOutcome, tableOf, Gives, listing}
+use Rattle.lists.proofs.Laws.{split, keep-congr}
 use Rattle.evidence.proofs.TableLaws.{meets-of, meets-day, gives-listing, listing-within, listing-ascends}
-use Rattle.layouts.specs.Layouts.{divides, Name, lastDays, coveredDays, namesThrough, chains}
-use Rattle.rules.specs.Reading.{blackAt, blackPasses, lastOf, lastGood}
+use Rattle.layouts.specs.Layouts.{divides, Name, lastDays, coveredDays, namesThrough, chains, blackAt}
+use Rattle.reading.specs.Numbers.{blackPasses, lastGood}
 use Rattle.layouts.proofs.Coverage.{namesThrough-in}
-use Rattle.rules.proofs.BlackLaws.{black-last, black-cover}
-use Rattle.rules.proofs.Runs.{last-keep, lastDays-mem, lastDays-bounds, days-bounds, divides-multiple, div-whole}
+use Rattle.acceptance.proofs.BlackLaws.{black-last, black-cover}
+use Rattle.acceptance.proofs.Runs.{last-keep, lastDays-mem, lastDays-bounds, days-bounds, divides-multiple, div-whole}
 
 -- n divides day g, and S has no day of 1 to g
 abbrev pub goodDay : ℕ → List ℕ → ℕ → Bool

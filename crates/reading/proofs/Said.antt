@@ -9,21 +9,22 @@ use native.Mathlib.Omega.{arith}
 use lib.Dec.{eqb}
 use lib.ListN.{length, getD, take, drop}
 use borrow.Author.Tests.{le-leb}
-use Rattle.evidence.specs.Evidence.{_among_, keep, days, meets, tableOf, Gives, listing, accepted}
+use Rattle.lists.specs.Lists.{_among_, keep}
+use Rattle.evidence.specs.Evidence.{days, meets, tableOf, Gives, listing, accepted}
 use Rattle.evidence.proofs.TableLaws.{accepted-gives, given-iff-accepted, listed-iff, listing-within}
 use Rattle.layouts.specs.Layouts.{allowedScheme, allowedN, layoutRefusal, chains}
-use Rattle.rules.specs.Reading.{lowOf, lastGood}
+use Rattle.reading.specs.Numbers.{lowOf, lastGood}
 use Rattle.layouts.proofs.AllowedLaws.{allowed-n-is, allowed-scheme-is, allowed-d-is, layout-is}
 use Rattle.layouts.proofs.Coverage.{divisor-le}
-use Rattle.layouts.proofs.Counts.{length-upFrom}
+use Rattle.lists.proofs.Laws.{length-upFrom}
 use Rattle.reading.specs.declared.Numbers.{Numbers}
 use Rattle.reading.specs.declared.Reading.the-variants.{Clean, Changed, Refused}
-use Rattle.reading.specs.Answers.{reportOf, tableIn, bits, readRefusal, listedIn, found, unlessRefused, reportOn, listAfter}
-use Rattle.rules.specs.Rules.{Table, rules, isListed}
-use Rattle.listing.specs.Walks.{Wrote}
-use Rattle.reading.specs.Changed.{numbersOf}
-use Rattle.rules.proofs.Runs.{keep-length}
-use Rattle.rules.proofs.Accepted.{accepted-rules, listing-isListed}
+use Rattle.reading.specs.Contract.{reportOf, tableIn, bits, readRefusal, listedIn, found, unlessRefused, reportOn, listAfter}
+use Rattle.acceptance.specs.Private.{Table, rules, isListed}
+use Rattle.buffers.specs.Buffers.{Wrote}
+use Rattle.reading.specs.Private.{numbersOf}
+use Rattle.acceptance.proofs.Runs.{keep-length}
+use Rattle.acceptance.proofs.Accepted.{accepted-rules, listing-isListed}
 use Rattle.reading.proofs.Good.{good-first}
 use Rattle.reading.proofs.Tests.{Readable, read-is, bits-at}
 

@@ -10,14 +10,14 @@ use lib.ListN.{length, getD, take}
 use lib.Seq.{length-take-le, take-suc, take-all}
 use borrow.Author.Tests.{eqb-true, ne-eqb, le-leb, lt-leb, leb-true, not-true, not-false}
 use Rattle.evidence.specs.Evidence.{meets, tableOf, Gives, accepted}
-use Rattle.evidence.proofs.ListLaws.{true-or-false, or-split, and-both, bool-ext, mem-has}
+use Rattle.lists.proofs.Laws.{true-or-false, or-split, and-both, bool-ext, mem-has}
 use Rattle.evidence.proofs.TableLaws.{given-iff-accepted}
 use Rattle.layouts.specs.Layouts.{allowedScheme, allowedN, orElse, unless, layoutRefusal, chains}
 use Rattle.layouts.proofs.AllowedLaws.{allowed-n-is, allowed-d-is, divides-factor, layout-is}
-use Rattle.reading.specs.Answers.{tableIn, bits, readRefusal}
-use Rattle.reading.specs.Changed.{greatest, least}
-use Rattle.rules.specs.Rules.{Table, Bits, rules}
-use Rattle.rules.proofs.Accepted.{accepted-rules}
+use Rattle.reading.specs.Contract.{tableIn, bits, readRefusal}
+use Rattle.reading.specs.Private.{greatest, least}
+use Rattle.acceptance.specs.Private.{Table, Bits, rules}
+use Rattle.acceptance.proofs.Accepted.{accepted-rules}
 
 -- ---- bits
 

@@ -1,2 +1,3 @@
-pub mod Answers
-pub mod Changed
+pub mod Contract
+pub mod Numbers
+pub mod Private

@@ -4,12 +4,12 @@ ghost use Prim.Native.Nat.{_*_, _≤_, min, max};
 ghost use lib.ListN.{length};
 ghost use Rattle.evidence.specs.Evidence.{accepted};
 ghost use Rattle.layouts.specs.Layouts.{orElse, unless, chains};
-ghost use Rattle.rules.specs.Reading.{lowOf};
-ghost use Rattle.rules.specs.Rules.{Table};
-ghost use Rattle.reading.specs.Answers as answer;
-ghost use Rattle.reading.specs.Answers.{reportOf, readRefusal, reportOn, listAfter};
-ghost use Rattle.reading.specs.Changed as changed;
-ghost use Rattle.reading.specs.Changed.{numbersOf};
+ghost use Rattle.reading.specs.Numbers.{lowOf};
+ghost use Rattle.acceptance.specs.Private.{Table};
+ghost use Rattle.reading.specs.Contract as answer;
+ghost use Rattle.reading.specs.Contract.{reportOf, readRefusal, reportOn, listAfter};
+ghost use Rattle.reading.specs.Private as changed;
+ghost use Rattle.reading.specs.Private.{numbersOf};
 
 // 01's numbers of a changed table.
 pub struct Numbers {
@@ -89,7 +89,7 @@ fn table_refusal(scheme: u32, n: u32, d: u32, t: &[u8]) -> u32
     if least(t) == 1 {
         return 0;
     }
-    if !rules::accepts(scheme, n, d, t) {
+    if !acceptance::accepts(scheme, n, d, t) {
         return 14;
     }
     0

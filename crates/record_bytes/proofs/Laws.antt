@@ -8,7 +8,7 @@ use native.Mathlib.Numerals.{add-one, towards-suc}
 use lib.ListN.{length, getD, take, drop, length-append, length-drop, take-append-drop, replicate}
 use lib.Seq.{take-all, take-at, drop-at, drop-drop, drop-cons, take-add, getD-append-seam, getD-append-add}
 use Rattle.chains.specs.declared.Value.{Value}
-use Rattle.service.specs.Calls.{noValue, zeros}
+use Rattle.service.specs.Contract.{noValue, zeros}
 use Rattle.service.specs.declared.Record.{Record}
 use Rattle.record_bytes.specs.Bytes.{numbersBytes, slotsBytes, recordBytes, numberAt, numbersAt, valueAt, slotsAt, recordOf, Words, Slots, Fits}
 

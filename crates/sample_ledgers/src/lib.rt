@@ -5,8 +5,8 @@ use sealing::Sealed;
 ghost use mathlib.Core.Path.{_≡_};
 ghost use Prim.Native.Nat.{_≤_};
 ghost use lib.ListN.{length};
-ghost use Rattle.checking.specs.Calls as checking;
-ghost use Rattle.sealing.specs.Calls as sealing;
+ghost use Rattle.checking.specs.Contract as checking;
+ghost use Rattle.sealing.specs.Contract as sealing;
 
 // 0, or the number of the refusal.
 pub fn seal_number(a: Sealed) -> u32

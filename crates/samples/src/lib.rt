@@ -5,7 +5,7 @@ use service::Record;
 use service::Writing;
 ghost use mathlib.Core.Path.{_≡_};
 ghost use Prim.Native.Nat.{_≤_, _<_};
-ghost use Rattle.service.specs.Calls.{numberOf, writingNumber, countOf};
+ghost use Rattle.service.specs.Contract.{numberOf, writingNumber, countOf};
 
 // 0, or the number of the refusal.
 pub fn number(a: Answer) -> u32

@@ -10,23 +10,24 @@ use lib.ListN.{length, take, drop, length-append, length-drop}
 use borrow.Author.Tests.{leb-true, le-leb, lt-ltb, lt-leb}
 use borrow.Rule.Slice.PartMut.{midOf, putMid}
 use Rattle.evidence.specs.Evidence.{values}
-use Rattle.layouts.specs.Layouts.{bookLimit, allowedScheme, allowedN, allowedD, unless, orElse, setupRefusal, layoutRefusal, chains, chainsOfDay}
+use Rattle.refusals.specs.Refusals.{bookLimit, dayLimit}
+use Rattle.layouts.specs.Layouts.{allowedScheme, allowedN, allowedD, unless, orElse, setupRefusal, layoutRefusal, chains, chainsOfDay}
 use Rattle.layouts.proofs.AllowedLaws.{unless-zero, or-else-zero, layout-is, allowed-d-is, Setup, Days}
 use Rattle.layouts.proofs.Coverage.{chains-front, chains-suc}
-use Rattle.ledger.specs.Ledger.{dayLimit, startOf, endOf, dayAt, daysOf, endsRefusal, EndsHold}
+use Rattle.ledger.specs.Ledger.{startOf, endOf, dayAt, daysOf, endsRefusal, EndsHold}
 use Rattle.ledger.proofs.EndLaws.{refusal-none, start-within}
 use Rattle.ledger.proofs.DayLaws.{days-none, days-snoc, days-length, day-length}
 use Rattle.sha256.specs.Sha256.{sha256}
 use Rattle.chains.specs.Book.{start, bookOf}
 use Rattle.chains.proofs.BookLaws.{book-none, book-suc, book-length}
-use Rattle.chains.proofs.Puts.{lent-is, lent-put}
+use Rattle.buffers.proofs.Lent.{lent-is, lent-put}
 use Rattle.service.specs.declared.Record.{Record}
 use Rattle.service.specs.declared.Closed.{Closed}
-use Rattle.service.specs.Calls.{countOf, opened, added, closed, written}
+use Rattle.service.specs.Contract.{countOf, opened, added, closed, written}
 use Rattle.service.specs.Journal.{Journal, empty, adds, closes, refusalOf, entered}
 use Rattle.service.proofs.Lists.{Keeps, keeps-open, taken-add, taken-close, taken-count, taken-writes}
 use Rattle.sealing.specs.declared.Sealed.the-variants.{Done, Refused}
-use Rattle.sealing.specs.Calls.{sealedBy, sealRefusal, front, bookAfter}
+use Rattle.sealing.specs.Contract.{sealedBy, sealRefusal, front, bookAfter}
 
 -- ---- the tests
 

@@ -8,8 +8,8 @@ ghost use mathlib.Core.List.{_++_};
 ghost use lib.ListN.{length, drop};
 ghost use Rattle.chains.specs.Book.{bookOf};
 ghost use Rattle.ledger.specs.Ledger.{daysOf};
-ghost use Rattle.service.specs.Calls.{countOf, added, closed, written};
-ghost use Rattle.sealing.specs.Calls.{numberOf, sealedBy, sealRefusal, bookAfter};
+ghost use Rattle.service.specs.Contract.{countOf, added, closed, written};
+ghost use Rattle.sealing.specs.Contract.{numberOf, sealedBy, sealRefusal, bookAfter};
 
 pub enum Sealed {
     Done,

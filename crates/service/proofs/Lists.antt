@@ -10,10 +10,10 @@ use lib.ListN.{length, take, drop, length-append, replicate}
 use lib.Seq.{take-at}
 use borrow.Author.Tests.{eqb-true, eq-eqb, leb-true, le-leb, ltb-true}
 use Rattle.evidence.specs.Evidence.{digest, values}
-use Rattle.evidence.proofs.ListLaws.{split}
-use Rattle.layouts.specs.Layouts.{bookLimit, unless, orElse, setupRefusal, chainsOfDay}
+use Rattle.lists.proofs.Laws.{split}
+use Rattle.refusals.specs.Refusals.{bookLimit, dayLimit}
+use Rattle.layouts.specs.Layouts.{unless, orElse, setupRefusal, chainsOfDay}
 use Rattle.layouts.proofs.AllowedLaws.{unless-zero, or-else-zero, setup-is}
-use Rattle.ledger.specs.Ledger.{dayLimit}
 use Rattle.sha256.specs.Sha256.{sha256, hashed, bytesOf}
 use Rattle.hasher.specs.declared.Hasher.{Hasher}
 use Rattle.hasher.specs.Hasher.{begun, absorbed, finished}
@@ -23,7 +23,7 @@ use Rattle.chains.specs.Step.{startValue, linked, linkedSlots, restarted, dayVa
 use Rattle.chains.proofs.Running.{Holds, holds-fresh, holds-next, day-values-are}
 use Rattle.chains.proofs.BookLaws.{book-suc, book-none, values-of-length}
 use Rattle.service.specs.declared.Record.{Record}
-use Rattle.service.specs.Calls.{numberOf, writingNumber, countOf, fresh, openedBy, opened, recordRefusal, addRefusal, openDay, grown, addedBy, added, closeRefusal, digestOf, linkedOf, dayBytes, nextDay, closedBy, closed, front, written}
+use Rattle.service.specs.Contract.{numberOf, writingNumber, countOf, fresh, openedBy, opened, recordRefusal, addRefusal, openDay, grown, addedBy, added, closeRefusal, digestOf, linkedOf, dayBytes, nextDay, closedBy, closed, front, written}
 use Rattle.service.specs.Journal.{Journal, empty, Argument, adds, closes, refusalOf, entered, unlessRefused, kept, journalAfter, refusals}
 use Rattle.service.specs.Run.{Call, add, close, argumentOf, stateAfter, answers, bookWritten, journalOf, Kept, Claim}
 

@@ -8,8 +8,9 @@ use native.Mathlib.Omega.{arith}
 use lib.Dec.{eqb, leb, ltb}
 use lib.ListN.{length, take, drop}
 use borrow.Author.Tests.{eqb-true, eq-eqb, ne-eqb, leb-true, leb-false, le-leb, lt-leb, ltb-true, lt-ltb, le-ltb}
-use Rattle.evidence.proofs.ListLaws.{split, true-or-false, and-both}
-use Rattle.layouts.specs.Layouts.{bookLimit, allowedScheme, allowedN, unless, orElse, setupRefusal, namesOfDay, chainsOfDay}
+use Rattle.lists.proofs.Laws.{split, true-or-false, and-both}
+use Rattle.refusals.specs.Refusals.{bookLimit, dayLimit}
+use Rattle.layouts.specs.Layouts.{allowedScheme, allowedN, unless, orElse, setupRefusal, namesOfDay, chainsOfDay}
 use Rattle.layouts.proofs.AllowedLaws.{unless-zero, or-else-zero, setup-is}
 use Rattle.chains.specs.declared.Value.{Value}
 use Rattle.chains.specs.declared.DayStep.{DayStep}
@@ -17,14 +18,13 @@ use Rattle.chains.specs.Step.{startValue, linked, linkedSlots, dayValues, Stepp
 use Rattle.chains.proofs.Values.{day-few, chainsOfDay-length}
 use Rattle.hasher.specs.declared.Hasher.{Hasher}
 use Rattle.hasher.specs.Hasher.{begun}
-use Rattle.ledger.specs.Ledger.{dayLimit}
 use Rattle.service.specs.declared.Record.{Record}
 use Rattle.service.specs.declared.Opened.{Opened}
 use Rattle.service.specs.declared.Added.{Added}
 use Rattle.service.specs.declared.Closed.{Closed}
 use Rattle.service.specs.declared.Answer.the-variants.{Done, Refused}
 use Rattle.service.specs.declared.Writing.the-variants as writing
-use Rattle.service.specs.Calls.{numberOf, fresh, zeros, openedBy, opened, recordRefusal, addRefusal, grown, addedBy, added, closeRefusal, digestOf, dayBytes, nextDay, closedBy, closed, front, written}
+use Rattle.service.specs.Contract.{numberOf, fresh, zeros, openedBy, opened, recordRefusal, addRefusal, grown, addedBy, added, closeRefusal, digestOf, dayBytes, nextDay, closedBy, closed, front, written}
 
 -- ---- open
 

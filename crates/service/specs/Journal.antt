@@ -4,8 +4,8 @@ use mathlib.Core.List.{List, [], _∷_, _++_}
 use Prim.Native.Nat.{ℕ, zero, suc, _+_, _*_}
 use lib.Dec.{leb, ltb}
 use lib.ListN.{length}
-use Rattle.layouts.specs.Layouts.{bookLimit, unless, orElse, chainsOfDay}
-use Rattle.ledger.specs.Ledger.{dayLimit}
+use Rattle.refusals.specs.Refusals.{bookLimit, dayLimit}
+use Rattle.layouts.specs.Layouts.{unless, orElse, chainsOfDay}
 
 -- one entry for each closed day, its bytes; and the open day's bytes
 pub record Journal : Type 0 where

@@ -5,7 +5,7 @@ use Prim.Native.Nat.{ℕ, _*_}
 use lib.ListN.{length, take}
 use Rattle.chains.specs.Book.{bookOf}
 use Rattle.service.specs.declared.Record.{Record}
-use Rattle.service.specs.Calls.{numberOf, writingNumber, countOf, opened, added, closed, written}
+use Rattle.service.specs.Contract.{numberOf, writingNumber, countOf, opened, added, closed, written}
 use Rattle.service.specs.Journal.{Journal, empty, Argument, adds, closes, journalAfter, refusals}
 
 -- a call: add with its piece, close with the part lent to it, whatever it holds

@@ -9,8 +9,8 @@ ghost use Prim.Native.Nat.{_+_, _*_, _≤_, _<_};
 ghost use lib.ListN.{length, take, drop};
 ghost use Rattle.chains.specs.Step.{startValue, valueBytes, Stepped};
 ghost use Rattle.layouts.specs.Layouts.{setupRefusal};
-ghost use Rattle.service.specs.Calls as spec;
-ghost use Rattle.service.specs.Calls.{numberOf, writingNumber, opened, recordRefusal, addRefusal, added, closeRefusal, closed, written};
+ghost use Rattle.service.specs.Contract as spec;
+ghost use Rattle.service.specs.Contract.{numberOf, writingNumber, opened, recordRefusal, addRefusal, added, closeRefusal, closed, written};
 
 // 01's five numbers, and the running hashes: of the open day (hash, block) and of the chains.
 pub struct Record {
@@ -214,7 +214,7 @@ fn write(part: &mut [u8], values: [Value; 17], k: u32)
     while i < k {
         let v = values[i as usize];
         let w = v.words;
-        chains::put(part, need(i), sha256::bytes(w));
+        buffers::put(part, need(i), sha256::bytes(w));
         i += 1;
     }
 }

@@ -6,7 +6,7 @@ use native.Mathlib.Nat.{add-zero}
 use mathlib.Core.List.{List, [], _∷_}
 use lib.ListN.{getD, set}
 use Rattle.sha256.specs.Sha256.{add32, ch, maj, bsig0, bsig1, ssig0, ssig1, wordAt, words, t1, t2, turned, round, summed}
-use Rattle.sha256.specs.Window.{mixed, slid, slides, roundsOn}
+use Rattle.sha256.specs.Private.{mixed, slid, slides, roundsOn}
 
 pub round-of : (v : List ℕ) (k w : ℕ) {x y p q : ℕ}
     → x ≡ t1 (getD v 4 0) (getD v 5 0) (getD v 6 0) (getD v 7 0) k w

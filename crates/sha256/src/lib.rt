@@ -3,7 +3,7 @@ ghost use mathlib.Core.Path.{_≡_};
 ghost use Prim.Native.Nat.{_+_, _≤_, _<_};
 ghost use lib.ListN.{length};
 ghost use Rattle.sha256.specs.Sha256 as spec;
-ghost use Rattle.sha256.specs.Window as form;
+ghost use Rattle.sha256.specs.Private as form;
 
 fn add32(a: u32, b: u32) -> u32
     ensures { λ r. ⌜ r ≡ spec.add32 a b ⌝ }

@@ -8,21 +8,21 @@ use lib.Dec.{leb}
 use lib.ListN.{length, take, drop, length-append, length-map, length-drop}
 use lib.Seq.{take-at, length-take-le}
 use borrow.Author.Tests.{le-leb, lt-leb, leb-true}
-use Rattle.evidence.specs.Evidence.{upFrom, keep, days, listing, cleared}
-use Rattle.evidence.proofs.ListLaws.{and-both}
+use Rattle.lists.specs.Lists.{upFrom, keep}
+use Rattle.evidence.specs.Evidence.{days, listing, cleared}
+use Rattle.lists.proofs.Laws.{and-both, length-upFrom}
 use Rattle.layouts.specs.Layouts.{unless, layoutRefusal, chains}
-use Rattle.rules.specs.Reading.{lastGood}
-use Rattle.layouts.proofs.Counts.{length-upFrom}
-use Rattle.rules.proofs.Runs.{keep-length}
-use Rattle.reading.specs.Answers as answer
-use Rattle.reading.specs.Answers.{reportOf, readRefusal, reportOn, listAfter, listedIn, tableIn, found, unlessRefused}
+use Rattle.reading.specs.Numbers.{lastGood}
+use Rattle.acceptance.proofs.Runs.{keep-length}
+use Rattle.reading.specs.Contract as answer
+use Rattle.reading.specs.Contract.{reportOf, readRefusal, reportOn, listAfter, listedIn, tableIn, found, unlessRefused}
 use Rattle.reading.specs.declared.Reading.{Reading}
 use Rattle.reading.specs.declared.Reading.the-variants.{Clean, Changed, Refused}
 use Rattle.reading.specs.declared.Numbers.{Numbers}
 use Rattle.reading.proofs.Report.{reportOn-found, list-found}
-use Rattle.listing.specs.Walks.{Wrote}
+use Rattle.buffers.specs.Buffers.{Wrote}
 use Rattle.table_text.specs.Text.{digitOf, digits, lastLine, outcomesIn, unlessFormed, formRefusal, extraRefusal, tableRefusal, textRefusal, decimal, line, noLine, dayLines, lines, report, printed, textOf}
-use Rattle.table_text.specs.Fields.{TypedIs, SaidIs}
+use Rattle.table_text.specs.Private.{TypedIs, SaidIs}
 use Rattle.table_text.specs.declared.Report.{Report}
 use Rattle.table_text.specs.declared.Typed.{Typed}
 

@@ -3,8 +3,8 @@ use mathlib.Core.Path.{_≡_, refl}
 use mathlib.Core.List.{[], _∷_, flatMap}
 use Rattle.evidence.specs.Evidence.{tableOf, listing, accepted}
 use Rattle.layouts.specs.Layouts.{setupRefusal, layoutRefusal, lg, namesThrough, chainsOfDay, chains}
-use Rattle.rules.specs.Reading.{lastGood}
-use Rattle.reading.specs.Answers.{readRefusal, listedIn, found, reportOn}
+use Rattle.reading.specs.Numbers.{lastGood}
+use Rattle.reading.specs.Contract.{readRefusal, listedIn, found, reportOn}
 use Rattle.table_text.specs.Text.{afterDigits, isNumber, isField, valueIn, afterField, isFormed, outcomesIn, formRefusal, extraRefusal, tableRefusal, textRefusal, decimal, line, noLine, refLine, dayLines, lines, report, textOf}
 
 -- `2,4,1,8` and `11110010` print `REF,2,2,6,5,8,4`, `DAY,6` and `DAY,8`

@@ -9,9 +9,9 @@ use lib.Dec.{eqb, leb}
 use lib.ListN.{length, getD, set, take, drop, length-drop, length-map, drop-of-length-le}
 use lib.Seq.{take-all, take-suc, drop-cons, drop-drop, length-take-le, set-at}
 use borrow.Author.Tests.{eq-eqb, ne-eqb, le-leb, lt-leb, not-true, not-false}
-use Rattle.evidence.specs.Evidence.{same}
+use Rattle.lists.specs.Lists.{same}
 use Rattle.table_text.specs.Text.{isDigit, digitOf, digits, afterDigits, isNumber, numberFrom, startsWith, isField, valueIn, afterField, isFormed, lastLine, unlessFormed}
-use Rattle.table_text.specs.Fields.{FieldAt, TypedIs}
+use Rattle.table_text.specs.Private.{FieldAt, TypedIs}
 use Rattle.table_text.specs.declared.Field.{Field}
 
 -- ---- digits

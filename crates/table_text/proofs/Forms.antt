@@ -8,8 +8,8 @@ use lib.Dec.{eqb, leb}
 use lib.ListN.{length, getD, take, drop, take-append-drop}
 use lib.Seq.{take-all, drop-append-seam}
 use borrow.Author.Tests.{eq-eqb, eqb-true, leb-true}
-use Rattle.evidence.specs.Evidence.{same}
-use Rattle.evidence.proofs.ListLaws.{true-or-false, and-both, and-of, same-eq}
+use Rattle.lists.specs.Lists.{same}
+use Rattle.lists.proofs.Laws.{true-or-false, and-both, and-of, same-eq}
 use Rattle.table_text.specs.Text.{isDigit, digitOf, digits, afterDigits, isNumber, numberFrom, startsWith, isField, valueIn, afterField, fromN, fromF, fromD, lastLine, isFormed, schemeIn, nIn, fIn, dIn, outcomesIn}
 use Rattle.table_text.specs.Form.{Number, Laid}
 use Rattle.table_text.proofs.Fields.{digits-take}

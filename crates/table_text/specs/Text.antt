@@ -4,9 +4,9 @@ use mathlib.Core.List.{List, [], _∷_, _++_, map}
 use Prim.Native.Nat.{ℕ, zero, suc, _+_, _-_, _*_, _/_, _%_}
 use lib.Dec.{eqb, leb, ltb}
 use lib.ListN.{length, take, drop, getD}
-use Rattle.evidence.specs.Evidence.{same}
+use Rattle.lists.specs.Lists.{same}
 use Rattle.layouts.specs.Layouts.{unless, orElse, layoutRefusal, chains}
-use Rattle.reading.specs.Answers.{Report, readRefusal, reportOn, listedIn}
+use Rattle.reading.specs.Contract.{Report, readRefusal, reportOn, listedIn}
 
 abbrev pub comma : ℕ
 comma = 44

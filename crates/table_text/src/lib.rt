@@ -5,12 +5,12 @@ ghost use mathlib.Core.Bool.{_&&_};
 ghost use mathlib.Core.List.{_∷_, [], _++_, map};
 ghost use Prim.Native.Nat.{_+_, _-_, _*_, _≤_, _<_};
 ghost use lib.ListN.{length, take, drop};
-ghost use Rattle.evidence.specs.Evidence.{same};
-ghost use Rattle.listing.specs.Walks.{Wrote};
-ghost use Rattle.reading.specs.Answers.{reportOf};
+ghost use Rattle.lists.specs.Lists.{same};
+ghost use Rattle.buffers.specs.Buffers.{Wrote};
+ghost use Rattle.reading.specs.Contract.{reportOf};
 ghost use Rattle.table_text.specs.Text as spec;
 ghost use Rattle.table_text.specs.Text.{isDigit, digitOf, digits, isNumber, numberFrom, startsWith, extraRefusal, tableRefusal, decimalIn, decimal, commaNumbers, noLine, dayLines, printed, textOf};
-ghost use Rattle.table_text.specs.Fields.{FieldAt, TypedIs, SaidIs};
+ghost use Rattle.table_text.specs.Private.{FieldAt, TypedIs, SaidIs};
 
 // A field: whether it is as laid out, its number, and where what follows its mark begins.
 struct Field {

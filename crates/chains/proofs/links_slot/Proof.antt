@@ -1,5 +1,6 @@
 use Rattle.chains.proofs.Slots.{links-above, links-tile, links-other}
 use Rattle.layouts.proofs.AllowedLaws.{allowed-n-is}
+use native.Mathlib.Nat.{mod-lt}
 use borrow.Author.Needs.{needs}
 use Rattle.chains.proofs.links_slot.Statement.{statement}
 use Rattle.chains.proofs.links_slot.Tie as tie
@@ -17,7 +18,7 @@ rem-covers : tie.Need-rem-covers
 rem-covers c = allowed-n-is _ (c .before .before .before .pre .0) .some
 
 covers-requires : tie.Need-covers-requires
-covers-requires c κs = search needs
+covers-requires c κs = (search needs, search needs, mod-lt _ (allowed-n-is _ (c .before .before .before .pre .0) .some))
 
 returns-2 : tie.Need-returns-2
 returns-2 c = links-tile _ _ _ _ _ (c .before .before .before .if1 .taken) (c .before .before .lg .ensures) (c .before .if2 .left) (c .covers .ensures)

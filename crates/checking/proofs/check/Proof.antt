@@ -1,6 +1,6 @@
 use Rattle.checking.proofs.Through.{digests-whole, outcomes-whole}
 use Rattle.checking.proofs.Tests.{ready, checked-not, checked-yes, front-not, front-yes}
-use Rattle.checking.specs.Calls.{workAfter, outcomesAfter, digestsOf, outcomesOf, checkRefusal}
+use Rattle.checking.specs.Contract.{workAfter, outcomesAfter, digestsOf, outcomesOf, checkRefusal}
 use lib.ListN.{length}
 use mathlib.Core.Path.{sym, _∙_}
 use borrow.Author.Needs.{needs}

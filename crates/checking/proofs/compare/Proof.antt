@@ -1,6 +1,6 @@
 use Prim.Native.Nat.{ℕ, _-_, _*_, _≤_}
 use mathlib.Core.List.{List}
-use Rattle.checking.specs.Calls.{outcomeOf}
+use Rattle.checking.specs.Contract.{outcomeOf}
 use Rattle.checking.proofs.Compares.{to-end, Written, written-none, written-next, written-done}
 use mathlib.Core.Path.{_≡_, refl, ap, _∙_}
 use lib.ListN.{length, drop, length-set}

@@ -1,6 +1,6 @@
 use mathlib.Core.Path.{ap, _∙_}
 use lib.ListN.{length}
-use Rattle.service.specs.Calls.{written}
+use Rattle.service.specs.Contract.{written}
 use Rattle.service.specs.declared.Record.{Record}
 use Rattle.daybook_c.proofs.Answers.{close-number, close-done, close-count, close-kept, close-kept-count}
 use borrow.Author.Needs.{needs}

@@ -6,7 +6,7 @@ use native.Mathlib.Omega.{arith}
 use borrow.Author.Needs.{needs}
 use borrow.Author.Tests.{not-true, not-false}
 use Rattle.ledger.specs.Ledger.{goodEnds}
-use Rattle.ledger.proofs.EndLaws.{refusal-few, refusal-good, test-good, test-bad}
+use Rattle.ledger.proofs.EndLaws.{refusal-9, refusal-0, test-good, test-bad}
 use Rattle.ledger.proofs.ends_refusal.Statement.{statement}
 use Rattle.ledger.proofs.ends_refusal.Tie as tie
 
@@ -20,7 +20,7 @@ wide-requires : tie.Need-wide-requires Inv-loop μ-loop
 wide-requires c κs = search needs
 
 returns : tie.Need-returns Inv-loop μ-loop
-returns c = sym (refusal-few _ _ _ (omega arith))
+returns c = sym (refusal-9 _ _ _ (omega arith))
 
 loop-holds : tie.Need-loop-holds Inv-loop μ-loop
 loop-holds c = (search needs, refl)
@@ -47,7 +47,7 @@ loop-again : tie.Need-loop-again Inv-loop μ-loop
 loop-again c = (search needs, test-good (c .before .before .before .before .before .before .before .before .before .args .ends .now) _ (c .before .before .before .before .before .loop .i) _ _ _ (c .before .before .before .start-of .ensures) (c .before .before .end-of .ensures) (c .before .good-end .ensures) (not-false _ (c .if2 .left)) (c .before .before .before .before .before .loop .inv .1))
 
 returns-3 : tie.Need-returns-3 Inv-loop μ-loop
-returns-3 c = sym (refusal-good _ _ _ (c .before .loop .i) (c .before .loop .inv .1) (omega arith) (omega arith))
+returns-3 c = sym (refusal-0 _ _ _ (c .before .loop .i) (c .before .loop .inv .1) (omega arith) (omega arith))
 
 pub ends-refusal-spec : {M : Type 1} → statement M
 ends-refusal-spec =

@@ -1,5 +1,6 @@
-use Rattle.listing.proofs.Writes.{wrote-one, wrote-as, tile-day, tile-upper, level-less, level-some, place-one, left-place, lower-tile, upper-tile, tile-sum, tile-small, tile-level, tile-right-place, tile-join}
-use Rattle.rules.specs.Rules.{tileBit}
+use Rattle.buffers.proofs.Writes.{wrote-one, wrote-as}
+use Rattle.listing.proofs.Writes.{tile-day, tile-upper, level-less, level-some, place-one, left-place, lower-tile, upper-tile, tile-sum, tile-small, tile-level, tile-right-place, tile-join}
+use Rattle.acceptance.specs.Private.{tileBit}
 use borrow.Author.Needs.{needs}
 use lib.ListN.{length-set}
 use Prim.Native.Nat.{ℕ, _<_}
@@ -9,8 +10,8 @@ use borrow.Fn.PlainCycle.{Measures, is, falls, and}
 use Rattle.listing.proofs.tile_walk.Reads as tile-walk
 use Rattle.listing.proofs.tile_walk.Kinds as tile-walk-kinds
 use Rattle.listing.proofs.+tile_walk.Lts-tile_walk as tile-walk-lts
-use Rattle.rules.proofs.size.Reads as size-reads
-use Rattle.rules.proofs.tile_bit.Reads as tile-bit-reads
+use Rattle.acceptance.proofs.size.Reads as size-reads
+use Rattle.acceptance.proofs.tile_bit.Reads as tile-bit-reads
 use Rattle.listing.proofs.+tile_walk.{statement}
 use Rattle.listing.proofs.+tile_walk.Tie.{close}
 

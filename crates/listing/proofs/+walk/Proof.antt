@@ -1,4 +1,5 @@
-use Rattle.listing.proofs.Writes.{wrote-none, wrote-one, tree-none, tree-day, level-less, level-some, place-one, left-room, left-chain, right-chain, left-place, tree-right-place, tree-join}
+use Rattle.buffers.proofs.Writes.{wrote-none, wrote-one}
+use Rattle.listing.proofs.Writes.{tree-none, tree-day, level-less, level-some, place-one, left-room, left-chain, right-chain, left-place, tree-right-place, tree-join}
 use borrow.Author.Needs.{needs}
 use lib.ListN.{length-set}
 use native.Mathlib.Omega.{arith}
@@ -9,8 +10,8 @@ use borrow.Fn.PlainCycle.{Measures, is, falls, and}
 use Rattle.listing.proofs.walk.Reads as walk
 use Rattle.listing.proofs.walk.Kinds as walk-kinds
 use Rattle.listing.proofs.+walk.Lts-walk as walk-lts
-use Rattle.rules.proofs.size.Reads as size-reads
-use Rattle.rules.proofs.tree_passes.Reads as tree-passes-reads
+use Rattle.acceptance.proofs.size.Reads as size-reads
+use Rattle.acceptance.proofs.tree_passes.Reads as tree-passes-reads
 use Rattle.listing.proofs.+walk.{statement}
 use Rattle.listing.proofs.+walk.Tie.{close}
 

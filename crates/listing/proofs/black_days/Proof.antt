@@ -1,5 +1,5 @@
 use Rattle.listing.proofs.Lists.{interval-room, black-none, black-all}
-use Rattle.listing.proofs.Writes.{wrote-none, wrote-as}
+use Rattle.buffers.proofs.Writes.{wrote-none, wrote-as}
 use borrow.Author.Needs.{needs}
 use Rattle.listing.proofs.black_days.Statement.{statement}
 use Rattle.listing.proofs.black_days.Tie as tie

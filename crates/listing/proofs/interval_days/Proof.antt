@@ -1,7 +1,7 @@
 use Rattle.layouts.specs.Layouts.{lastDays}
 use Rattle.listing.proofs.Lists.{second, isListed-as}
-use Rattle.listing.proofs.Writes.{wrote-as}
-use Rattle.rules.proofs.Steps.{interval-as}
+use Rattle.buffers.proofs.Writes.{wrote-as}
+use Rattle.acceptance.proofs.Steps.{interval-as}
 use borrow.Author.Needs.{needs}
 use Rattle.listing.proofs.interval_days.Statement.{statement}
 use Rattle.listing.proofs.interval_days.Tie as tie

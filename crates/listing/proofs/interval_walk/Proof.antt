@@ -1,9 +1,10 @@
 use Rattle.listing.proofs.Lists.{none-yet, so-far-length, next-place, next-interval, all-intervals}
-use Rattle.rules.proofs.Steps.{interval-of, interval-end, count-fits, product-fits}
-use Rattle.rules.specs.Rules.{isListed}
-use Rattle.listing.specs.Walks.{Wrote}
+use Rattle.acceptance.proofs.Steps.{interval-of, interval-end, count-fits, product-fits}
+use Rattle.acceptance.specs.Private.{isListed}
+use Rattle.buffers.specs.Buffers.{Wrote}
 use Rattle.layouts.proofs.AllowedLaws.{allowed-n-is}
-use Rattle.evidence.specs.Evidence.{days, keep}
+use Rattle.evidence.specs.Evidence.{days}
+use Rattle.lists.specs.Lists.{keep}
 use native.Mathlib.Omega.{arith}
 use native.Mathlib.Nat.{zero-mul}
 use Prim.Native.Nat.{_+_, _-_, _*_, _≤_}

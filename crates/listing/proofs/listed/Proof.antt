@@ -1,6 +1,6 @@
 use Rattle.listing.proofs.Lists.{isListed-as, below-third, rules-levels}
-use Rattle.listing.proofs.Writes.{wrote-as}
-use Rattle.rules.proofs.Steps.{table-as}
+use Rattle.buffers.proofs.Writes.{wrote-as}
+use Rattle.acceptance.proofs.Steps.{table-as}
 use Rattle.evidence.specs.Evidence.{days}
 use borrow.Author.Needs.{needs}
 use Rattle.listing.proofs.listed.Statement.{statement}

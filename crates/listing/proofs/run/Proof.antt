@@ -1,6 +1,6 @@
 use Rattle.listing.proofs.Writes.{run-start, run-place, run-next, run-length, run-end}
-use Rattle.listing.specs.Walks.{Wrote}
-use Rattle.evidence.specs.Evidence.{upFrom}
+use Rattle.buffers.specs.Buffers.{Wrote}
+use Rattle.lists.specs.Lists.{upFrom}
 use borrow.Author.Needs.{needs}
 use native.Mathlib.Omega.{arith}
 use Prim.Native.Nat.{_-_, _≤_}

@@ -1,5 +1,5 @@
 use Rattle.listing.proofs.Lists.{interval-room, tile-whole, tile-failed, tile-start}
-use Rattle.listing.proofs.Writes.{wrote-none, wrote-as}
+use Rattle.buffers.proofs.Writes.{wrote-none, wrote-as}
 use Rattle.layouts.proofs.AllowedLaws.{allowed-n-is}
 use borrow.Author.Needs.{needs}
 use Rattle.listing.proofs.tile_days.Statement.{statement}

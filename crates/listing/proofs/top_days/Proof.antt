@@ -1,6 +1,6 @@
 use Rattle.listing.proofs.Lists.{top-none, top-chain, top-walk, top-fits}
-use Rattle.listing.proofs.Writes.{wrote-none, wrote-as}
-use Rattle.rules.proofs.Steps.{weight-positive}
+use Rattle.buffers.proofs.Writes.{wrote-none, wrote-as}
+use Rattle.acceptance.proofs.Steps.{weight-positive}
 use borrow.Author.Needs.{needs}
 use Rattle.listing.proofs.top_days.Statement.{statement}
 use Rattle.listing.proofs.top_days.Tie as tie

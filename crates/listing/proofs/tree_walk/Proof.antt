@@ -1,7 +1,8 @@
 use Rattle.listing.proofs.Lists.{none-yet, no-level, level-place, next-level, level-length, all-levels}
-use Rattle.rules.specs.Rules.{isListed}
-use Rattle.listing.specs.Walks.{Wrote}
-use Rattle.evidence.specs.Evidence.{days, keep}
+use Rattle.acceptance.specs.Private.{isListed}
+use Rattle.buffers.specs.Buffers.{Wrote}
+use Rattle.evidence.specs.Evidence.{days}
+use Rattle.lists.specs.Lists.{keep}
 use native.Mathlib.Omega.{arith}
 use Prim.Native.Nat.{_*_, _/_, _^_, _≤_}
 use Rattle.listing.proofs.tree_walk.Statement.{statement}

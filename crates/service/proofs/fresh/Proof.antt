@@ -1,4 +1,4 @@
-use Rattle.service.specs.Calls.{fresh}
+use Rattle.service.specs.Contract.{fresh}
 use borrow.Author.Needs.{needs}
 use Rattle.service.proofs.fresh.Statement.{statement}
 use Rattle.service.proofs.fresh.Tie as tie

@@ -1,4 +1,4 @@
-use Rattle.service.specs.Calls.{grown}
+use Rattle.service.specs.Contract.{grown}
 use borrow.Author.Needs.{needs}
 use Rattle.service.proofs.grow.Statement.{statement}
 use Rattle.service.proofs.grow.Tie as tie

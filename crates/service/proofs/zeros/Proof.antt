@@ -1,4 +1,4 @@
-use Rattle.service.specs.Calls.{zeros, noValue}
+use Rattle.service.specs.Contract.{zeros, noValue}
 use mathlib.Core.Path.{refl}
 use Rattle.service.proofs.zeros.Statement.{statement}
 use Rattle.service.proofs.zeros.Tie as tie

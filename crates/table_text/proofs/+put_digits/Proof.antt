@@ -1,5 +1,5 @@
 use Rattle.table_text.proofs.Lines.{some, one-place, less, decimal-none, decimal-one, decimal-room, decimal-next}
-use Rattle.listing.proofs.Writes.{wrote-none, wrote-one}
+use Rattle.buffers.proofs.Writes.{wrote-none, wrote-one}
 use mathlib.Core.Path.{_∙_}
 use lib.ListN.{length-set}
 use native.Mathlib.Omega.{arith}

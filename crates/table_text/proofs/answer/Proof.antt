@@ -2,7 +2,7 @@ use lib.ListN.{replicate}
 use native.Mathlib.Omega.{arith}
 use mathlib.Core.Path.{refl}
 use Rattle.table_text.proofs.Answers.{table-early, table-late, part-fits, part-length, part-room, table-read}
-use Rattle.listing.proofs.Writes.{wrote-as}
+use Rattle.buffers.proofs.Writes.{wrote-as}
 use borrow.Author.Needs.{needs}
 use Rattle.table_text.proofs.answer.Statement.{statement}
 use Rattle.table_text.proofs.answer.Tie as tie

@@ -1,6 +1,6 @@
 use native.Mathlib.Omega.{arith}
 use Rattle.table_text.proofs.Answers.{text-early, days-few, count-fits, digits-fit, outcomes-length, text-read}
-use Rattle.listing.proofs.Writes.{wrote-as}
+use Rattle.buffers.proofs.Writes.{wrote-as}
 use borrow.Author.Needs.{needs}
 use Rattle.table_text.proofs.put_text.Statement.{statement}
 use Rattle.table_text.proofs.put_text.Tie as tie

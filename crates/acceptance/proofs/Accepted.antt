@@ -1,0 +1,169 @@
+-- Acceptance is the rules, and the listing is the days listed locally.
+use mathlib.Core.Path.{_≡_, refl, sym, ap, _∙_}
+use mathlib.Core.Logic.{_⊎_, inl, inr}
+use mathlib.Core.Bool.{Bool, true, false, not, _&&_}
+use mathlib.Core.List.{List, List·Memᴰ·head, Memᴰ·map}
+use Prim.Native.Nat.{ℕ, zero, suc, pred, _-_, _/_, _%_, _^_, _≤_}
+use native.Mathlib.Nat.{mod-one}
+use native.Mathlib.Omega.{arith}
+use lib.Dec.{eqb}
+use lib.Pow.{pow-pos}
+use borrow.Author.Tests.{eq-eqb, not-false}
+use Rattle.lists.specs.Lists.{_among_, upFrom, keep}
+use Rattle.evidence.specs.Evidence.{days, Within, Gives, cleared, listing, accepted}
+use Rattle.lists.proofs.Laws.{split, true-or-false, and-both, bool-ext, upFrom-bounds, keep-mem, mem-keep, keep-congr, every-not}
+use Rattle.evidence.proofs.TableLaws.{meets-of, lists-all, listed-iff, given-iff-accepted, accepted-gives}
+use Rattle.layouts.specs.Layouts.{divides, lg, Name, black, tile, tree, lastDays, offset, covers, coveredDays, namesThrough, chains}
+use Rattle.layouts.proofs.AllowedLaws.{Power, allowed-n-is, allowed-scheme-is}
+use Rattle.layouts.proofs.Coverage.{chains-within}
+use Rattle.acceptance.specs.Private.{Table, Bits, passes, levelsRule, blocksRule, rules, endOf, tileBit, bitRule, bitsRule, isListed}
+use Rattle.acceptance.proofs.Runs.{some, meets-keep, lastDays-mem, lastDays-bounds, days-bounds}
+use Rattle.acceptance.proofs.Lookup.{Block, each-1, each-2, each-3, passes-gives, gives-passes, tile-named, tree-named, black-named}
+use Rattle.acceptance.proofs.Given.{given-rules}
+use Rattle.acceptance.proofs.Listed.{at-block, black-up, black-1, tile-2, black-2, tree-3, black-3, isListed-1, isListed-2, isListed-3, covers-bit, block-day}
+
+-- each value passes exactly if no day of its chain is listed
+values : (s n d : ℕ) (t : List ℕ) → 1 ≤ s → s ≤ 3 → Power n → divides n d ≡ true → d ≤ 65536 → rules s n d t ≡ true →
+    (x : Name) → x among namesThrough s n d → passes s n t x ≡ not (some (isListed s n t) (coveredDays n x))
+unfolding rules
+values zero n d t a b w e l r x m = absurd (omega arith)
+values (suc zero) n d t a b w e l r x m =
+    each-1 (λ y. passes 1 n t y ≡ not (some (isListed 1 n t) (coveredDays n y))) n d
+    (at-block (λ g. passes 1 n t (black g) ≡ not (some (isListed 1 n t) (lastDays g g))) n d (w .some) (black-up 1 n d t (isListed 1 n t) (w .some) (black-1 n d t (w .some) e r))) x m
+values (suc (suc zero)) n d t a b w e l r x m =
+    each-2 (λ y. passes 2 n t y ≡ not (some (isListed 2 n t) (coveredDays n y))) n d
+    (at-block (λ g. passes 2 n t (black g) ≡ not (some (isListed 2 n t) (lastDays g g))) n d (w .some) (black-up 2 n d t (isListed 2 n t) (w .some) (black-2 n d t w e r)))
+    (λ g i q h. at-block (λ y. passes 2 n t (tile i y) ≡ not (some (isListed 2 n t) (coveredDays n (tile i y)))) n d (w .some) (λ k u. tile-2 n d t w e r k i u h) g q) x m
+values (suc (suc (suc zero))) n d t a b w e l r x m =
+    each-3 (λ y. passes 3 n t y ≡ not (some (isListed 3 n t) (coveredDays n y))) n d
+    (at-block (λ g. passes 3 n t (black g) ≡ not (some (isListed 3 n t) (lastDays g g))) n d (w .some) (black-up 3 n d t (isListed 3 n t) (w .some) (black-3 n d t w e l r)))
+    (λ g j q.
+    at-block (λ y. passes 3 n t (tree j y) ≡ not (some (isListed 3 n t) (lastDays (2 ^ j) y))) (2 ^ j) d (pow-pos j)
+    (λ k u. tree-3 n d t l (and-both (blocksRule 3 n d t) (levelsRule n d t) r .1) j k (u .most)) g q) x m
+values (suc (suc (suc (suc s)))) n d t a b w e l r x m = absurd (omega arith)
+
+isListed-within : (s n d : ℕ) (t : List ℕ) → Within d (keep (isListed s n t) (days d))
+isListed-within s n d t g m = days-bounds d g (keep-mem (isListed s n t) (days d) g m .0)
+
+-- a table that meets the rules is given by the days that are listed locally
+pub isListed-gives : (s n d : ℕ) (t : List ℕ) → Table s n d t → Bits t → rules s n d t ≡ true → Gives (chains s n d) d (keep (isListed s n t) (days d)) t
+unfolding chains
+isListed-gives s n d t T b r =
+    let a = allowed-scheme-is s (T .scheme-ok) in
+    let w = allowed-n-is n (T .n-ok) in
+    passes-gives s n d (keep (isListed s n t) (days d)) t b (T .size) (isListed-within s n d t)
+    (λ x m.
+    values s n d t (a .0) (a .1) w (T .whole) (T .most) r x m ∙
+    ap not (sym (meets-keep (isListed s n t) d (coveredDays n x) (chains-within s n d (coveredDays n x) (Memᴰ·map (coveredDays n) m)))))
+
+pub accepted-rules : (s n d : ℕ) (t : List ℕ) → Table s n d t → Bits t → accepted (chains s n d) d t ≡ rules s n d t
+accepted-rules s n d t T b = bool-ext (accepted (chains s n d) d t) (rules s n d t) forth back
+  where
+    forth : accepted (chains s n d) d t ≡ true → rules s n d t ≡ true
+    forth e =
+        let a = allowed-scheme-is s (T .scheme-ok) in
+        given-rules s n d (listing (chains s n d) d t) t (accepted-gives (chains s n d) d t e) (a .0) (a .1) (allowed-n-is n (T .n-ok))
+
+    back : rules s n d t ≡ true → accepted (chains s n d) d t ≡ true
+    back r = given-iff-accepted (chains s n d) d t .0 (keep (isListed s n t) (days d), isListed-gives s n d t T b r)
+
+-- ---- the listing
+
+-- a value that passes and covers day g
+abbrev Clears : ℕ → ℕ → ℕ → List ℕ → ℕ → Type 0
+Clears s n d t g = (x : Name) × (x among namesThrough s n d) × (g among coveredDays n x) × (passes s n t x ≡ true)
+
+clears-1 : (n d : ℕ) (t : List ℕ) → 1 ≤ n → divides n d ≡ true → (g : ℕ) → g among days d → isListed 1 n t g ≡ false → Clears 1 n d t g
+clears-1 n d t p e g m f =
+    let b = days-bounds d g m in
+    let q = block-day n d g p e m in
+    let u = lastDays-bounds n (endOf n g) g (omega arith) (q .1) in (
+      black (endOf n g),
+      black-named 1 n d (endOf n g) (q .0 .some) (q .0 .most) (q .0 .whole) (rw (q .0 .whole) (List·Memᴰ·head refl)),
+      lastDays-mem (endOf n g) (endOf n g) g (omega arith) (omega (arith, b .0)) (u .1),
+      not-false (passes 1 n t (black (endOf n g))) (sym (isListed-1 n t g) ∙ f),
+    )
+
+clears-2 : (n d : ℕ) (t : List ℕ) → Power n → divides n d ≡ true → (g : ℕ) → g among days d → isListed 2 n t g ≡ false → Clears 2 n d t g
+unfolding bitsRule bitRule tileBit
+clears-2 n d t w e g m f = go (block-day n d g (w .some) e m) (passes 2 n t (tile 0 (endOf n g))) refl (sym (isListed-2 n t (endOf n g) g refl) ∙ f)
+  where
+    z : ℕ
+    z = endOf n g
+
+    part : (i : ℕ) → i ≤ lg n → Block n d z × (g among lastDays n z) → covers n i (offset n g) ≡ true → passes 2 n t (tile i z) ≡ true → Clears 2 n d t g
+    part i l q c h = (
+      tile i z,
+      tile-named n d z i (q .0 .some) (q .0 .most) (q .0 .whole) l,
+      mem-keep (λ day. covers n i (offset n day)) (lastDays n z) g (q .1) c,
+      h,
+    )
+
+    parts : (a b : Bool) → not (a && b) ≡ false → (a ≡ true) × (b ≡ true)
+    parts true true h = (refl, refl)
+    parts true false h = absurd (true-or-false refl h)
+    parts false b h = absurd (true-or-false refl h)
+
+    bit : Block n d z × (g among lastDays n z) → (j : ℕ) × (j among upFrom 0 (lg n)) × (bitRule (tileBit n t z) (pred g) j ≡ false) → Clears 2 n d t g
+    bit q r =
+        let b = upFrom-bounds 0 (lg n) (r .0) (r .1) in
+        let u = parts (tileBit n t z (r .0)) (eqb (pred g / 2 ^ (r .0) % 2) 0) (r .2) in
+        let i : suc (lg n - suc (r .0)) ≡ lg n - r .0 = omega arith in
+        let j : lg n - suc (lg n - suc (r .0)) ≡ r .0 = omega arith in
+        part (suc (lg n - suc (r .0))) (omega arith) q
+        (covers-bit n (lg n) (lg n - suc (r .0)) (pred g) (w .power) (omega arith) ∙ ap (λ (y : ℕ). eqb (pred g / 2 ^ y % 2) 0) j ∙ u .1)
+        (ap (λ (y : ℕ). passes 2 n t (tile y z)) i ∙ u .0)
+
+    go : Block n d z × (g among lastDays n z) → (b : Bool) → passes 2 n t (tile 0 z) ≡ b → not b && bitsRule (tileBit n t z) (lg n) (pred g) ≡ false → Clears 2 n d t g
+    go q true h k = part 0 (omega arith) q refl h
+    go q false h k = bit q (every-not (bitRule (tileBit n t z) (pred g)) (upFrom 0 (lg n)) k)
+
+clears-3 : (n d : ℕ) (t : List ℕ) → (g : ℕ) → g among days d → isListed 3 n t g ≡ false → Clears 3 n d t g
+clears-3 n d t g m f =
+    let b = days-bounds d g m in
+    let q : suc (g - 1) ≡ g = omega (arith, b .0) in (
+      tree 0 g,
+      tree-named n d g 0 (b .0) (b .1) (eq-eqb (g % 1) 0 (mod-one g)),
+      List·Memᴰ·head (sym q),
+      not-false (passes 3 n t (tree 0 g)) (sym (isListed-3 n t g) ∙ f),
+    )
+
+clears-isListed : (s n d : ℕ) (t : List ℕ) → 1 ≤ s → s ≤ 3 → Power n → divides n d ≡ true → (g : ℕ) → g among days d → isListed s n t g ≡ false → Clears s n d t g
+clears-isListed zero n d t a b w e g m f = absurd (omega arith)
+clears-isListed (suc zero) n d t a b w e g m f = clears-1 n d t (w .some) e g m f
+clears-isListed (suc (suc zero)) n d t a b w e g m f = clears-2 n d t w e g m f
+clears-isListed (suc (suc (suc zero))) n d t a b w e g m f = clears-3 n d t g m f
+clears-isListed (suc (suc (suc (suc s)))) n d t a b w e g m f = absurd (omega arith)
+
+-- the listing of a table that meets the rules
+pub listing-isListed : (s n d : ℕ) (t : List ℕ) → Table s n d t → Bits t → rules s n d t ≡ true → listing (chains s n d) d t ≡ keep (isListed s n t) (days d)
+unfolding listing
+listing-isListed s n d t T b r = keep-congr (λ g. not (cleared g (chains s n d) t)) (isListed s n t) (days d) each
+  where
+    S : List ℕ
+    S = keep (isListed s n t) (days d)
+
+    given : Gives (chains s n d) d S t
+    given = isListed-gives s n d t T b r
+
+    taken : accepted (chains s n d) d t ≡ true
+    taken = given-iff-accepted (chains s n d) d t .0 (S, given)
+
+    refute : (g : ℕ) → Clears s n d t g → (R : List ℕ) × Gives (chains s n d) d R t × (g among R) → ⊥
+    refute g c h =
+        true-or-false (c .3) (gives-passes s n d (h .0) t (h .1) (c .0) (c .1) ∙ ap not (meets-of (h .0) (coveredDays n (c .0)) g (c .2) (h .2)))
+
+    decide : (g : ℕ) → g among days d → g among listing (chains s n d) d t → (isListed s n t g ≡ true) ⊎ (isListed s n t g ≡ false) → isListed s n t g ≡ true
+    decide g m k (inl e) = e
+    decide g m k (inr e) =
+        let a = allowed-scheme-is s (T .scheme-ok) in
+        absurd (refute g (clears-isListed s n d t (a .0) (a .1) (allowed-n-is n (T .n-ok)) (T .whole) g m e) (listed-iff (chains s n d) d t taken g .0 k))
+
+    each : (g : ℕ) → g among days d → not (cleared g (chains s n d) t) ≡ isListed s n t g
+    each g m =
+        bool-ext (not (cleared g (chains s n d) t)) (isListed s n t g)
+        (λ e. decide g m (mem-keep (λ x. not (cleared x (chains s n d) t)) (days d) g m e) (split (isListed s n t g)))
+        (λ e.
+        let k = lists-all (chains s n d) d S (given .within) g (mem-keep (isListed s n t) (days d) g m e) in
+        let q : g among keep (λ x. not (cleared x (chains s n d) t)) (days d) = rw (given .gives) at k in
+        keep-mem (λ x. not (cleared x (chains s n d) t)) (days d) g q .1)

@@ -1,0 +1,237 @@
+-- A table by names: a set gives a table exactly if each value, looked up by its name, is what the set says of its chain.
+use mathlib.Core.Path.{_≡_, refl, sym, ap, _∙_}
+use mathlib.Core.Logic.{_⊎_, inl, inr}
+use mathlib.Core.Bool.{Bool, true, false, not, _&&_, cond}
+use mathlib.Core.List.{List, [], _∷_, _++_, map, flatMap, map-append, append-nil, List·Memᴰ·head, List·Memᴰ·tail, List·Memᴰ·append-cases, List·Memᴰ·eq-of-singleton, Memᴰ·append-left, Memᴰ·map, Memᴰ·of-map}
+use Prim.Native.Nat.{ℕ, zero, suc, pred, _+_, _^_, _≤_, _<_}
+use native.Mathlib.Nat.{zero-add, add-zero}
+use native.Mathlib.Omega.{arith}
+use lib.Dec.{eqb}
+use lib.ListN.{length, getD, length-append, length-map}
+use Rattle.lists.specs.Lists.{_among_, upFrom}
+use Rattle.evidence.specs.Evidence.{days, Within, meets, setOutcome, tableOf, Gives}
+use Rattle.lists.proofs.Laws.{true-or-false, and-both, upFrom-mem, upFrom-bounds, keep-mem, mem-keep, map-same, length-upFrom, upFrom-append}
+use Rattle.layouts.specs.Layouts.{divides, lg, Name, black, tile, tree, lastDays, coveredDays, levels, storedOnce, namesOfDay, namesThrough, chains, position}
+use Rattle.layouts.proofs.Coverage.{divisor-le, cond-mem, namesThrough-suc, namesThrough-at, namesThrough-in}
+use Rattle.layouts.proofs.Counts.{below-pow}
+use Rattle.layouts.proofs.Positions.{levels-run}
+use Rattle.acceptance.specs.Private.{Bits, passes}
+use Rattle.acceptance.proofs.BlackLaws.{black-position}
+
+-- ---- the positions of the names in book order are 0, 1 and so on
+
+map-add : (b i k : ℕ) → map (λ (x : ℕ). b + x) (upFrom i k) ≡ upFrom (b + i) k
+map-add b i zero = refl
+map-add b i (suc k) = let e : b + suc i ≡ suc (b + i) = omega arith in ap (λ (r : List ℕ). (b + i) ∷ r) (map-add b (suc i) k ∙ ap (λ (x : ℕ). upFrom x k) e)
+
+map-map : {A B C : Type 0} (f : B → C) (g : A → B) (xs : List A) → map f (map g xs) ≡ map (λ (x : A). f (g x)) xs
+map-map f g [] = refl
+map-map f g (x ∷ xs) = ap (λ r. f (g x) ∷ r) (map-map f g xs)
+
+-- a day's values: k that are counted from the day's first place on, and then perhaps black
+run-then : (s n g k : ℕ) (f : ℕ → Name) (b : Bool) → ((i : ℕ) → position s n (f i) ≡ length (namesThrough s n g) + i) →
+    namesOfDay s n (suc g) ≡ map f (upFrom 0 k) ++ cond b (black (suc g) ∷ []) [] →
+    map (position s n) (namesOfDay s n (suc g)) ≡ upFrom (length (namesThrough s n g)) (length (namesOfDay s n (suc g)))
+run-then s n g k f b h e =
+    ap (map (position s n)) e ∙ map-append (position s n) (map f (upFrom 0 k)) (cond b (black (suc g) ∷ []) []) ∙
+    ap (λ (r : List ℕ). r ++ map (position s n) (cond b (black (suc g) ∷ []) [])) front ∙ back b e
+  where
+    front : map (position s n) (map f (upFrom 0 k)) ≡ upFrom (length (namesThrough s n g)) k
+    front =
+        map-map (position s n) f (upFrom 0 k) ∙ map-same (λ (i : ℕ). position s n (f i)) (λ (i : ℕ). length (namesThrough s n g) + i) (upFrom 0 k) (λ i m. h i) ∙
+        map-add (length (namesThrough s n g)) 0 k ∙ ap (λ (x : ℕ). upFrom x k) (add-zero (length (namesThrough s n g)))
+
+    count : (c : Bool) → namesOfDay s n (suc g) ≡ map f (upFrom 0 k) ++ cond c (black (suc g) ∷ []) [] → length (namesOfDay s n (suc g)) ≡ k + length (cond c (black (suc g) ∷ []) [])
+    count c q = ap length q ∙ rw (length-append, length-map, length-upFrom)
+
+    total : length (namesThrough s n (suc g)) ≡ length (namesThrough s n g) + length (namesOfDay s n (suc g))
+    total = ap length (namesThrough-suc s n g) ∙ length-append (namesThrough s n g) (namesOfDay s n (suc g))
+
+    back : (c : Bool) → namesOfDay s n (suc g) ≡ map f (upFrom 0 k) ++ cond c (black (suc g) ∷ []) [] →
+        upFrom (length (namesThrough s n g)) k ++ map (position s n) (cond c (black (suc g) ∷ []) []) ≡ upFrom (length (namesThrough s n g)) (length (namesOfDay s n (suc g)))
+    back true q =
+        let c = count true q in
+        let w = total in
+        let l : length (namesOfDay s n (suc g)) ≡ k + 1 = c in
+        let p : pred (length (namesThrough s n (suc g))) ≡ length (namesThrough s n g) + k = omega arith in
+        sym (ap (upFrom (length (namesThrough s n g))) l ∙ upFrom-append (length (namesThrough s n g)) k 1 ∙ ap (λ (x : ℕ). upFrom (length (namesThrough s n g)) k ++ (x ∷ [])) (sym p))
+    back false q =
+        let c = count false q in
+        let l : length (namesOfDay s n (suc g)) ≡ k = omega arith in
+        append-nil (upFrom (length (namesThrough s n g)) k) ∙ ap (upFrom (length (namesThrough s n g))) (sym l)
+
+day-positions : (s n g : ℕ) → map (position s n) (namesOfDay s n (suc g)) ≡ upFrom (length (namesThrough s n g)) (length (namesOfDay s n (suc g)))
+day-positions zero n g = refl
+day-positions (suc zero) n g = run-then 1 n g 0 (λ i. tile i (suc g)) (divides n (suc g)) (λ i. refl) refl
+day-positions (suc (suc zero)) n g = go (divides n (suc g)) refl
+  where
+    go : (b : Bool) → divides n (suc g) ≡ b → map (position 2 n) (namesOfDay 2 n (suc g)) ≡ upFrom (length (namesThrough 2 n g)) (length (namesOfDay 2 n (suc g)))
+    go true e = run-then 2 n g (suc (lg n)) (λ i. tile i (suc g)) true (λ i. refl) (rw e)
+    go false e = rw e
+day-positions (suc (suc (suc zero))) n g =
+    run-then 3 n g (length (levels (suc g))) (λ l. tree l (suc g)) (divides n (suc g) && not (storedOnce (suc g))) (λ i. refl)
+    (ap (λ (r : List ℕ). map (λ (l : ℕ). tree l (suc g)) r ++ cond (divides n (suc g) && not (storedOnce (suc g))) (black (suc g) ∷ []) []) (levels-run (suc g)))
+day-positions (suc (suc (suc (suc s)))) n g = refl
+
+positions : (s n d : ℕ) → map (position s n) (namesThrough s n d) ≡ upFrom 0 (length (namesThrough s n d))
+unfolding namesThrough flatMap
+positions s n zero = refl
+positions s n (suc d) =
+    ap (map (position s n)) (namesThrough-suc s n d) ∙ map-append (position s n) (namesThrough s n d) (namesOfDay s n (suc d)) ∙
+    ap (λ (r : List ℕ). r ++ map (position s n) (namesOfDay s n (suc d))) (positions s n d) ∙
+    ap (λ (r : List ℕ). upFrom 0 (length (namesThrough s n d)) ++ r) (day-positions s n d ∙ ap (λ (x : ℕ). upFrom x (length (namesOfDay s n (suc d)))) (sym (zero-add (length (namesThrough s n d))))) ∙
+    sym (upFrom-append 0 (length (namesThrough s n d)) (length (namesOfDay s n (suc d)))) ∙
+    ap (upFrom 0) (sym (ap length (namesThrough-suc s n d) ∙ length-append (namesThrough s n d) (namesOfDay s n (suc d))))
+
+pub position-bound : (s n d : ℕ) (x : Name) → x among namesThrough s n d → position s n x < length (chains s n d)
+unfolding chains
+position-bound s n d x m =
+    let k : position s n x among upFrom 0 (length (namesThrough s n d)) = rw (positions s n d) at (Memᴰ·map (position s n) m) in
+    let b = upFrom-bounds 0 (length (namesThrough s n d)) (position s n x) k in
+    rw length-map (omega arith)
+
+-- ---- a list, looked up
+
+list-shift : (i k : ℕ) (x : ℕ) (xs : List ℕ) → map (λ (p : ℕ). getD (x ∷ xs) p 0) (upFrom (suc i) k) ≡ map (λ (p : ℕ). getD xs p 0) (upFrom i k)
+list-shift i zero x xs = refl
+list-shift i (suc k) x xs = ap (λ (r : List ℕ). getD xs i 0 ∷ r) (list-shift (suc i) k x xs)
+
+list-at : (t : List ℕ) → map (λ (p : ℕ). getD t p 0) (upFrom 0 (length t)) ≡ t
+list-at [] = refl
+list-at (x ∷ xs) = ap (λ (r : List ℕ). x ∷ r) (list-shift 0 (length xs) x xs ∙ list-at xs)
+
+table-at : (s n d : ℕ) (t : List ℕ) → length t ≡ length (namesThrough s n d) → t ≡ map (λ (x : Name). getD t (position s n x) 0) (namesThrough s n d)
+table-at s n d t e =
+    sym (list-at t) ∙ ap (λ (k : ℕ). map (λ (p : ℕ). getD t p 0) (upFrom 0 k)) e ∙ ap (map (λ (p : ℕ). getD t p 0)) (sym (positions s n d)) ∙
+    map-map (λ (p : ℕ). getD t p 0) (position s n) (namesThrough s n d)
+
+map-agree : {A : Type 0} (f g : A → ℕ) {x : A} {xs : List A} → x among xs → map f xs ≡ map g xs → f x ≡ g x
+map-agree f g (List·Memᴰ·head {x = y} {xs = ys} e) h = let q : f y ≡ g y = cc in ap f e ∙ q ∙ ap g (sym e)
+map-agree f g (List·Memᴰ·tail {x = y} {xs = ys} m) h = let q : map f ys ≡ map g ys = cc in map-agree f g m q
+
+-- ---- gives, by names
+
+passes-of : (s n : ℕ) (t S : List ℕ) (x : Name) (c : List ℕ) → getD t (position s n x) 0 ≡ setOutcome S c → passes s n t x ≡ not (meets S c)
+unfolding passes
+passes-of s n t S x c e = rw e (go (meets S c))
+  where
+    go : (b : Bool) → eqb (cond b 0 1) 1 ≡ not b
+    go true = refl
+    go false = refl
+
+of-passes : (s n : ℕ) (t S : List ℕ) (x : Name) (c : List ℕ) → Bits t → passes s n t x ≡ not (meets S c) → getD t (position s n x) 0 ≡ setOutcome S c
+unfolding passes
+of-passes s n t S x c b e = go (b (position s n x)) (meets S c) e
+  where
+    v : ℕ
+    v = getD t (position s n x) 0
+
+    go : (v ≡ 0) ⊎ (v ≡ 1) → (m : Bool) → eqb v 1 ≡ not m → v ≡ cond m 0 1
+    go (inl z) true q = z
+    go (inr z) false q = z
+    go (inl z) false q = absurd (true-or-false q (rw z))
+    go (inr z) true q = absurd (true-or-false (rw z) q)
+
+-- of a table that S gives, each value passes exactly if S does not meet its chain
+pub gives-passes : (s n d : ℕ) (S t : List ℕ) → Gives (chains s n d) d S t → (x : Name) → x among namesThrough s n d → passes s n t x ≡ not (meets S (coveredDays n x))
+unfolding chains tableOf
+gives-passes s n d S t h x m =
+    let e : map (setOutcome S) (map (coveredDays n) (namesThrough s n d)) ≡ t = h .gives in
+    let f : map (λ (y : Name). setOutcome S (coveredDays n y)) (namesThrough s n d) ≡ t = sym (map-map (setOutcome S) (coveredDays n) (namesThrough s n d)) ∙ e in
+    let l : length t ≡ length (namesThrough s n d) = ap length (sym f) ∙ length-map (namesThrough s n d) (λ (y : Name). setOutcome S (coveredDays n y)) in
+    passes-of s n t S x (coveredDays n x)
+    (map-agree (λ (y : Name). getD t (position s n y) 0) (λ (y : Name). setOutcome S (coveredDays n y)) m (sym (table-at s n d t l) ∙ sym f))
+
+-- and so it is of black, also where it is stored once
+pub gives-black : (s n d : ℕ) (S t : List ℕ) → Gives (chains s n d) d S t → 1 ≤ s → s ≤ 3 → (g : ℕ) → 1 ≤ g → g ≤ d → divides n g ≡ true → passes s n t (black g) ≡ not (meets S (lastDays g g))
+unfolding tableOf
+gives-black s n d S t h a b g p l e =
+    let r = black-position s n g d a b p l e in
+    let q : map (setOutcome S) (chains s n d) ≡ t = h .gives in
+    passes-of s n t S (black g) (lastDays g g)
+    (ap (λ (y : List ℕ). getD y (position s n (black g)) 0) (sym q) ∙ at (chains s n d) (position s n (black g)) (r .0) ∙ ap (setOutcome S) (r .1))
+  where
+    at : (cs : List (List ℕ)) (i : ℕ) → i < length cs → getD (map (setOutcome S) cs) i 0 ≡ setOutcome S (getD cs i [])
+    at [] i k = absurd (omega arith)
+    at (c ∷ cs) zero k = refl
+    at (c ∷ cs) (suc i) k = at cs i (omega arith)
+
+-- a table of bits is given if each value is as the set says
+pub passes-gives : (s n d : ℕ) (S t : List ℕ) → Bits t → length t ≡ length (chains s n d) → Within d S →
+    ((x : Name) → x among namesThrough s n d → passes s n t x ≡ not (meets S (coveredDays n x))) → Gives (chains s n d) d S t
+unfolding chains tableOf
+passes-gives s n d S t b e w f =
+    record {
+      within = w;
+      gives = map-map (setOutcome S) (coveredDays n) (namesThrough s n d) ∙
+          sym (table-at s n d t (e ∙ length-map (namesThrough s n d) (coveredDays n)) ∙
+          map-same (λ (x : Name). getD t (position s n x) 0) (λ (x : Name). setOutcome S (coveredDays n x)) (namesThrough s n d) (λ x m. of-passes s n t S x (coveredDays n x) b (f x m)));
+    }
+
+-- ---- which names there are
+
+pub black-named : (s n d g : ℕ) → 1 ≤ g → g ≤ d → divides n g ≡ true → black g among namesOfDay s n g → black g among namesThrough s n d
+black-named s n d g p l e m = namesThrough-in s n d (upFrom-mem 1 d g p (omega arith)) (black g) m
+
+pub tile-named : (n d g i : ℕ) → 1 ≤ g → g ≤ d → divides n g ≡ true → i ≤ lg n → tile i g among namesThrough 2 n d
+tile-named n d g i p l e h =
+    namesThrough-in 2 n d (upFrom-mem 1 d g p (omega arith)) (tile i g)
+    (rw e (Memᴰ·append-left (black g ∷ []) (Memᴰ·map (λ (j : ℕ). tile j g) (upFrom-mem 0 (suc (lg n)) i (omega arith) (omega arith)))))
+
+pub tree-named : (n d g l : ℕ) → 1 ≤ g → g ≤ d → divides (2 ^ l) g ≡ true → tree l g among namesThrough 3 n d
+tree-named n d g l p h e =
+    let b : 2 ^ l ≤ g = divisor-le (2 ^ l) g p e in
+    let w = below-pow l in
+    namesThrough-in 3 n d (upFrom-mem 1 d g p (omega arith)) (tree l g)
+    (Memᴰ·append-left (cond (divides n g && not (storedOnce g)) (black g ∷ []) [])
+    (Memᴰ·map (λ (j : ℕ). tree j g) (mem-keep (λ x. divides (2 ^ x) g) (upFrom 0 g) l (upFrom-mem 0 g l (omega arith) (omega arith)) e)))
+
+-- what holds of each name holds of all
+pub record Block (n d g : ℕ) : Type 0 where
+  pub some : 1 ≤ g
+  pub most : g ≤ d
+  pub whole : divides n g ≡ true
+
+pub each-1 : (P : Name → Type 0) (n d : ℕ) → ((g : ℕ) → Block n d g → P (black g)) → (x : Name) → x among namesThrough 1 n d → P x
+each-1 P n d f x m = at (namesThrough-at 1 n d x m)
+  where
+    at : (g : ℕ) × (g among days d) × (x among namesOfDay 1 n g) → P x
+    at r =
+        let b = upFrom-bounds 1 d (r .0) (r .1) in
+        let o = cond-mem (divides n (r .0)) (black (r .0) ∷ []) (r .2) in
+        rw (List·Memᴰ·eq-of-singleton (o .1)) (f (r .0) (record { some = b .0; most = omega arith; whole = o .0 }))
+
+pub each-2 : (P : Name → Type 0) (n d : ℕ) → ((g : ℕ) → Block n d g → P (black g)) → ((g i : ℕ) → Block n d g → i ≤ lg n → P (tile i g)) → (x : Name) → x among namesThrough 2 n d → P x
+each-2 P n d f h x m = at (namesThrough-at 2 n d x m)
+  where
+    part : (g : ℕ) → Block n d g → (i : ℕ) × (i among upFrom 0 (suc (lg n))) × (tile i g ≡ x) → P x
+    part g b r = let k = upFrom-bounds 0 (suc (lg n)) (r .0) (r .1) in rw (← (r .2)) (h g (r .0) b (omega arith))
+
+    go : (g : ℕ) → Block n d g → (x among map (λ (i : ℕ). tile i g) (upFrom 0 (suc (lg n)))) ⊎ (x among (black g ∷ [])) → P x
+    go g b (inl k) = part g b (Memᴰ·of-map (λ (i : ℕ). tile i g) (upFrom 0 (suc (lg n))) k)
+    go g b (inr k) = rw (List·Memᴰ·eq-of-singleton k) (f g b)
+
+    at : (g : ℕ) × (g among days d) × (x among namesOfDay 2 n g) → P x
+    at r =
+        let b = upFrom-bounds 1 d (r .0) (r .1) in
+        let o = cond-mem (divides n (r .0)) (map (λ (i : ℕ). tile i (r .0)) (upFrom 0 (suc (lg n))) ++ (black (r .0) ∷ [])) (r .2) in
+        go (r .0) (record { some = b .0; most = omega arith; whole = o .0 }) (List·Memᴰ·append-cases (map (λ (i : ℕ). tile i (r .0)) (upFrom 0 (suc (lg n)))) (o .1))
+
+pub each-3 : (P : Name → Type 0) (n d : ℕ) → ((g : ℕ) → Block n d g → P (black g)) → ((g l : ℕ) → Block (2 ^ l) d g → P (tree l g)) → (x : Name) → x among namesThrough 3 n d → P x
+each-3 P n d f h x m = at (namesThrough-at 3 n d x m)
+  where
+    part : (g : ℕ) → 1 ≤ g → g ≤ d → (l : ℕ) × (l among levels g) × (tree l g ≡ x) → P x
+    part g p q r = rw (← (r .2)) (h g (r .0) (record { some = p; most = q; whole = keep-mem (λ l. divides (2 ^ l) g) (upFrom 0 g) (r .0) (r .1) .1 }))
+
+    last : (g : ℕ) → 1 ≤ g → g ≤ d → (divides n g && not (storedOnce g) ≡ true) × (x among (black g ∷ [])) → P x
+    last g p q r =
+        rw (List·Memᴰ·eq-of-singleton (r .1)) (f g (record { some = p; most = q; whole = and-both (divides n g) (not (storedOnce g)) (r .0) .0 }))
+
+    go : (g : ℕ) → 1 ≤ g → g ≤ d → (x among map (λ (l : ℕ). tree l g) (levels g)) ⊎ (x among cond (divides n g && not (storedOnce g)) (black g ∷ []) []) → P x
+    go g p q (inl k) = part g p q (Memᴰ·of-map (λ (l : ℕ). tree l g) (levels g) k)
+    go g p q (inr k) = last g p q (cond-mem (divides n g && not (storedOnce g)) (black g ∷ []) k)
+
+    at : (g : ℕ) × (g among days d) × (x among namesOfDay 3 n g) → P x
+    at r =
+        let b = upFrom-bounds 1 d (r .0) (r .1) in
+        go (r .0) (b .0) (omega arith) (List·Memᴰ·append-cases (map (λ (l : ℕ). tree l (r .0)) (levels (r .0))) (r .2))

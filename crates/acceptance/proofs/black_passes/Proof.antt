@@ -1,0 +1,15 @@
+use Rattle.acceptance.proofs.Steps.{interval-black, black-inside, passes-by}
+use Rattle.acceptance.proofs.black_passes.Statement.{statement}
+use Rattle.acceptance.proofs.black_passes.Tie as tie
+
+black-at-requires : tie.Need-black-at-requires
+black-at-requires c κs = interval-black (c .before .pre)
+
+mark-requires : tie.Need-mark-requires
+mark-requires c κs = black-inside (c .before .before .pre) (c .black-at .ensures)
+
+returns : tie.Need-returns
+returns c = passes-by _ _ _ _ (c .before .black-at .ensures) (c .mark .ensures)
+
+pub black-passes-spec : {M : Type 1} → statement M
+black-passes-spec = tie.close (tie.spec black-at-requires mark-requires returns)

@@ -1,0 +1,20 @@
+use Rattle.acceptance.proofs.Steps.{bit-by}
+use Rattle.layouts.proofs.AllowedLaws.{allowed-n-is}
+use borrow.Author.Needs.{needs}
+use Rattle.acceptance.proofs.tile_bit.Statement.{statement}
+use Rattle.acceptance.proofs.tile_bit.Tie as tie
+
+lg-requires : tie.Need-lg-requires
+lg-requires c κs = allowed-n-is _ (c .before .pre .0 .has .n-ok) .some
+
+sub-tile-passes : tie.Need-sub-tile-passes
+sub-tile-passes c = search needs
+
+tile-passes-requires : tie.Need-tile-passes-requires
+tile-passes-requires c κs = search needs
+
+returns : tie.Need-returns
+returns c = bit-by _ _ _ _ (c .before .lg .ensures) (c .tile-passes .ensures)
+
+pub tile-bit-spec : {M : Type 1} → statement M
+tile-bit-spec = tie.close (tie.spec lg-requires sub-tile-passes tile-passes-requires returns)

@@ -1,0 +1,229 @@
+// The rules by which a table is accepted, each about a few values, which are looked up by name.
+ghost use mathlib.Core.Path.{_≡_};
+ghost use mathlib.Core.Bool.{not, _&&_, _||_};
+ghost use Prim.Native.Nat.{suc, _^_, _≤_, _<_};
+ghost use lib.Dec.{eqb};
+ghost use lib.ListN.{length, getD};
+ghost use Rattle.lists.specs.Lists.{upFrom, every};
+ghost use Rattle.layouts.specs.Layouts.{black, tile, tree};
+ghost use Rattle.layouts.specs.Layouts as layout;
+ghost use Rattle.acceptance.specs.Private as rule;
+ghost use Rattle.acceptance.specs.Private.{Table, Interval, Chain, passes, tileRule, blockRule, halvesRule, levelRule, levelsRule, blocksRule, tileBit};
+
+// ---- values by name
+
+fn mark(t: &[u8], p: u32) -> bool
+    requires { ⌜ p < length (now t) ⌝ }
+    ensures { λ r. ⌜ r ≡ eqb (getD (now (t .entry)) p 0) 1 ⌝ }
+{
+    t[p as usize] == 1
+}
+
+pub fn black_passes(scheme: u32, n: u32, g: u32, t: &[u8]) -> bool
+    requires { ⌜ Interval scheme n g (now t) ⌝ }
+    ensures { λ r. ⌜ r ≡ passes scheme n (now (t .entry)) (black g) ⌝ }
+{
+    mark(t, layouts::black_at(scheme, n, g))
+}
+
+pub fn tile_passes(n: u32, i: u32, g: u32, t: &[u8]) -> bool
+    requires { ⌜ Interval 2 n g (now t) × (i ≤ layout.lg n) ⌝ }
+    ensures { λ r. ⌜ r ≡ passes 2 n (now (t .entry)) (tile i g) ⌝ }
+{
+    mark(t, layouts::tile_at(n, i, g))
+}
+
+pub fn tree_passes(n: u32, l: u32, g: u32, t: &[u8]) -> bool
+    requires { ⌜ Chain n l g (now t) ⌝ }
+    ensures { λ r. ⌜ r ≡ passes 3 n (now (t .entry)) (tree l g) ⌝ }
+{
+    mark(t, layouts::tree_at(n, l, g))
+}
+
+// Whether the tile chain whose bit has weight 2^j passes.
+pub fn tile_bit(n: u32, j: u32, g: u32, t: &[u8]) -> bool
+    requires { ⌜ Interval 2 n g (now t) × (j ≤ layout.lg n) ⌝ }
+    ensures { λ r. ⌜ r ≡ tileBit n (now (t .entry)) g j ⌝ }
+{
+    tile_passes(n, layouts::lg(n) - j, g, t)
+}
+
+// ---- the rules of acceptance
+
+fn implies(a: bool, b: bool) -> bool
+    ensures { λ r. ⌜ r ≡ not a || b ⌝ }
+{
+    if a {
+        return b;
+    }
+    true
+}
+
+fn both(a: bool, b: bool) -> bool
+    ensures { λ r. ⌜ r ≡ a && b ⌝ }
+{
+    if a {
+        return b;
+    }
+    false
+}
+
+fn alike(a: bool, b: bool) -> bool
+    ensures { λ r. ⌜ r ≡ rule.alike a b ⌝ }
+{
+    if a {
+        return b;
+    }
+    !b
+}
+
+// Whether black of the interval before passes, or there is none.
+fn prior(scheme: u32, n: u32, g: u32, t: &[u8]) -> bool
+    requires { ⌜ Interval scheme n g (now t) ⌝ }
+    ensures { λ r. ⌜ r ≡ rule.prior scheme n (now (t .entry)) g ⌝ }
+{
+    if g <= n {
+        return true;
+    }
+    black_passes(scheme, n, g - n, t)
+}
+
+fn black_falls(n: u32, g: u32, t: &[u8]) -> bool
+    requires { ⌜ Interval 1 n g (now t) ⌝ }
+    ensures { λ r. ⌜ r ≡ blockRule 1 n (now (t .entry)) g ⌝ }
+{
+    let b = black_passes(1, n, g, t);
+    let p = prior(1, n, g, t);
+    implies(b, p)
+}
+
+fn tile_rule(n: u32, g: u32, i: u32, t: &[u8]) -> bool
+    requires { ⌜ Interval 2 n g (now t) × (i ≤ layout.lg n) ⌝ }
+    ensures { λ r. ⌜ r ≡ tileRule n (now (t .entry)) g i ⌝ }
+{
+    let a = tile_passes(n, 0, g, t);
+    let b = tile_passes(n, i, g, t);
+    implies(a, b)
+}
+
+fn tile_rules(n: u32, g: u32, t: &[u8]) -> bool
+    requires { ⌜ Interval 2 n g (now t) ⌝ }
+    ensures { λ r. ⌜ r ≡ every (tileRule n (now (t .entry)) g) (upFrom 1 (layout.lg n)) ⌝ }
+{
+    let k = layouts::lg(n);
+    let mut i = 0;
+    while i < k {
+        i += 1;
+        if !tile_rule(n, g, i, t) {
+            return false;
+        }
+    }
+    true
+}
+
+fn tile_block(n: u32, g: u32, t: &[u8]) -> bool
+    requires { ⌜ Interval 2 n g (now t) ⌝ }
+    ensures { λ r. ⌜ r ≡ blockRule 2 n (now (t .entry)) g ⌝ }
+{
+    let b = black_passes(2, n, g, t);
+    let p = prior(2, n, g, t);
+    let c = tile_passes(n, 0, g, t);
+    let w = both(p, c);
+    let a = alike(b, w);
+    let e = tile_rules(n, g, t);
+    both(a, e)
+}
+
+fn tree_block(n: u32, g: u32, t: &[u8]) -> bool
+    requires { ⌜ Interval 3 n g (now t) ⌝ }
+    ensures { λ r. ⌜ r ≡ blockRule 3 n (now (t .entry)) g ⌝ }
+{
+    let b = black_passes(3, n, g, t);
+    let p = prior(3, n, g, t);
+    let c = tree_passes(n, layouts::lg(n), g, t);
+    let w = both(p, c);
+    alike(b, w)
+}
+
+fn block_rule(scheme: u32, n: u32, g: u32, t: &[u8]) -> bool
+    requires { ⌜ Interval scheme n g (now t) ⌝ }
+    ensures { λ r. ⌜ r ≡ blockRule scheme n (now (t .entry)) g ⌝ }
+{
+    if scheme == 1 {
+        return black_falls(n, g, t);
+    }
+    if scheme == 2 {
+        return tile_block(n, g, t);
+    }
+    tree_block(n, g, t)
+}
+
+fn block_rules(scheme: u32, n: u32, d: u32, t: &[u8]) -> bool
+    requires { ⌜ Table scheme n d (now t) ⌝ }
+    ensures { λ r. ⌜ r ≡ blocksRule scheme n d (now (t .entry)) ⌝ }
+{
+    let m = d / n;
+    let mut k = 0;
+    while k < m {
+        k += 1;
+        if !block_rule(scheme, n, k * n, t) {
+            return false;
+        }
+    }
+    true
+}
+
+// Whether the tree's chain of level l + 1 that ends at g is its two halves.
+fn halves_rule(n: u32, l: u32, g: u32, t: &[u8]) -> bool
+    requires { ⌜ Chain n (suc l) g (now t) ⌝ }
+    ensures { λ r. ⌜ r ≡ halvesRule n (now (t .entry)) l g ⌝ }
+{
+    let a = tree_passes(n, l + 1, g, t);
+    let b = tree_passes(n, l, g - layouts::size(l), t);
+    let c = tree_passes(n, l, g, t);
+    let w = both(b, c);
+    alike(a, w)
+}
+
+fn level_rule(n: u32, d: u32, l: u32, t: &[u8]) -> bool
+    requires { ⌜ Table 3 n d (now t) × (l < 16) ⌝ }
+    ensures { λ r. ⌜ r ≡ levelRule n d (now (t .entry)) l ⌝ }
+{
+    let w = layouts::size(l + 1);
+    let m = d / w;
+    let mut k = 0;
+    while k < m {
+        k += 1;
+        if !halves_rule(n, l, k * w, t) {
+            return false;
+        }
+    }
+    true
+}
+
+fn level_rules(n: u32, d: u32, t: &[u8]) -> bool
+    requires { ⌜ Table 3 n d (now t) ⌝ }
+    ensures { λ r. ⌜ r ≡ levelsRule n d (now (t .entry)) ⌝ }
+{
+    let mut l = 0;
+    while l < 16 {
+        if !level_rule(n, d, l, t) {
+            return false;
+        }
+        l += 1;
+    }
+    true
+}
+
+pub fn accepts(scheme: u32, n: u32, d: u32, t: &[u8]) -> bool
+    requires { ⌜ Table scheme n d (now t) ⌝ }
+    ensures { λ r. ⌜ r ≡ rule.rules scheme n d (now (t .entry)) ⌝ }
+{
+    if !block_rules(scheme, n, d, t) {
+        return false;
+    }
+    if scheme != 3 {
+        return true;
+    }
+    level_rules(n, d, t)
+}

@@ -1,0 +1,35 @@
+-- What the walks list, and what is written of it. Definitions only; private contracts cite them, and the laws `tile-days`,
+-- `tree-days` and `listing-local` lead them back to 01's listing.
+use mathlib.Core.Path.{_≡_}
+use mathlib.Core.Bool.{Bool, true, false, cond}
+use mathlib.Core.List.{List, [], _∷_, _++_}
+use Prim.Native.Nat.{ℕ, zero, suc, _+_, _-_, _*_, _/_, _%_, _^_, _≤_}
+use lib.Dec.{eqb}
+use lib.ListN.{length, take, drop}
+use Rattle.layouts.specs.Layouts.{lg, tree}
+use Rattle.acceptance.specs.Private.{Interval, passes}
+
+-- a tile with l bits left, from a day on
+pub record Tile (n g l day : ℕ) (t : List ℕ) : Type 0 where
+  pub at : Interval 2 n g t
+  pub level : l ≤ lg n
+  pub fits : day + 2 ^ l ≤ suc g
+
+-- the days F were written from a place on, up to r; the list's rest stays
+pub record Wrote (at : ℕ) (F before : List ℕ) (r : ℕ) (after : List ℕ) : Type 0 where
+  pub count : r ≡ at + length F
+  pub list : after ≡ take at before ++ (F ++ drop r before)
+
+-- the walk of a failed tile from a day on, l bits left: where p l passes only the upper half is gone into
+unfoldable pub tileDays : (ℕ → Bool) → ℕ → ℕ → List ℕ
+tileDays p zero day = day ∷ []
+tileDays p (suc l) day = cond (p l) [] (tileDays p l day) ++ tileDays p l (day + 2 ^ l)
+
+-- the walk of the tree's chain of level l that ends at g: none if it passes; its day; its left half, then its right
+unfoldable pub treeDays : ℕ → List ℕ → ℕ → ℕ → List ℕ
+treeDays n t zero g = cond (passes 3 n t (tree 0 g)) [] (g ∷ [])
+treeDays n t (suc l) g = cond (passes 3 n t (tree (suc l) g)) [] (treeDays n t l (g - 2 ^ l) ++ treeDays n t l g)
+
+-- of the maximal chains that make up the days 1 to d, the one of level l, if there is one
+unfoldable pub topDays : ℕ → ℕ → List ℕ → ℕ → List ℕ
+topDays n d t l = cond (eqb (d / 2 ^ l % 2) 0) [] (treeDays n t l (d / 2 ^ l * 2 ^ l))

@@ -1,0 +1,248 @@
+-- Laws of lists of numbers: membership, tests, runs, the numbers that pass a test.
+use mathlib.Core.Path.{_≡_, refl, sym, ap, _∙_}
+use mathlib.Core.Logic.{_⊎_, inl, inr}
+use mathlib.Core.Bool.{Bool, true, false, not, _&&_, _||_, cond}
+use mathlib.Core.List.{List, [], _∷_, _++_, map, List·Memᴰ, List·Memᴰ·head, List·Memᴰ·tail, List·Memᴰ·cases-cons, Memᴰ·cast}
+use Prim.Native.Nat.{ℕ, zero, suc, _+_, _≤_, _<_}
+use native.Mathlib.Nat.{eq-or-lt-of-le}
+use native.Mathlib.Nat.{add-zero}
+use native.Mathlib.Omega.{arith}
+use lib.Dec.{eqb, leb, ltb}
+use lib.ListN.{length}
+use borrow.Author.Tests.{eqb-true, eq-eqb, leb-true, le-leb, ltb-true, lt-ltb}
+use Rattle.lists.specs.Lists.{_among_, has, same, every, upFrom, keep, Ascends}
+
+-- ---- Booleans
+
+-- a test, split, with what is known in each case
+pub split : (b : Bool) → (b ≡ true) ⊎ (b ≡ false)
+split true = inl refl
+split false = inr refl
+
+pub true-or-false : {b : Bool} → b ≡ true → b ≡ false → ⊥
+true-or-false {b} p q = let z : _≡_ {A = ℕ} 0 1 = cc in omega arith
+
+pub or-split : (a b : Bool) → a || b ≡ true → (a ≡ true) ⊎ (b ≡ true)
+or-split true b e = inl refl
+or-split false b e = inr e
+
+pub or-left : (a b : Bool) → a ≡ true → a || b ≡ true
+or-left a b e = rw e
+
+pub or-right : (a b : Bool) → b ≡ true → a || b ≡ true
+or-right true b e = refl
+or-right false b e = e
+
+-- two tests with the same answer
+pub bool-ext : (a b : Bool) → (a ≡ true → b ≡ true) → (b ≡ true → a ≡ true) → a ≡ b
+bool-ext true b f g = sym (f refl)
+bool-ext false true f g = g refl
+bool-ext false false f g = refl
+
+-- ---- the test of membership
+
+pub has-mem : (g : ℕ) (xs : List ℕ) → has g xs ≡ true → g among xs
+has-mem g [] e = absurd (true-or-false e refl)
+has-mem g (x ∷ xs) e = go (λ h. has-mem g xs h) (or-split (eqb g x) (has g xs) e)
+  where
+    go : (has g xs ≡ true → g among xs) → (eqb g x ≡ true) ⊎ (has g xs ≡ true) → g among (x ∷ xs)
+    go rec (inl h) = List·Memᴰ·head (eqb-true g x h)
+    go rec (inr h) = List·Memᴰ·tail (rec h)
+
+pub mem-has : {g : ℕ} {xs : List ℕ} → g among xs → has g xs ≡ true
+mem-has {g} (List·Memᴰ·head {x = x} {xs = xs} e) = or-left (eqb g x) (has g xs) (eq-eqb g x e)
+mem-has {g} (List·Memᴰ·tail {x = x} {xs = xs} m) = or-right (eqb g x) (has g xs) (mem-has m)
+
+-- ---- the test of equality of two lists
+
+pub and-both : (a b : Bool) → a && b ≡ true → (a ≡ true) × (b ≡ true)
+and-both true b e = (refl, e)
+and-both false b e = absurd (true-or-false e refl)
+
+pub same-eq : (xs ys : List ℕ) → same xs ys ≡ true → xs ≡ ys
+same-eq [] [] e = refl
+same-eq [] (y ∷ ys) e = absurd (true-or-false e refl)
+same-eq (x ∷ xs) [] e = absurd (true-or-false e refl)
+same-eq (x ∷ xs) (y ∷ ys) e =
+    let b : (eqb x y ≡ true) × (same xs ys ≡ true) = and-both (eqb x y) (same xs ys) e in
+    cc (eqb-true x y (b .0), same-eq xs ys (b .1))
+
+pub same-refl : (xs : List ℕ) → same xs xs ≡ true
+same-refl [] = refl
+same-refl (x ∷ xs) = rw (eq-eqb x x refl, same-refl xs)
+
+pub eq-same : (xs ys : List ℕ) → xs ≡ ys → same xs ys ≡ true
+eq-same xs ys e = rw e (same-refl ys)
+
+-- ---- n numbers from i on
+
+pub upFrom-mem : (i n g : ℕ) → i ≤ g → g < i + n → g among upFrom i n
+upFrom-mem i zero g a b = absurd (omega arith)
+upFrom-mem i (suc n) g a b = go (λ l. upFrom-mem (suc i) n g l (omega arith)) (eq-or-lt-of-le a)
+  where
+    go : (suc i ≤ g → g among upFrom (suc i) n) → (i ≡ g) ⊎ (i < g) → g among upFrom i (suc n)
+    go rec (inl e) = List·Memᴰ·head (sym e)
+    go rec (inr l) = List·Memᴰ·tail (rec l)
+
+pub upFrom-bounds : (i n g : ℕ) → g among upFrom i n → (i ≤ g) × (g < i + n)
+upFrom-bounds i zero g m = elim m [ ]
+upFrom-bounds i (suc n) g m = go (λ h. upFrom-bounds (suc i) n g h) (List·Memᴰ·cases-cons m)
+  where
+    go : (g among upFrom (suc i) n → (suc i ≤ g) × (g < suc i + n)) → (g ≡ i) ⊎ (g among upFrom (suc i) n) → (i ≤ g) × (g < i + suc n)
+    go rec (inl e) = omega arith
+    go rec (inr h) = let b = rec h in omega arith
+
+-- ---- the numbers that pass a test, in order
+
+pub keep-mem : (p : ℕ → Bool) (xs : List ℕ) (g : ℕ) → g among keep p xs → (g among xs) × (p g ≡ true)
+keep-mem p [] g m = elim m [ ]
+keep-mem p (x ∷ xs) g m = go (p x) refl (λ h. keep-mem p xs g h) m
+  where
+    old : (g among xs) × (p g ≡ true) → (g among (x ∷ xs)) × (p g ≡ true)
+    old r = (List·Memᴰ·tail (r .0), r .1)
+
+    first : p x ≡ true → (g among keep p xs → (g among xs) × (p g ≡ true)) → (g ≡ x) ⊎ (g among keep p xs) → (g among (x ∷ xs)) × (p g ≡ true)
+    first e rec (inl q) = (List·Memᴰ·head q, ap p q ∙ e)
+    first e rec (inr h) = old (rec h)
+
+    go : (b : Bool) → p x ≡ b → (g among keep p xs → (g among xs) × (p g ≡ true)) → g among cond b (x ∷ keep p xs) (keep p xs) → (g among (x ∷ xs)) × (p g ≡ true)
+    go true e rec h = first e rec (List·Memᴰ·cases-cons h)
+    go false e rec h = old (rec h)
+
+pub mem-keep : (p : ℕ → Bool) (xs : List ℕ) (g : ℕ) → g among xs → p g ≡ true → g among keep p xs
+mem-keep p [] g m e = elim m [ ]
+mem-keep p (x ∷ xs) g m e = go (p x) refl (λ h. mem-keep p xs g h e) (List·Memᴰ·cases-cons m)
+  where
+    go : (b : Bool) → p x ≡ b → (g among xs → g among keep p xs) → (g ≡ x) ⊎ (g among xs) → g among cond b (x ∷ keep p xs) (keep p xs)
+    go true q rec (inl h) = List·Memᴰ·head h
+    go true q rec (inr h) = List·Memᴰ·tail (rec h)
+    go false q rec (inl h) = absurd (true-or-false e (ap p h ∙ q))
+    go false q rec (inr h) = rec h
+
+pub keep-congr : (p q : ℕ → Bool) (xs : List ℕ) → ((g : ℕ) → g among xs → p g ≡ q g) → keep p xs ≡ keep q xs
+keep-congr p q [] f = refl
+keep-congr p q (x ∷ xs) f = rw (f x (List·Memᴰ·head refl), keep-congr p q xs (λ g m. f g (List·Memᴰ·tail m)))
+
+pub keep-append : (p : ℕ → Bool) (xs ys : List ℕ) → keep p (xs ++ ys) ≡ keep p xs ++ keep p ys
+keep-append p [] ys = refl
+keep-append p (x ∷ xs) ys = rw (keep-append p xs ys) (go (p x))
+  where
+    go : (b : Bool) → cond b (x ∷ (keep p xs ++ keep p ys)) (keep p xs ++ keep p ys) ≡ cond b (x ∷ keep p xs) (keep p xs) ++ keep p ys
+    go true = refl
+    go false = refl
+
+pub ascends-later : (xs : List ℕ) (i j : ℕ) → i ≤ j → Ascends j xs → Ascends i xs
+ascends-later [] i j l a = tt
+ascends-later (x ∷ xs) i j l a = (omega (arith, a .0), a .1)
+
+pub keep-ascends : (p : ℕ → Bool) (i n : ℕ) → Ascends i (keep p (upFrom i n))
+keep-ascends p i zero = tt
+keep-ascends p i (suc n) = go (p i) (keep-ascends p (suc i) n)
+  where
+    go : (b : Bool) → Ascends (suc i) (keep p (upFrom (suc i) n)) → Ascends i (cond b (i ∷ keep p (upFrom (suc i) n)) (keep p (upFrom (suc i) n)))
+    go true a = (omega arith, a)
+    go false a = ascends-later (keep p (upFrom (suc i) n)) i (suc i) (omega arith) a
+
+-- a list with no member is empty
+pub no-mem : {A : Type 0} (xs : List A) → ((x : A) → x among xs → ⊥) → xs ≡ []
+no-mem [] f = refl
+no-mem (x ∷ xs) f = absurd (f x (List·Memᴰ·head refl))
+
+pub mem-nil : {A : Type 0} {x : A} (xs : List A) → xs ≡ [] → x among xs → ⊥
+mem-nil [] e m = elim m [ ]
+mem-nil (y ∷ ys) e m = let z : _≡_ {A = ℕ} 0 1 = cc in omega arith
+
+pub map-same : {A B : Type 0} (f g : A → B) (xs : List A) → ((x : A) → x among xs → f x ≡ g x) → map f xs ≡ map g xs
+map-same f g [] h = refl
+map-same f g (x ∷ xs) h = cc (h x (List·Memᴰ·head refl), map-same f g xs (λ y m. h y (List·Memᴰ·tail m)))
+
+-- ---- membership by arithmetic: what a program tests in place of a walk
+
+pub and-of : (a b : Bool) → a ≡ true → b ≡ true → a && b ≡ true
+and-of a b p q = rw (p, q)
+
+pub has-upFrom : (i n x : ℕ) → has x (upFrom i n) ≡ leb i x && ltb x (i + n)
+has-upFrom i n x = bool-ext (has x (upFrom i n)) (leb i x && ltb x (i + n)) forth back
+  where
+    forth : has x (upFrom i n) ≡ true → leb i x && ltb x (i + n) ≡ true
+    forth e =
+        let b = upFrom-bounds i n x (has-mem x (upFrom i n) e) in
+        and-of (leb i x) (ltb x (i + n)) (le-leb i x (b .0)) (lt-ltb x (i + n) (b .1))
+
+    back : leb i x && ltb x (i + n) ≡ true → has x (upFrom i n) ≡ true
+    back e =
+        let b = and-both (leb i x) (ltb x (i + n)) e in
+        mem-has (upFrom-mem i n x (leb-true i x (b .0)) (ltb-true x (i + n) (b .1)))
+
+pub has-keep : (p : ℕ → Bool) (xs : List ℕ) (x : ℕ) → has x (keep p xs) ≡ has x xs && p x
+has-keep p xs x = bool-ext (has x (keep p xs)) (has x xs && p x) forth back
+  where
+    forth : has x (keep p xs) ≡ true → has x xs && p x ≡ true
+    forth e =
+        let b = keep-mem p xs x (has-mem x (keep p xs) e) in
+        and-of (has x xs) (p x) (mem-has (b .0)) (b .1)
+
+    back : has x xs && p x ≡ true → has x (keep p xs) ≡ true
+    back e =
+        let b = and-both (has x xs) (p x) e in
+        mem-has (mem-keep p xs x (has-mem x xs (b .0)) (b .1))
+
+-- ---- runs
+
+pub length-upFrom : (i n : ℕ) → length (upFrom i n) ≡ n
+length-upFrom i zero = refl
+length-upFrom i (suc n) = ap suc (length-upFrom (suc i) n)
+
+pub upFrom-snoc : (i k : ℕ) → upFrom i (suc k) ≡ upFrom i k ++ ((i + k) ∷ [])
+upFrom-snoc i zero = rw add-zero
+upFrom-snoc i (suc k) =
+    let e : suc i + k ≡ i + suc k = omega arith in
+    ap (λ (r : List ℕ). i ∷ r) (upFrom-snoc (suc i) k ∙ ap (λ (x : ℕ). upFrom (suc i) k ++ (x ∷ [])) e)
+
+pub upFrom-append : (i a b : ℕ) → upFrom i (a + b) ≡ upFrom i a ++ upFrom (i + a) b
+upFrom-append i zero b = let e : 0 + b ≡ b = omega arith in let f : i + 0 ≡ i = omega arith in rw (e, f)
+upFrom-append i (suc a) b =
+    let e : suc a + b ≡ suc (a + b) = omega arith in
+    let f : i + suc a ≡ suc i + a = omega arith in
+    rw (e, f) (ap (λ (r : List ℕ). i ∷ r) (upFrom-append (suc i) a b))
+
+-- ---- every
+
+pub every-at : (p : ℕ → Bool) {g : ℕ} {xs : List ℕ} → g among xs → every p xs ≡ true → p g ≡ true
+every-at p (List·Memᴰ·head {x = x} {xs = xs} e) h = ap p e ∙ and-both (p x) (every p xs) h .0
+every-at p (List·Memᴰ·tail {x = x} {xs = xs} m) h = every-at p m (and-both (p x) (every p xs) h .1)
+
+pub every-of : (p : ℕ → Bool) (xs : List ℕ) → ((g : ℕ) → g among xs → p g ≡ true) → every p xs ≡ true
+every-of p [] f = refl
+every-of p (x ∷ xs) f = and-of (p x) (every p xs) (f x (List·Memᴰ·head refl)) (every-of p xs (λ g m. f g (List·Memᴰ·tail m)))
+
+-- a test that fails somewhere
+pub every-not : (p : ℕ → Bool) (xs : List ℕ) → every p xs ≡ false → (g : ℕ) × (g among xs) × (p g ≡ false)
+every-not p [] e = absurd (true-or-false refl e)
+every-not p (x ∷ xs) e = go (λ h. every-not p xs h) (split (p x))
+  where
+    later : (g : ℕ) × (g among xs) × (p g ≡ false) → (g : ℕ) × (g among (x ∷ xs)) × (p g ≡ false)
+    later r = (r .0, List·Memᴰ·tail (r .1), r .2)
+
+    go : (every p xs ≡ false → (g : ℕ) × (g among xs) × (p g ≡ false)) → (p x ≡ true) ⊎ (p x ≡ false) → (g : ℕ) × (g among (x ∷ xs)) × (p g ≡ false)
+    go rec (inl h) = later (rec (rw h at e))
+    go rec (inr h) = (x, List·Memᴰ·head refl, h)
+
+pub every-fails : (p : ℕ → Bool) (xs : List ℕ) (g : ℕ) → g among xs → p g ≡ false → every p xs ≡ false
+every-fails p xs g m e = go (split (every p xs))
+  where
+    go : (every p xs ≡ true) ⊎ (every p xs ≡ false) → every p xs ≡ false
+    go (inl h) = absurd (true-or-false (every-at p m h) e)
+    go (inr h) = h
+
+pub every-append : (p : ℕ → Bool) (xs ys : List ℕ) → every p (xs ++ ys) ≡ every p xs && every p ys
+every-append p [] ys = refl
+every-append p (x ∷ xs) ys = rw (every-append p xs ys) (assoc (p x))
+  where
+    assoc : (b : Bool) → b && (every p xs && every p ys) ≡ (b && every p xs) && every p ys
+    assoc true = refl
+    assoc false = refl
+
+-- one more in a loop
+pub every-more : (p : ℕ → Bool) (i k : ℕ) → every p (upFrom i k) ≡ true → p (i + k) ≡ true → every p (upFrom i (suc k)) ≡ true
+every-more p i k e h = ap (every p) (upFrom-snoc i k) ∙ every-append p (upFrom i k) ((i + k) ∷ []) ∙ rw (e, h)

@@ -1,0 +1,1 @@
+// Lists of numbers. The definitions are in specs/, their laws in proofs/; there is no code.

@@ -1,0 +1,34 @@
+// What calls answer: done, or refused with 01's number. The tests of a call, its limits and what a refusal leaves are in specs/.
+ghost use mathlib.Core.Path.{_≡_};
+ghost use Rattle.refusals.specs.Refusals.{numberOf, answerOf};
+
+pub enum Answer {
+    Done,
+    Refused(u32),
+}
+
+// The days that a book holds at most.
+pub const BOOK_LIMIT: u32 = 65536;
+
+// The bytes that a day holds at most.
+pub const DAY_LIMIT: u32 = 16777216;
+
+// The refusal's number, 0 if there is none.
+pub fn number_of(a: Answer) -> u32
+    ensures { λ r. ⌜ r ≡ numberOf a ⌝ }
+{
+    match a {
+        Answer::Done => 0,
+        Answer::Refused(x) => x,
+    }
+}
+
+// The answer by the refusal's number, 0 for none.
+pub fn answer_of(x: u32) -> Answer
+    ensures { λ r. ⌜ r ≡ answerOf x ⌝ }
+{
+    if x == 0 {
+        return Answer::Done;
+    }
+    Answer::Refused(x)
+}

@@ -1,7 +1,0 @@
-pub mod BlackLaws
-pub mod Runs
-pub mod Lookup
-pub mod Given
-pub mod Local
-pub mod Accepted
-pub mod Steps
