@@ -13,6 +13,7 @@ use Rattle.layouts.specs.Layouts.{lg, tree}
 use Rattle.layouts.proofs.AllowedLaws.{allowed-n-is}
 use Rattle.lists.proofs.Laws.{upFrom-snoc, length-upFrom}
 use Rattle.acceptance.specs.Private.{Chain, passes}
+use Rattle.buffers.proofs.Writes.{wrote-none, wrote-one, wrote-length, wrote-join}
 use Rattle.listing.specs.Private.{Tile, tileDays, treeDays}
 use Rattle.buffers.specs.Buffers.{Wrote}
 use Rattle.acceptance.proofs.Steps.{chain-left, chain-right, chain-room}

@@ -10,7 +10,7 @@ use borrow.Fn.PlainCycle.{Measures, is, falls, and}
 use Rattle.listing.proofs.tile_walk.Reads as tile-walk
 use Rattle.listing.proofs.tile_walk.Kinds as tile-walk-kinds
 use Rattle.listing.proofs.+tile_walk.Lts-tile_walk as tile-walk-lts
-use Rattle.acceptance.proofs.size.Reads as size-reads
+use Rattle.layouts.proofs.size.Reads as size-reads
 use Rattle.acceptance.proofs.tile_bit.Reads as tile-bit-reads
 use Rattle.listing.proofs.+tile_walk.{statement}
 use Rattle.listing.proofs.+tile_walk.Tie.{close}
