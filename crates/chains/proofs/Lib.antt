@@ -1,3 +1,4 @@
+pub mod Links
 pub mod Slots
 pub mod Values
 pub mod Running

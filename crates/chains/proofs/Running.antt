@@ -20,7 +20,8 @@ use Rattle.layouts.specs.Layouts.{divides, allowedScheme, allowedN, lg, Name, b
 use Rattle.layouts.proofs.AllowedLaws.{allowed-scheme-is, allowed-n-is}
 use Rattle.layouts.proofs.Counts.{bit, div-step}
 use Rattle.layouts.proofs.Coverage.{cond-mem}
-use Rattle.sha256.specs.Sha256.{sha256, hashed, bytesOf}
+use Rattle.sha256.specs.Sha256.{sha256, hashed}
+use Rattle.sha256_words.specs.Words.{bytesOf}
 use Rattle.chains.specs.declared.Value.{Value}
 use Rattle.chains.specs.declared.DayStep.{DayStep}
 use Rattle.chains.specs.Book.{start}

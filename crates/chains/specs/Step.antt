@@ -7,7 +7,8 @@ use Prim.Native.Nat.{ℕ, zero, suc, _^_}
 use lib.Dec.{leb}
 use lib.ListN.{length, getD, take, replicate}
 use Rattle.layouts.specs.Layouts.{divides, lg, Name, black, tile, tree, offset, covers, storesBlackOfTree, namesOfDay}
-use Rattle.sha256.specs.Sha256.{hashed, bytesOf}
+use Rattle.sha256.specs.Sha256.{hashed}
+use Rattle.sha256_words.specs.Words.{bytesOf}
 use Rattle.chains.specs.declared.DayStep.{DayStep}
 use Rattle.chains.specs.declared.Value.{Value}
 

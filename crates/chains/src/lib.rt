@@ -1,5 +1,7 @@
 // The running hashes of a service: what one more day does to black, to the tile chains and to the tree's levels, and which of
 // them are values of that day. Closing a day and checking one use the same step.
+pub mod link;
+
 ghost use mathlib.Core.Path.{_≡_};
 ghost use mathlib.Core.Bool.{true};
 ghost use mathlib.Core.List.{_++_};
@@ -27,12 +29,12 @@ pub fn start(scheme: u32, n: u32) -> Value
     Value { words: [0u32; 8] }
 }
 
-fn link(v: Value, h: [u32; 8]) -> Value
+fn link_value(v: Value, h: [u32; 8]) -> Value
     ensures { λ r. ⌜ r ≡ linked v h ⌝ }
 {
     let w = v.words;
     Value {
-        words: hasher::link(w, h),
+        words: link::link_words(w, h),
     }
 }
 
@@ -83,7 +85,7 @@ fn slot_linked(scheme: u32, n: u32, g: u32, i: usize, v: Value, h: [u32; 8]) -> 
     ensures { λ r. ⌜ r ≡ linkSlot scheme n g h i v ⌝ }
 {
     if links_slot(scheme, n, g, i as u32) {
-        return link(v, h);
+        return link_value(v, h);
     }
     v
 }
@@ -154,7 +156,7 @@ pub fn step(
     requires { ⌜ (allowedScheme scheme ≡ true) × (allowedN n ≡ true) × (1 ≤ g) × (g ≤ 65536) ⌝ }
     ensures { λ r. ⌜ Stepped scheme n g start black slots h r ⌝ }
 {
-    let b = link(black, h);
+    let b = link_value(black, h);
     let linked = link_slots(scheme, n, g, slots, h);
     let k = layouts::values_of_day(scheme, n, g);
     let values = day_values(scheme, n, g, k, b, linked);

@@ -11,7 +11,7 @@ use lib.Seq.{take-all, ext-getD, getD-take, length-take-le, take-suc, set-at, dr
 use Rattle.lists.specs.Lists.{same}
 use Rattle.lists.proofs.Laws.{split, same-eq, eq-same, same-refl}
 use Rattle.chains.specs.declared.Value.{Value}
-use Rattle.sha256.specs.Sha256.{bytesOf}
+use Rattle.sha256_words.specs.Words.{bytesOf}
 use Rattle.checking.specs.Contract.{outcomeOf, compared}
 
 -- two lists that differ somewhere are not the same

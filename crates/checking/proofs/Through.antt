@@ -16,7 +16,8 @@ use Rattle.layouts.specs.Layouts.{allowedScheme, allowedN, Name, coveredDays, n
 use Rattle.layouts.proofs.Coverage.{chains-within, chains-front, chains-suc}
 use Rattle.ledger.specs.Ledger.{startOf, endOf, dayAt, daysOf, EndsHold}
 use Rattle.ledger.proofs.DayLaws.{days-none, days-snoc, days-length}
-use Rattle.sha256.specs.Sha256.{sha256, hashed, bytesOf}
+use Rattle.sha256.specs.Sha256.{sha256, hashed}
+use Rattle.sha256_words.specs.Words.{bytesOf}
 use Rattle.sha256.proofs.Laws.{sha256-length}
 use Rattle.chains.specs.declared.Value.{Value}
 use Rattle.chains.specs.declared.DayStep.{DayStep}

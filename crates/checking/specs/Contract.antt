@@ -11,7 +11,8 @@ use Rattle.lists.specs.Lists.{same}
 use Rattle.evidence.specs.Evidence.{days, dayOf, digest, checkOutcomes}
 use Rattle.layouts.specs.Layouts.{allowedScheme, allowedN, unless, orElse, layoutRefusal, chains}
 use Rattle.ledger.specs.Ledger.{daysOf, endsRefusal, EndsHold}
-use Rattle.sha256.specs.Sha256.{sha256, bytesOf}
+use Rattle.sha256.specs.Sha256.{sha256}
+use Rattle.sha256_words.specs.Words.{bytesOf}
 use Rattle.checking.specs.declared.Checked.{Checked}
 use Rattle.checking.specs.declared.Checked.the-variants.{Done, Refused}
 

@@ -9,7 +9,8 @@ ghost use lib.ListN.{length, take, drop};
 ghost use Rattle.evidence.specs.Evidence as lists;
 ghost use Rattle.chains.specs.Step.{Stepped};
 ghost use Rattle.layouts.specs.Layouts.{allowedScheme, allowedN, namesOfDay, chains};
-ghost use Rattle.sha256.specs.Sha256.{hashed, bytesOf};
+ghost use Rattle.sha256.specs.Sha256.{hashed};
+ghost use Rattle.sha256_words.specs.Words.{bytesOf};
 ghost use Rattle.checking.specs.Contract.{numberOf, checkedBy, checkRefusal, Ready, digestsOf, outcomesOf, workAfter, outcomesAfter, outcomeOf, compared};
 
 pub enum Checked {
@@ -72,7 +73,7 @@ fn outcome(book: &[u8], v: Value) -> u8
     ensures { λ r. ⌜ r ≡ outcomeOf v (now (book .entry)) ⌝ }
 {
     let w = v.words;
-    if same(book, sha256::bytes(w)) {
+    if same(book, sha256_words::bytes(w)) {
         return 1;
     }
     0
@@ -113,7 +114,7 @@ fn check_day(
     ensures { λ r. ⌜ now (outcomes .exit) ≡ compared (take (r .count) (r .values)) (now (book .entry)) ++ drop (r .count) (now (outcomes .entry)) ⌝ }
 {
     let h = hasher::digest(0, day);
-    buffers::put(work, 0, sha256::bytes(h));
+    buffers::put(work, 0, sha256_words::bytes(h));
     let step = chains::step(scheme, n, g, start, black, slots, h);
     let values = step.values;
     let k = step.count;

@@ -7,7 +7,8 @@ use native.Mathlib.Omega.{arith}
 use native.Mathlib.Numerals.{add-one}
 use lib.ListN.{length, take, drop, replicate, length-append, length-drop, length-replicate, replicate-append-replicate, take-append-drop}
 use lib.Seq.{take-all, take-at, length-take-le}
-use Rattle.sha256.specs.Sha256.{initial, words, compress, chunks, blocks, wide, padding, hashed}
+use Rattle.sha256_words.specs.Words.{initial, words}
+use Rattle.sha256.specs.Sha256.{compress, chunks, blocks, wide, padding, hashed}
 use Rattle.sha256.proofs.Laws.{blocks-short, blocks-one, blocks-cons}
 use Rattle.hasher.specs.declared.Hasher.{Hasher}
 use Rattle.hasher.specs.Hasher.{rest, filled, onward, begun, absorbed, finished}

@@ -6,7 +6,8 @@ use mathlib.Core.List.{List, [], _∷_, _++_, append-assoc, append-nil}
 use native.Mathlib.Omega.{arith}
 use lib.ListN.{length, take, drop, replicate, length-append, length-drop, drop-of-length-le, length-replicate}
 use lib.Seq.{drop-append-le, drop-drop, take-at, length-take-le}
-use Rattle.sha256.specs.Sha256.{initial, chunks, blocks, padding, hashed}
+use Rattle.sha256_words.specs.Words.{initial}
+use Rattle.sha256.specs.Sha256.{chunks, blocks, padding, hashed}
 use Rattle.sha256.proofs.Laws.{chunks-append, chunks-add, length-blocks}
 use Rattle.hasher.specs.declared.Hasher.{Hasher}
 use Rattle.hasher.specs.Hasher.{rest, filled, onward, begun, held, absorbed, finished, absorbedAll}

@@ -2,4 +2,3 @@
 pub mod Laws
 pub mod Filling
 pub mod Cases
-pub mod Links

@@ -4,7 +4,8 @@
 use Prim.Native.Nat.{ℕ, _+_, _-_, _*_, _/_, _%_}
 use mathlib.Core.List.{List, [], _∷_, _++_}
 use lib.ListN.{length, take, drop, replicate}
-use Rattle.sha256.specs.Sha256.{initial, blocks, padding}
+use Rattle.sha256_words.specs.Words.{initial}
+use Rattle.sha256.specs.Sha256.{blocks, padding}
 use Rattle.hasher.specs.declared.Hasher.{Hasher}
 
 -- the bytes after the last whole block

@@ -14,7 +14,6 @@ use lib.Pow.{pow-pos, pow-mono}
 use borrow.Author.Tests.{eqb-true, eq-eqb, leb-true, not-true, not-false}
 use Rattle.lists.specs.Lists.{_among_, has, upFrom}
 use Rattle.lists.proofs.Laws.{split, true-or-false, and-both, bool-ext, has-mem, upFrom-mem}
-use Rattle.refusals.specs.Refusals.{bookLimit}
 use Rattle.refusals.specs.Refusals.{bookLimit, Test, _orRefuse_, firstRefusal}
 use Rattle.refusals.proofs.TestLaws.{Pass, none-fails, pass-split, refused-before, refused-after}
 use Rattle.layouts.specs.Layouts.{divides, allowedScheme, allowedN, allowedF, allowedD, setupTests, layoutTests, setupRefusal, layoutRefusal, lgIn, lg, Name, black, covers, namesThrough, coveredDays, chainsOfDay, chains, position}

@@ -14,7 +14,8 @@ use Rattle.lists.proofs.Laws.{split}
 use Rattle.refusals.specs.Refusals.{bookLimit, dayLimit}
 use Rattle.layouts.specs.Layouts.{unless, orElse, setupRefusal, chainsOfDay}
 use Rattle.layouts.proofs.AllowedLaws.{unless-zero, or-else-zero, setup-is}
-use Rattle.sha256.specs.Sha256.{sha256, hashed, bytesOf}
+use Rattle.sha256.specs.Sha256.{sha256, hashed}
+use Rattle.sha256_words.specs.Words.{bytesOf}
 use Rattle.hasher.specs.declared.Hasher.{Hasher}
 use Rattle.hasher.specs.Hasher.{begun, absorbed, finished}
 use Rattle.hasher.proofs.Laws.{absorbed-begun, finished-begun}

@@ -8,7 +8,7 @@ use lib.ListN.{length, getD, set, take, drop, length-append, length-set}
 use lib.Seq.{take-suc, take-at, drop-at, drop-drop, drop-append-le, drop-append-add}
 use Rattle.chains.specs.declared.Value.{Value}
 use Rattle.chains.specs.Step.{valueBytes}
-use Rattle.sha256.specs.Sha256.{bytesOf}
+use Rattle.sha256_words.specs.Words.{bytesOf}
 
 value-bytes-append : (xs ys : List Value) → valueBytes (xs ++ ys) ≡ valueBytes xs ++ valueBytes ys
 unfolding valueBytes

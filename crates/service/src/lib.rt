@@ -214,7 +214,7 @@ fn write(part: &mut [u8], values: [Value; 17], k: u32)
     while i < k {
         let v = values[i as usize];
         let w = v.words;
-        buffers::put(part, need(i), sha256::bytes(w));
+        buffers::put(part, need(i), sha256_words::bytes(w));
         i += 1;
     }
 }

@@ -5,7 +5,8 @@ use mathlib.Core.Path.{_≡_, sym, ap, ap₂, _∙_}
 use native.Mathlib.Nat.{add-zero}
 use mathlib.Core.List.{List, [], _∷_}
 use lib.ListN.{getD, set}
-use Rattle.sha256.specs.Sha256.{add32, ch, maj, bsig0, bsig1, ssig0, ssig1, wordAt, words, t1, t2, turned, round, summed}
+use Rattle.sha256_words.specs.Words.{add32, ch, maj, bsig0, bsig1, ssig0, ssig1}
+use Rattle.sha256.specs.Sha256.{t1, t2, turned, round, summed}
 use Rattle.sha256.specs.Private.{mixed, slid, slides, roundsOn}
 
 pub round-of : (v : List ℕ) (k w : ℕ) {x y p q : ℕ}
@@ -29,28 +30,6 @@ pub summed-of : (h v : List ℕ) {a b c d e f g i : ℕ}
     → a ∷ b ∷ c ∷ d ∷ e ∷ f ∷ g ∷ i ∷ [] ≡ summed h v
 unfolding summed
 summed-of h v ha hb hc hd he hf hg hi = cc
-
-pub words-of : (b : List ℕ) {w0 w1 w2 w3 w4 w5 w6 w7 w8 w9 w10 w11 w12 w13 w14 w15 : ℕ}
-    → w0 ≡ wordAt b 0
-    → w1 ≡ wordAt b 4
-    → w2 ≡ wordAt b 8
-    → w3 ≡ wordAt b 12
-    → w4 ≡ wordAt b 16
-    → w5 ≡ wordAt b 20
-    → w6 ≡ wordAt b 24
-    → w7 ≡ wordAt b 28
-    → w8 ≡ wordAt b 32
-    → w9 ≡ wordAt b 36
-    → w10 ≡ wordAt b 40
-    → w11 ≡ wordAt b 44
-    → w12 ≡ wordAt b 48
-    → w13 ≡ wordAt b 52
-    → w14 ≡ wordAt b 56
-    → w15 ≡ wordAt b 60
-    → w0 ∷ w1 ∷ w2 ∷ w3 ∷ w4 ∷ w5 ∷ w6 ∷ w7 ∷ w8 ∷ w9 ∷ w10 ∷ w11 ∷ w12 ∷ w13 ∷ w14 ∷ w15 ∷ [] ≡ words b
-unfolding words
-words-of b e0 e1 e2 e3 e4 e5 e6 e7 e8 e9 e10 e11 e12 e13 e14 e15 =
-    rw (e0, e1, e2, e3, e4, e5, e6, e7, e8, e9, e10, e11, e12, e13, e14, e15)
 
 pub slid-of : (w : List ℕ) (i : ℕ) {x : ℕ}
     → x ≡ mixed (getD w ((i + 14) % 16) 0) (getD w ((i + 9) % 16) 0) (getD w ((i + 1) % 16) 0) (getD w i 0)

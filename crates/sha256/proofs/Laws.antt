@@ -1,13 +1,15 @@
 -- Laws of SHA-256: the successive blocks of a list, and the sizes of hash values and digests.
 -- Assumes nothing.
-use Prim.Native.Nat.{ℕ, zero, suc, _+_, _*_, _/_, _%_, _^_, _≤_, _<_}
+use Prim.Native.Nat.{ℕ, zero, suc, _+_, _*_, _/_, _≤_, _<_}
 use mathlib.Core.Path.{_≡_, refl, ap, ap₂, _∙_}
-use mathlib.Core.List.{List, [], _∷_, _++_}
+use mathlib.Core.List.{List, _++_}
 use native.Mathlib.Omega.{arith}
 use native.Mathlib.Nat.{suc-mul, zero-add, suc-add}
 use lib.ListN.{length, getD, take, drop, length-append, length-drop}
 use lib.Seq.{take-append-le, drop-append-le, drop-drop, take-all, take-at, drop-at}
-use Rattle.sha256.specs.Sha256.{initial, words, summed, compress, chunks, blocks, padding, hashed, bytesOf, sha256}
+use Rattle.sha256_words.specs.Words.{initial, words}
+use Rattle.sha256_words.proofs.Laws.{length-initial, length-bytes, bytes-below}
+use Rattle.sha256.specs.Sha256.{summed, compress, chunks, blocks, padding, hashed, sha256}
 
 -- ---- blocks
 
@@ -72,39 +74,16 @@ pub length-blocks : (h l : List ℕ) → length h ≡ 8 → length (blocks h l) 
 unfolding blocks
 length-blocks h l e = length-chunks (length l / 64) h l e
 
-pub length-initial : length initial ≡ 8
-unfolding initial
-length-initial = refl
-
 pub length-hashed : (m : List ℕ) → length (hashed m) ≡ 8
 unfolding hashed
 length-hashed m = length-blocks initial (m ++ padding (length m)) length-initial
-
-pub length-bytes : (l : List ℕ) → length (bytesOf l) ≡ length l * 4
-unfolding bytesOf
-length-bytes [] = refl
-length-bytes (x ∷ xs) = omega (arith, length-bytes xs)
 
 -- a digest is 32 bytes
 pub sha256-length : (m : List ℕ) → length (sha256 m) ≡ 32
 unfolding sha256
 sha256-length m = omega (arith, length-bytes (hashed m), length-hashed m)
 
-pub bytes-below : (l : List ℕ) (i : ℕ) → getD (bytesOf l) i 0 < 256
-unfolding bytesOf
-bytes-below [] i = omega arith
-bytes-below (x ∷ xs) zero = omega arith
-bytes-below (x ∷ xs) (suc zero) = omega arith
-bytes-below (x ∷ xs) (suc (suc zero)) = omega arith
-bytes-below (x ∷ xs) (suc (suc (suc zero))) = omega arith
-bytes-below (x ∷ xs) (suc (suc (suc (suc i)))) = bytes-below xs i
-
 -- each element of a digest is a byte
 pub sha256-below : (m : List ℕ) (i : ℕ) → getD (sha256 m) i 0 < 256
 unfolding sha256
 sha256-below m i = bytes-below (hashed m) i
-
-pub bytes-append : (xs ys : List ℕ) → bytesOf (xs ++ ys) ≡ bytesOf xs ++ bytesOf ys
-unfolding bytesOf
-bytes-append [] ys = refl
-bytes-append (x ∷ xs) ys = ap (λ (l : List ℕ). x / 2 ^ 24 % 256 ∷ x / 2 ^ 16 % 256 ∷ x / 2 ^ 8 % 256 ∷ x % 256 ∷ l) (bytes-append xs ys)

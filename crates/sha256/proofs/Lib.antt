@@ -4,4 +4,3 @@ pub mod Examples
 pub mod Compose
 pub mod Steps
 pub mod Loops
-pub mod Choose

@@ -9,7 +9,8 @@ use mathlib.Core.Logic.{⊎-elim}
 use borrow.Author.Tests.{lt-ltb, le-ltb}
 use lib.ListN.{length, getD, take, drop, length-set, length-append, length-drop}
 use lib.Seq.{take-suc, getD-take, getD-drop, take-all, take-append-le, getD-at, getD-set-same, getD-set-other, ext-getD, length-take-le}
-use Rattle.sha256.specs.Sha256.{kTable, later, scheduled, grown, schedule, round, rounds, compress, summed}
+use Rattle.sha256_words.specs.Words.{kTable}
+use Rattle.sha256.specs.Sha256.{later, scheduled, grown, schedule, round, rounds, compress, summed}
 use Rattle.sha256.specs.Private.{window, mixed, slid, slides, roundsOn}
 
 -- ---- the schedule's words

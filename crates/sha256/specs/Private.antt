@@ -3,7 +3,8 @@
 use Prim.Native.Nat.{ℕ, zero, suc, _+_, _%_}
 use mathlib.Core.List.{List}
 use lib.ListN.{getD, take, drop, set}
-use Rattle.sha256.specs.Sha256.{add32, ssig0, ssig1, round}
+use Rattle.sha256_words.specs.Words.{add32, ssig0, ssig1}
+use Rattle.sha256.specs.Sha256.{round}
 
 -- the sixteen words of w from word t on
 abbrev pub window : List ℕ → ℕ → List ℕ

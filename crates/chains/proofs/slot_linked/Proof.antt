@@ -9,15 +9,15 @@ cast-links-slot c = search needs
 links-slot-requires : tie.Need-links-slot-requires
 links-slot-requires c κs = search needs
 
-link-requires : tie.Need-link-requires
-link-requires c κs = search needs
+link-value-requires : tie.Need-link-value-requires
+link-value-requires c κs = search needs
 
 returns : tie.Need-returns
-returns c = rw (sym (c .before .before .links-slot .ensures) ∙ c .before .if1 .taken) (c .link .ensures)
+returns c = rw (sym (c .before .before .links-slot .ensures) ∙ c .before .if1 .taken) (c .link-value .ensures)
 
 returns-2 : tie.Need-returns-2
 returns-2 c = rw (sym (c .before .links-slot .ensures) ∙ c .if1 .left)
 
 pub slot-linked-spec : {M : Type 1} → statement M
 slot-linked-spec =
-    tie.close (tie.spec cast-links-slot links-slot-requires link-requires returns returns-2)
+    tie.close (tie.spec cast-links-slot links-slot-requires link-value-requires returns returns-2)

@@ -4,8 +4,8 @@ use borrow.Author.Needs.{needs}
 use Rattle.chains.proofs.step.Statement.{statement}
 use Rattle.chains.proofs.step.Tie as tie
 
-link-requires : tie.Need-link-requires
-link-requires c κs = search needs
+link-value-requires : tie.Need-link-value-requires
+link-value-requires c κs = search needs
 
 link-slots-requires : tie.Need-link-slots-requires
 link-slots-requires c κs = search needs
@@ -21,13 +21,13 @@ restart-slots-requires c κs = search needs
 
 returns : tie.Need-returns
 returns c = let a = c .before .before .before .before .before .args in
-    stepped (a .scheme) (a .n) (a .g) (a .start) (a .black) (a .slots) (a .h) (c .before .before .before .before .link .ensures) (c .before .before .before .link-slots .ensures) (c .before .before .values-of-day .ensures) (c .before .day-values .ensures) (c .restart-slots .ensures)
+    stepped (a .scheme) (a .n) (a .g) (a .start) (a .black) (a .slots) (a .h) (c .before .before .before .before .link-value .ensures) (c .before .before .before .link-slots .ensures) (c .before .before .values-of-day .ensures) (c .before .day-values .ensures) (c .restart-slots .ensures)
 
 pub step-spec : {M : Type 1} → statement M
 step-spec =
     tie.close
     (tie.spec
-    link-requires
+    link-value-requires
     link-slots-requires
     values-of-day-requires
     day-values-requires

@@ -1,4 +1,4 @@
--- `sha256::first` meets its contract.
+-- `sha256::t1` meets its contract.
 use Rattle.sha256.proofs.Compose.{t1-of}
 use borrow.Author.Needs.{needs}
 use Rattle.sha256.proofs.t1.Statement.{statement}

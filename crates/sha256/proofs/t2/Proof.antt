@@ -1,4 +1,4 @@
--- `sha256::second` meets its contract.
+-- `sha256::t2` meets its contract.
 use Rattle.sha256.proofs.Compose.{t2-of}
 use borrow.Author.Needs.{needs}
 use Rattle.sha256.proofs.t2.Statement.{statement}

@@ -1,0 +1,18 @@
+-- `chains::link::across` meets its contract.
+use Rattle.chains.proofs.Links.{across-of}
+use native.Mathlib.Omega.{arith}
+use borrow.Author.Needs.{needs}
+use Rattle.chains.proofs.link.across.Statement.{statement}
+use Rattle.chains.proofs.link.across.Tie as tie
+
+mul-result : tie.Need-mul-result
+mul-result c = search needs
+
+add-result : tie.Need-add-result
+add-result c = search needs
+
+returns : tie.Need-returns
+returns c = across-of (c .args .a) (c .args .b) (omega arith)
+
+pub across-spec : {M : Type 1} → statement M
+across-spec = tie.close (tie.spec mul-result add-result returns)

@@ -1,0 +1,12 @@
+-- `sha256_words::initial` meets its contract.
+use Rattle.sha256_words.specs.Words.{initial}
+use borrow.Author.Needs.{needs}
+use Rattle.sha256_words.proofs.initial.Statement.{statement}
+use Rattle.sha256_words.proofs.initial.Tie as tie
+
+returns : tie.Need-returns
+unfolding initial
+returns c = search needs
+
+pub initial-spec : {M : Type 1} → statement M
+initial-spec = tie.close (tie.spec returns)

@@ -1,0 +1,12 @@
+-- `sha256_words::table` meets its contract.
+use Rattle.sha256_words.specs.Words.{kTable}
+use borrow.Author.Needs.{needs}
+use Rattle.sha256_words.proofs.table.Statement.{statement}
+use Rattle.sha256_words.proofs.table.Tie as tie
+
+returns : tie.Need-returns
+unfolding kTable
+returns c = search needs
+
+pub table-spec : {M : Type 1} → statement M
+table-spec = tie.close (tie.spec returns)
