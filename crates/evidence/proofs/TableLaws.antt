@@ -8,6 +8,7 @@ use native.Mathlib.Omega.{arith}
 use lib.Dec.{eqb}
 use borrow.Author.Tests.{eqb-true, eqb-false, eq-eqb, not-true}
 use Rattle.lists.specs.Lists.{_among_, has, same, upFrom, keep, Ascends}
+use Rattle.evidence.specs.Statements.{AcceptedIfGiven, ListedIfGiven, AcceptedLists}
 use Rattle.evidence.specs.Evidence.{days, Within, meets, setOutcome, tableOf, Gives, cleared, listing, accepted}
 use Rattle.lists.proofs.Laws.{split, true-or-false, or-split, or-left, or-right, bool-ext, has-mem, mem-has, same-eq, eq-same, upFrom-mem, upFrom-bounds, keep-mem, mem-keep, keep-congr, keep-ascends, no-mem, mem-nil, map-same}
 
@@ -158,3 +159,11 @@ module _ (chains : List (List ℕ)) (d : ℕ) where
 
       refute : S ≡ [] → (g : ℕ) → g among listing chains d (tableOf chains S) → (c : List ℕ) × (c among chains) × (g among c) → ⊥
       refute e g m r = true-or-false (clears S g (r .1) (r .2) (rw e (empty-meets (r .0)))) (listed-not-cleared (tableOf chains S) g m)
+
+-- ---- as stated
+
+pub accepted-if-given : AcceptedIfGiven
+accepted-if-given = given-iff-accepted
+
+pub accepted-lists : AcceptedLists
+accepted-lists chains d table e = record { ascending = listing-ascends chains d table; listed = listed-iff chains d table e }

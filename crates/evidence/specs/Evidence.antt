@@ -47,10 +47,20 @@ module _ (H : List ℕ → List ℕ) where
   abbrev pub NoCollision : List (List ℕ) → List (List ℕ) → Type 0
   NoCollision xs ys = (x y : List ℕ) → x among xs → y among ys → H x ≡ H y → x ≡ y
 
+  -- two different inputs, one of xs and one of ys, that share a hash value
+  pub record Collision (xs ys : List (List ℕ)) : Type 0 where
+    pub one : List ℕ
+    pub other : List ℕ
+    pub one-hashed : one among xs
+    pub other-hashed : other among ys
+    pub different : one ≡ other → ⊥
+    pub same-hash : H one ≡ H other
+
   -- 01's outcomes of a check: 1 for each chain whose value stands in the book at its place, 32 bytes a value, else 0
   abbrev pub checkOutcomes : List ℕ → List (List ℕ) → List (List ℕ) → List ℕ → List ℕ
   checkOutcomes start ledger [] book = []
-  checkOutcomes start ledger (c ∷ cs) book = cond (same (take 32 book) (value start ledger c)) 1 0 ∷ checkOutcomes start ledger cs (drop 32 book)
+  checkOutcomes start ledger (c ∷ cs) book =
+      cond (same (take 32 book) (value start ledger c)) 1 0 ∷ checkOutcomes start ledger cs (drop 32 book)
 
 -- ---- reading
 

@@ -10,6 +10,7 @@ use Rattle.sha256_words.specs.Words.{initial}
 use Rattle.sha256.specs.Sha256.{chunks, blocks, padding, hashed}
 use Rattle.sha256.proofs.Laws.{chunks-append, chunks-add, length-blocks}
 use Rattle.hasher.specs.declared.Hasher.{Hasher}
+use Rattle.hasher.specs.Statements.{AnyCutting}
 use Rattle.hasher.specs.Hasher.{rest, filled, onward, begun, held, absorbed, finished, absorbedAll}
 use Rattle.lists.specs.Lists.{joined}
 
@@ -116,3 +117,8 @@ length-absorbed-block st n y = length-onward-block (st .words) (held st n ++ y)
 
 pub length-held : (st : Hasher) (n : ℕ) → length (st .block) ≡ 64 → length (held st n) ≡ n % 64
 length-held st n e = length-take-le (n % 64) (st .block) (omega arith)
+
+-- ---- as stated
+
+pub any-cutting : AnyCutting
+any-cutting = pieces-hashed

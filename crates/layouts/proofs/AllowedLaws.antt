@@ -4,7 +4,7 @@ use mathlib.Core.Logic.{_⊎_, inl, inr}
 use mathlib.Core.Bool.{Bool, true, false, not, _&&_, _||_, cond}
 use mathlib.Core.List.{List, [], _∷_, List·Memᴰ, List·Memᴰ·head, List·Memᴰ·tail}
 use Prim.Native.Nat.{ℕ, zero, suc, pred, _+_, _-_, _*_, _/_, _%_, _^_, _≤_, _<_}
-use native.Mathlib.Nat.{mod-lt, div-add-mod', mul-assoc, mul-comm, div-le-self, le-trans, mul-le-mul, le-add-right}
+use native.Mathlib.Nat.{le-div-iff-mul-le, mod-lt, div-add-mod', mul-assoc, mul-comm, div-le-self, le-trans, mul-le-mul, le-add-right}
 use native.Mathlib.Omega.{arith}
 use lib.Arith.{digits-mod}
 use lib.Count.{ones, leadingZeros, leading-top, leading-of-zero}
@@ -16,9 +16,10 @@ use Rattle.lists.specs.Lists.{_among_, has, upFrom}
 use Rattle.lists.proofs.Laws.{split, true-or-false, and-both, bool-ext, has-mem, upFrom-mem}
 use Rattle.refusals.specs.Refusals.{bookLimit, Test, _orRefuse_, firstRefusal}
 use Rattle.refusals.proofs.TestLaws.{Pass, none-fails, pass-split, refused-before, refused-after}
+use Rattle.layouts.specs.Statements.{ValuesCounted, BookFront}
 use Rattle.layouts.specs.Layouts.{divides, allowedScheme, allowedN, allowedF, allowedD, setupTests, layoutTests, setupRefusal, layoutRefusal, lgIn, lg, Name, black, covers, namesThrough, coveredDays, chainsOfDay, chains, position}
-use Rattle.layouts.proofs.Coverage.{chains-suc}
-use Rattle.layouts.proofs.Counts.{lg-unique, ones-small, digits, digits-small, through, count-through}
+use Rattle.layouts.proofs.Coverage.{divisor-le, chains-suc, chains-front}
+use Rattle.layouts.proofs.Counts.{lg-unique, ones-small, digits, digits-small, through, count-through, values-length}
 
 -- ---- a test computed over a whole list
 
@@ -338,3 +339,20 @@ lg-fits n k e h = let p = allowed-n-is n e in omega (arith, p .small)
 
 pub place-fits : (s n g i : ℕ) {p : ℕ} → allowedScheme s ≡ true → allowedN n ≡ true → g ≤ 65536 → i ≤ 16 → p ≡ length (chains s n (g - 1)) → p + i < 2 ^ 32
 place-fits s n g i a e l h q = let k = chains-few s n (g - 1) a e (omega arith) in omega arith
+
+-- ---- as stated
+
+pub values-counted : ValuesCounted
+values-counted s n f d e =
+    let l = layout-is s n f d e in
+    let r = allowed-scheme-is s (l .0 .scheme-ok) in
+    let p = allowed-n-is n (l .0 .n-ok) in
+    let v = allowed-d-is n f d (l .1) in
+    let k = divisor-le n d (v .some) (divides-factor n f d (p .some) (v .whole)) in
+    let q : 1 ≤ d / n = le-div-iff-mul-le (p .some) .1 (omega arith) in
+    let w : 2 ^ lg n ≡ n = sym (p .power) in
+    let c = values-length s (lg n) d (r .0) (r .1) (rw w q) in
+    rw w at c
+
+pub book-front : BookFront
+book-front = chains-front

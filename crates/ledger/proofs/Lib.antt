@@ -1,3 +1,4 @@
 pub mod EndLaws
 pub mod DayLaws
 pub mod Examples
+pub mod JoinLaws

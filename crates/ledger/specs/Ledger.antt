@@ -2,7 +2,7 @@
 -- Day 1 has the index 0: the day of index i is day i + 1.
 use mathlib.Core.Bool.{Bool, true, _&&_, cond}
 use mathlib.Core.List.{List, [], _∷_, _++_, map}
-use Prim.Native.Nat.{ℕ, zero, suc, _-_, _≤_, _<_}
+use Prim.Native.Nat.{ℕ, zero, suc, _+_, _-_, _≤_, _<_}
 use lib.Dec.{leb, ltb}
 use lib.ListN.{length, getD, take, drop}
 use Rattle.refusals.specs.Refusals.{dayLimit, Test, _orRefuse_, firstRefusal}
@@ -28,6 +28,11 @@ upTo (suc i) = upTo i ++ (i ∷ [])
 -- 01's days of a ledger: the bytes of the days 1 to d
 unfoldable pub daysOf : List ℕ → List ℕ → ℕ → List (List ℕ)
 daysOf ledger ends d = map (dayAt ledger ends) (upTo d)
+
+-- days end to end: the ends of days whose bytes follow one another from a place on
+abbrev pub endsFrom : ℕ → List (List ℕ) → List ℕ
+endsFrom a [] = []
+endsFrom a (day ∷ days) = (a + length day) ∷ endsFrom (a + length day) days
 
 -- an end is not below the one before, not beyond the ledger's size, and does not make a day over its limit
 abbrev pub goodEnd : ℕ → ℕ → ℕ → Bool

@@ -2,7 +2,7 @@
 use mathlib.Core.Path.{_≡_, refl, sym, ap, _∙_}
 use mathlib.Core.Logic.{_⊎_, inl, inr}
 use mathlib.Core.Bool.{Bool, true, false, not, _&&_, _||_, cond}
-use mathlib.Core.List.{List, [], _∷_, _++_, map, List·Memᴰ, List·Memᴰ·head, List·Memᴰ·tail, List·Memᴰ·cases-cons, Memᴰ·cast}
+use mathlib.Core.List.{List, [], _∷_, _++_, map, append-assoc, append-nil, List·Memᴰ, List·Memᴰ·head, List·Memᴰ·tail, List·Memᴰ·cases-cons, Memᴰ·cast}
 use Prim.Native.Nat.{ℕ, zero, suc, _+_, _≤_, _<_}
 use native.Mathlib.Nat.{eq-or-lt-of-le}
 use native.Mathlib.Nat.{add-zero}
@@ -10,7 +10,7 @@ use native.Mathlib.Omega.{arith}
 use lib.Dec.{eqb, leb, ltb}
 use lib.ListN.{length}
 use borrow.Author.Tests.{eqb-true, eq-eqb, leb-true, le-leb, ltb-true, lt-ltb}
-use Rattle.lists.specs.Lists.{_among_, has, same, every, upFrom, keep, Ascends}
+use Rattle.lists.specs.Lists.{_among_, has, same, every, upFrom, keep, Ascends, joined}
 
 -- ---- Booleans
 
@@ -246,3 +246,18 @@ every-append p (x ∷ xs) ys = rw (every-append p xs ys) (assoc (p x))
 -- one more in a loop
 pub every-more : (p : ℕ → Bool) (i k : ℕ) → every p (upFrom i k) ≡ true → p (i + k) ≡ true → every p (upFrom i (suc k)) ≡ true
 every-more p i k e h = ap (every p) (upFrom-snoc i k) ∙ every-append p (upFrom i k) ((i + k) ∷ []) ∙ rw (e, h)
+
+-- ---- lists end to end
+
+pub joined-append : (xs ys : List (List ℕ)) → joined (xs ++ ys) ≡ joined xs ++ joined ys
+unfolding joined
+joined-append [] ys = refl
+joined-append (x ∷ xs) ys = ap (λ (r : List ℕ). x ++ r) (joined-append xs ys) ∙ sym (append-assoc x (joined xs) (joined ys))
+
+pub joined-one : (x : List ℕ) (xs : List (List ℕ)) → joined (x ∷ xs) ≡ x ++ joined xs
+unfolding joined
+joined-one x xs = refl
+
+pub joined-single : (x : List ℕ) → joined (x ∷ []) ≡ x
+unfolding joined
+joined-single x = append-nil x
