@@ -1,5 +1,5 @@
--- Acceptance and listing by local rules: the laws `accepted-rules` and `listing-local` say that they are 01's. Definitions
--- only. A value is looked up by name.
+-- Acceptance and listing by local rules: the laws `accepted-rules` and `listing-local` say that they are 01's.
+-- Definitions only. A value is looked up by name.
 use mathlib.Core.Path.{_≡_}
 use mathlib.Core.Logic.{_⊎_}
 use mathlib.Core.Bool.{Bool, true, false, not, _&&_, _||_}
@@ -59,11 +59,14 @@ prior scheme n t g = leb g n || passes scheme n t (black (g - n))
 unfoldable pub tileRule : ℕ → List ℕ → ℕ → ℕ → Bool
 tileRule n t g i = not (passes 2 n t (tile 0 g)) || passes 2 n t (tile i g)
 
--- the interval that ends at g: no black passes after one that fails; black is what stood before it and the interval's own
+-- the interval that ends at g: no black passes after one that fails; black is what stood before it and the interval's
+-- own
 unfoldable pub blockRule : ℕ → ℕ → List ℕ → ℕ → Bool
 blockRule zero n t g = false
 blockRule (suc zero) n t g = not (passes 1 n t (black g)) || prior 1 n t g
-blockRule (suc (suc zero)) n t g = alike (passes 2 n t (black g)) (prior 2 n t g && passes 2 n t (tile 0 g)) && every (tileRule n t g) (upFrom 1 (lg n))
+blockRule (suc (suc zero)) n t g =
+    alike (passes 2 n t (black g)) (prior 2 n t g && passes 2 n t (tile 0 g))
+    && every (tileRule n t g) (upFrom 1 (lg n))
 blockRule (suc (suc (suc zero))) n t g = alike (passes 3 n t (black g)) (prior 3 n t g && passes 3 n t (tree (lg n) g))
 blockRule (suc (suc (suc (suc s)))) n t g = false
 
@@ -72,7 +75,8 @@ blockAt scheme n t k = blockRule scheme n t (k * n)
 
 -- the tree's chain of level l + 1 that ends at g is its two halves
 unfoldable pub halvesRule : ℕ → List ℕ → ℕ → ℕ → Bool
-halvesRule n t l g = alike (passes 3 n t (tree (suc l) g)) (passes 3 n t (tree l (g - 2 ^ l)) && passes 3 n t (tree l g))
+halvesRule n t l g =
+    alike (passes 3 n t (tree (suc l) g)) (passes 3 n t (tree l (g - 2 ^ l)) && passes 3 n t (tree l g))
 
 unfoldable pub halvesAt : ℕ → List ℕ → ℕ → ℕ → Bool
 halvesAt n t l k = halvesRule n t l (k * 2 ^ suc l)
@@ -110,6 +114,7 @@ bitsRule p l x = every (bitRule p x) (upFrom 0 l)
 unfoldable pub isListed : ℕ → ℕ → List ℕ → ℕ → Bool
 isListed zero n t day = false
 isListed (suc zero) n t day = not (passes 1 n t (black (endOf n day)))
-isListed (suc (suc zero)) n t day = not (passes 2 n t (tile 0 (endOf n day))) && bitsRule (tileBit n t (endOf n day)) (lg n) (pred day)
+isListed (suc (suc zero)) n t day =
+    not (passes 2 n t (tile 0 (endOf n day))) && bitsRule (tileBit n t (endOf n day)) (lg n) (pred day)
 isListed (suc (suc (suc zero))) n t day = not (passes 3 n t (tree 0 day))
 isListed (suc (suc (suc (suc s)))) n t day = false

@@ -1,54 +1,14 @@
 // The rules by which a table is accepted, each about a few values, which are looked up by name.
+pub mod values;
+
 ghost use mathlib.Core.Path.{_≡_};
 ghost use mathlib.Core.Bool.{not, _&&_, _||_};
-ghost use Prim.Native.Nat.{suc, _^_, _≤_, _<_};
-ghost use lib.Dec.{eqb};
-ghost use lib.ListN.{length, getD};
+ghost use Prim.Native.Nat.{suc, _≤_, _<_};
 ghost use Rattle.lists.specs.Lists.{upFrom, every};
-ghost use Rattle.layouts.specs.Layouts.{black, tile, tree};
 ghost use Rattle.layouts.specs.Layouts as layout;
 ghost use Rattle.acceptance.specs.Private as rule;
-ghost use Rattle.acceptance.specs.Private.{Table, Interval, Chain, passes, tileRule, blockRule, halvesRule, levelRule, levelsRule, blocksRule, tileBit};
-
-// ---- values by name
-
-fn mark(t: &[u8], p: u32) -> bool
-    requires { ⌜ p < length (now t) ⌝ }
-    ensures { λ r. ⌜ r ≡ eqb (getD (now (t .entry)) p 0) 1 ⌝ }
-{
-    t[p as usize] == 1
-}
-
-pub fn black_passes(scheme: u32, n: u32, g: u32, t: &[u8]) -> bool
-    requires { ⌜ Interval scheme n g (now t) ⌝ }
-    ensures { λ r. ⌜ r ≡ passes scheme n (now (t .entry)) (black g) ⌝ }
-{
-    mark(t, layouts::black_at(scheme, n, g))
-}
-
-pub fn tile_passes(n: u32, i: u32, g: u32, t: &[u8]) -> bool
-    requires { ⌜ Interval 2 n g (now t) × (i ≤ layout.lg n) ⌝ }
-    ensures { λ r. ⌜ r ≡ passes 2 n (now (t .entry)) (tile i g) ⌝ }
-{
-    mark(t, layouts::tile_at(n, i, g))
-}
-
-pub fn tree_passes(n: u32, l: u32, g: u32, t: &[u8]) -> bool
-    requires { ⌜ Chain n l g (now t) ⌝ }
-    ensures { λ r. ⌜ r ≡ passes 3 n (now (t .entry)) (tree l g) ⌝ }
-{
-    mark(t, layouts::tree_at(n, l, g))
-}
-
-// Whether the tile chain whose bit has weight 2^j passes.
-pub fn tile_bit(n: u32, j: u32, g: u32, t: &[u8]) -> bool
-    requires { ⌜ Interval 2 n g (now t) × (j ≤ layout.lg n) ⌝ }
-    ensures { λ r. ⌜ r ≡ tileBit n (now (t .entry)) g j ⌝ }
-{
-    tile_passes(n, layouts::lg(n) - j, g, t)
-}
-
-// ---- the rules of acceptance
+ghost use Rattle.acceptance.specs.Private.{Table, Interval, Chain, tileRule, blockRule, halvesRule};
+ghost use Rattle.acceptance.specs.Private.{levelRule, levelsRule, blocksRule};
 
 fn implies(a: bool, b: bool) -> bool
     ensures { λ r. ⌜ r ≡ not a || b ⌝ }
@@ -85,14 +45,14 @@ fn prior(scheme: u32, n: u32, g: u32, t: &[u8]) -> bool
     if g <= n {
         return true;
     }
-    black_passes(scheme, n, g - n, t)
+    values::black_passes(scheme, n, g - n, t)
 }
 
 fn black_falls(n: u32, g: u32, t: &[u8]) -> bool
     requires { ⌜ Interval 1 n g (now t) ⌝ }
     ensures { λ r. ⌜ r ≡ blockRule 1 n (now (t .entry)) g ⌝ }
 {
-    let b = black_passes(1, n, g, t);
+    let b = values::black_passes(1, n, g, t);
     let p = prior(1, n, g, t);
     implies(b, p)
 }
@@ -101,8 +61,8 @@ fn tile_rule(n: u32, g: u32, i: u32, t: &[u8]) -> bool
     requires { ⌜ Interval 2 n g (now t) × (i ≤ layout.lg n) ⌝ }
     ensures { λ r. ⌜ r ≡ tileRule n (now (t .entry)) g i ⌝ }
 {
-    let a = tile_passes(n, 0, g, t);
-    let b = tile_passes(n, i, g, t);
+    let a = values::tile_passes(n, 0, g, t);
+    let b = values::tile_passes(n, i, g, t);
     implies(a, b)
 }
 
@@ -125,9 +85,9 @@ fn tile_block(n: u32, g: u32, t: &[u8]) -> bool
     requires { ⌜ Interval 2 n g (now t) ⌝ }
     ensures { λ r. ⌜ r ≡ blockRule 2 n (now (t .entry)) g ⌝ }
 {
-    let b = black_passes(2, n, g, t);
+    let b = values::black_passes(2, n, g, t);
     let p = prior(2, n, g, t);
-    let c = tile_passes(n, 0, g, t);
+    let c = values::tile_passes(n, 0, g, t);
     let w = both(p, c);
     let a = alike(b, w);
     let e = tile_rules(n, g, t);
@@ -138,9 +98,9 @@ fn tree_block(n: u32, g: u32, t: &[u8]) -> bool
     requires { ⌜ Interval 3 n g (now t) ⌝ }
     ensures { λ r. ⌜ r ≡ blockRule 3 n (now (t .entry)) g ⌝ }
 {
-    let b = black_passes(3, n, g, t);
+    let b = values::black_passes(3, n, g, t);
     let p = prior(3, n, g, t);
-    let c = tree_passes(n, layouts::lg(n), g, t);
+    let c = values::tree_passes(n, layouts::lg(n), g, t);
     let w = both(p, c);
     alike(b, w)
 }
@@ -178,9 +138,9 @@ fn halves_rule(n: u32, l: u32, g: u32, t: &[u8]) -> bool
     requires { ⌜ Chain n (suc l) g (now t) ⌝ }
     ensures { λ r. ⌜ r ≡ halvesRule n (now (t .entry)) l g ⌝ }
 {
-    let a = tree_passes(n, l + 1, g, t);
-    let b = tree_passes(n, l, g - layouts::size(l), t);
-    let c = tree_passes(n, l, g, t);
+    let a = values::tree_passes(n, l + 1, g, t);
+    let b = values::tree_passes(n, l, g - layouts::size(l), t);
+    let c = values::tree_passes(n, l, g, t);
     let w = both(b, c);
     alike(a, w)
 }

@@ -8,8 +8,8 @@ use lib.ListN.{getD}
 unfoldable pub across : ℕ → ℕ → ℕ
 across a b = a % 256 * 2 ^ 24 + b / 2 ^ 24 % 256 * 2 ^ 16 + b / 2 ^ 16 % 256 * 2 ^ 8 + b / 2 ^ 8 % 256
 
--- the words of the two blocks of the byte 1, the bytes of the words v and those of the words h: 65 bytes, so that the second
--- block has the last byte and the padding
+-- the words of the two blocks of the byte 1, the bytes of the words v and those of the words h: 65 bytes, so that the
+-- second block has the last byte and the padding
 unfoldable pub front : List ℕ → List ℕ → List ℕ
 front v h =
     across 1 (getD v 0 0)

@@ -1,5 +1,5 @@
-// The running hashes of a service: what one more day does to black, to the tile chains and to the tree's levels, and which of
-// them are values of that day. Closing a day and checking one use the same step.
+// The running hashes of a service: what one more day does to black, to the tile chains and to the tree's levels, and
+// which of them are values of that day. Closing a day and checking one use the same step.
 pub mod link;
 
 ghost use mathlib.Core.Path.{_≡_};
@@ -9,7 +9,8 @@ ghost use Prim.Native.Nat.{_+_, _≤_, _<_, _^_};
 ghost use lib.ListN.{length, take, drop};
 ghost use Rattle.layouts.specs.Layouts.{allowedScheme, allowedN, namesOfDay};
 ghost use Rattle.chains.specs.Step as spec;
-ghost use Rattle.chains.specs.Step.{startValue, linked, linksSlot, storesSlot, storesBlack, linkSlot, restartSlot, linkedSlots, restarted, dayValues, Stepped};
+ghost use Rattle.chains.specs.Step.{startValue, linked, linksSlot, storesSlot, storesBlack, linkSlot};
+ghost use Rattle.chains.specs.Step.{restartSlot, linkedSlots, restarted, dayValues, Stepped};
 
 pub struct Value {
     pub words: [u32; 8],
@@ -132,7 +133,8 @@ fn restart_slots(scheme: u32, n: u32, g: u32, start: Value, slots: [Value; 17]) 
 
 // The values of day g, k of them: the slots in their order, then black where it is one of its own.
 fn day_values(scheme: u32, n: u32, g: u32, k: u32, black: Value, slots: [Value; 17]) -> [Value; 17]
-    requires { ⌜ (allowedScheme scheme ≡ true) × (allowedN n ≡ true) × (1 ≤ g) × (g ≤ 65536) × (k ≡ length (namesOfDay scheme n g)) ⌝ }
+    requires { ⌜ (allowedScheme scheme ≡ true) × (allowedN n ≡ true) × (1 ≤ g) × (g ≤ 65536)
+        × (k ≡ length (namesOfDay scheme n g)) ⌝ }
     ensures { λ r. ⌜ take k r ≡ dayValues scheme n g black slots ⌝ }
 {
     let mut r = slots;

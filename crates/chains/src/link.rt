@@ -65,6 +65,6 @@ pub fn link_words(v: [u32; 8], h: [u32; 8]) -> [u32; 8]
 {
     let m = front(v, h);
     let n = back(h);
-    let g = sha256::compress(sha256_words::initial(), m);
+    let g = sha256::compress(sha256_words::constants::initial(), m);
     sha256::compress(g, n)
 }

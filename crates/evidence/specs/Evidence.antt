@@ -1,5 +1,6 @@
--- 01's digests, links, values and tables, over any hash H of 32 bytes and any layout. Definitions only. A layout is a list of
--- chains, a chain the ascending list of the days that it covers, a ledger the list of its days' bytes, day 1 first.
+-- 01's digests, links, values and tables, over any hash H of 32 bytes and any layout. Definitions only. A layout is a
+-- list of chains, a chain the ascending list of the days that it covers, a ledger the list of its days' bytes, day 1
+-- first.
 use mathlib.Core.Path.{_≡_}
 use mathlib.Core.Bool.{Bool, true, false, not, _&&_, _||_, cond}
 use mathlib.Core.List.{List, [], _∷_, _++_, map, flatMap, List·Memᴰ}
@@ -35,7 +36,8 @@ module _ (H : List ℕ → List ℕ) where
   values start ledger [] = []
   values start ledger (c ∷ cs) = value start ledger c ++ values start ledger cs
 
-  abbrev pub linkInputs : List ℕ → List (List ℕ) → List ℕ → List (List ℕ)  -- what is hashed for a chain that goes on from v
+  -- what is hashed for a chain that goes on from v
+  abbrev pub linkInputs : List ℕ → List (List ℕ) → List ℕ → List (List ℕ)
   linkInputs v ledger [] = []
   linkInputs v ledger (g ∷ c) = linkInput ledger v g ∷ linkInputs (H (linkInput ledger v g)) ledger c
 
@@ -93,7 +95,8 @@ cleared g [] table = false
 cleared g (c ∷ chains) [] = false
 cleared g (c ∷ chains) (o ∷ table) = (eqb o 1 && has g c) || cleared g chains table
 
--- 01's listed days, those not cleared; the law `listed-iff`: those that belong to some set that gives the table, if one does
+-- 01's listed days, those not cleared; the law `listed-iff`: those that belong to some set that gives the table, if
+-- one does
 unfoldable pub listing : List (List ℕ) → ℕ → List ℕ → List ℕ
 listing chains d table = keep (λ g. not (cleared g chains table)) (days d)
 

@@ -1,6 +1,6 @@
--- SHA-256 of a message that comes in pieces. A hasher holds the hash value of the message's whole blocks, and a block that
--- starts with the bytes since. How many bytes came is not in it: each definition that needs the number, n, takes it.
--- Assumes nothing.
+-- SHA-256 of a message that comes in pieces. A hasher holds the hash value of the message's whole blocks, and a block
+-- that starts with the bytes since. How many bytes came is not in it: each definition that needs the number, n, takes
+-- it. Assumes nothing.
 use Prim.Native.Nat.{ℕ, _+_, _-_, _*_, _/_, _%_}
 use mathlib.Core.List.{List, [], _∷_, _++_}
 use lib.ListN.{length, take, drop, replicate}

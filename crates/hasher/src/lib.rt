@@ -8,8 +8,8 @@ ghost use Rattle.sha256.specs.Sha256.{wide, hashed};
 ghost use Rattle.hasher.specs.Hasher as spec;
 ghost use Rattle.hasher.specs.Hasher.{filled};
 
-// What the bytes of a message have come to: the hash value of its whole blocks, and the bytes since the last, followed by
-// zeros. How many bytes came is the caller's to know.
+// What the bytes of a message have come to: the hash value of its whole blocks, and the bytes since the last,
+// followed by zeros. How many bytes came is the caller's to know.
 pub struct Hasher {
     pub words: [u32; 8],
     pub block: [u8; 64],
@@ -49,7 +49,7 @@ fn onward(h: [u32; 8], s: &[u8]) -> Hasher
 pub fn empty() -> Hasher
     ensures { λ r. ⌜ r ≡ spec.begun [] ⌝ }
 {
-    let h = sha256_words::initial();
+    let h = sha256_words::constants::initial();
     Hasher {
         words: h,
         block: [0u8; 64],
@@ -60,7 +60,7 @@ pub fn empty() -> Hasher
 pub fn begin(first: u8) -> Hasher
     ensures { λ r. ⌜ r ≡ spec.begun (first ∷ []) ⌝ }
 {
-    let h = sha256_words::initial();
+    let h = sha256_words::constants::initial();
     let mut b = [0u8; 64];
     b[0] = first;
     Hasher { words: h, block: b }

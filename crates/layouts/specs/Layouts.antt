@@ -1,4 +1,5 @@
--- 01's three layouts: what is allowed; the chains in book order, their number and places; refusals 1 2 3 7. Definitions only.
+-- 01's three layouts: what is allowed; the chains in book order, their number and places; refusals 1 2 3 7.
+-- Definitions only.
 use mathlib.Core.Bool.{Bool, true, false, not, _&&_, _||_, cond}
 use mathlib.Core.List.{List, [], _∷_, _++_, map, flatMap}
 use Prim.Native.Nat.{ℕ, zero, suc, pred, _+_, _-_, _*_, _/_, _%_, _^_}
@@ -38,7 +39,8 @@ lgIn (suc fuel) x = cond (leb x 1) 0 (suc (lgIn fuel (x / 2)))
 unfoldable pub lg : ℕ → ℕ
 lg x = lgIn x x
 
--- a value's chain, by name: black at day g, tile chain c(i) of the tile that ends at g, the tree's level l that ends at g
+-- a value's chain, by name: black at day g, tile chain c(i) of the tile that ends at g, the tree's level l that ends
+-- at g
 pub data Name : Type 0 where
   black : ℕ → Name
   tile tree : ℕ → ℕ → Name

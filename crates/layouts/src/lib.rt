@@ -1,10 +1,12 @@
-// The three layouts: which scheme, n, f and d are allowed, how many values a book has, where each value stands in it, and
-// whether a tile chain covers a day.
+// The three layouts: which scheme, n, f and d are allowed, how many values a book has, where each value stands in it,
+// and whether a tile chain covers a day.
 ghost use mathlib.Core.Path.{_≡_};
 ghost use mathlib.Core.Bool.{true};
 ghost use Prim.Native.Nat.{_/_, _^_, _≤_, _<_};
 ghost use lib.ListN.{length};
-ghost use Rattle.layouts.specs.Layouts.{allowedScheme, allowedN, allowedF, allowedD, setupRefusal, layoutRefusal, black, tile, tree, chains, chainsOfDay, namesThrough, position};
+ghost use Rattle.layouts.specs.Layouts.{allowedScheme, allowedN, allowedF, allowedD, setupRefusal};
+ghost use Rattle.layouts.specs.Layouts.{layoutRefusal, black, tile, tree, chains, chainsOfDay, namesThrough};
+ghost use Rattle.layouts.specs.Layouts.{position};
 ghost use Rattle.refusals.specs.Refusals.{bookLimit};
 ghost use Rattle.layouts.specs.Layouts as spec;
 
@@ -108,8 +110,8 @@ fn intervals(n: u32, g: u32) -> u32
     g >> lg(n)
 }
 
-// The values of the days 1 to g under scheme 3. Of black those stored once, at the powers of two, are not counted again: as
-// many as b = g / n has binary digits, which is 1 + lg b, and 0 of 0.
+// The values of the days 1 to g under scheme 3. Of black those stored once, at the powers of two, are not counted
+// again: as many as b = g / n has binary digits, which is 1 + lg b, and 0 of 0.
 fn tree_through(n: u32, g: u32) -> u32
     requires { ⌜ (allowedN n ≡ true) × (g ≤ 65536) ⌝ }
     ensures { λ r. ⌜ r ≡ length (chains 3 n g) ⌝ }

@@ -1,5 +1,5 @@
-// The listed days of an accepted table. Each function writes days to the list from a place on and gives the place behind
-// the last of them.
+// The listed days of an accepted table. Each function writes days to the list from a place on and gives the place
+// behind the last of them.
 ghost use mathlib.Core.Path.{_≡_};
 ghost use mathlib.Core.Bool.{true};
 ghost use Prim.Native.Nat.{suc, _+_, _-_, _*_, _/_, _^_, _≤_};
@@ -30,18 +30,21 @@ fn run(first: u32, end: u32, list: &mut [u32], at: usize) -> usize
 // The interval that ends at g, under scheme 1: all its days, if black fails.
 fn black_days(n: u32, g: u32, t: &[u8], list: &mut [u32], at: usize) -> usize
     requires { ⌜ Interval 1 n g (now t) × (at + n ≤ length (now list)) ⌝ }
-    ensures { λ r. ⌜ Wrote at (keep (isListed 1 n (now (t .entry))) (lastDays n g)) (now (list .entry)) r (now (list .exit)) ⌝ }
+    ensures { λ r. ⌜ Wrote at (keep (isListed 1 n (now (t .entry))) (lastDays n g))
+        (now (list .entry)) r (now (list .exit)) ⌝ }
 {
-    if acceptance::black_passes(1, n, g, t) {
+    if acceptance::values::black_passes(1, n, g, t) {
         return at;
     }
     run(g - n + 1, g + 1, list, at)
 }
 
-// The 2^level days of a failed tile from a day on: where the chain over the lower half passes, only the upper half is gone into.
+// The 2^level days of a failed tile from a day on: where the chain over the lower half passes, only the upper half is
+// gone into.
 fn tile_walk(n: u32, g: u32, level: u32, day: u32, t: &[u8], list: &mut [u32], at: usize) -> usize
     requires { ⌜ Tile n g level day (now t) × (at + 2 ^ level ≤ length (now list)) ⌝ }
-    ensures { λ r. ⌜ Wrote at (tileDays (tileBit n (now (t .entry)) g) level day) (now (list .entry)) r (now (list .exit)) ⌝ }
+    ensures { λ r. ⌜ Wrote at (tileDays (tileBit n (now (t .entry)) g) level day)
+        (now (list .entry)) r (now (list .exit)) ⌝ }
 {
     if level == 0 {
         list[at] = day;
@@ -49,7 +52,7 @@ fn tile_walk(n: u32, g: u32, level: u32, day: u32, t: &[u8], list: &mut [u32], a
     }
     let l = level - 1;
     let w = layouts::size(l);
-    if acceptance::tile_bit(n, l, g, t) {
+    if acceptance::values::tile_bit(n, l, g, t) {
         return tile_walk(n, g, l, day + w, t, list, at);
     }
     let b = tile_walk(n, g, l, day, t, list, at);
@@ -59,9 +62,10 @@ fn tile_walk(n: u32, g: u32, level: u32, day: u32, t: &[u8], list: &mut [u32], a
 // The interval that ends at g, under scheme 2.
 fn tile_days(n: u32, g: u32, t: &[u8], list: &mut [u32], at: usize) -> usize
     requires { ⌜ Interval 2 n g (now t) × (at + n ≤ length (now list)) ⌝ }
-    ensures { λ r. ⌜ Wrote at (keep (isListed 2 n (now (t .entry))) (lastDays n g)) (now (list .entry)) r (now (list .exit)) ⌝ }
+    ensures { λ r. ⌜ Wrote at (keep (isListed 2 n (now (t .entry))) (lastDays n g))
+        (now (list .entry)) r (now (list .exit)) ⌝ }
 {
-    if acceptance::tile_passes(n, 0, g, t) {
+    if acceptance::values::tile_passes(n, 0, g, t) {
         return at;
     }
     tile_walk(n, g, layouts::lg(n), g - n + 1, t, list, at)
@@ -69,7 +73,8 @@ fn tile_days(n: u32, g: u32, t: &[u8], list: &mut [u32], at: usize) -> usize
 
 fn interval_days(scheme: u32, n: u32, g: u32, t: &[u8], list: &mut [u32], at: usize) -> usize
     requires { ⌜ Interval scheme n g (now t) × (at + n ≤ length (now list)) × (scheme ≤ 2) ⌝ }
-    ensures { λ r. ⌜ Wrote at (keep (isListed scheme n (now (t .entry))) (lastDays n g)) (now (list .entry)) r (now (list .exit)) ⌝ }
+    ensures { λ r. ⌜ Wrote at (keep (isListed scheme n (now (t .entry))) (lastDays n g))
+        (now (list .entry)) r (now (list .exit)) ⌝ }
 {
     if scheme == 1 {
         return black_days(n, g, t, list, at);
@@ -79,7 +84,8 @@ fn interval_days(scheme: u32, n: u32, g: u32, t: &[u8], list: &mut [u32], at: us
 
 fn interval_walk(scheme: u32, n: u32, d: u32, t: &[u8], list: &mut [u32]) -> usize
     requires { ⌜ Table scheme n d (now t) × (d ≤ length (now list)) × (scheme ≤ 2) ⌝ }
-    ensures { λ r. ⌜ Wrote 0 (keep (isListed scheme n (now (t .entry))) (days d)) (now (list .entry)) r (now (list .exit)) ⌝ }
+    ensures { λ r. ⌜ Wrote 0 (keep (isListed scheme n (now (t .entry))) (days d))
+        (now (list .entry)) r (now (list .exit)) ⌝ }
 {
     let m = d / n;
     let mut k = 0;
@@ -96,7 +102,7 @@ fn walk(n: u32, level: u32, g: u32, t: &[u8], list: &mut [u32], at: usize) -> us
     requires { ⌜ Chain n level g (now t) × (at + 2 ^ level ≤ length (now list)) ⌝ }
     ensures { λ r. ⌜ Wrote at (treeDays n (now (t .entry)) level g) (now (list .entry)) r (now (list .exit)) ⌝ }
 {
-    if acceptance::tree_passes(n, level, g, t) {
+    if acceptance::values::tree_passes(n, level, g, t) {
         return at;
     }
     if level == 0 {
@@ -111,7 +117,8 @@ fn walk(n: u32, level: u32, g: u32, t: &[u8], list: &mut [u32], at: usize) -> us
 
 // Of the maximal chains that make up the days 1 to d, the one of a level, if there is one.
 fn top_days(n: u32, d: u32, level: u32, t: &[u8], list: &mut [u32], at: usize) -> usize
-    requires { ⌜ Table 3 n d (now t) × (d ≤ length (now list)) × (level ≤ 16) × (at ≤ d / 2 ^ suc level * 2 ^ suc level) ⌝ }
+    requires { ⌜ Table 3 n d (now t) × (d ≤ length (now list)) × (level ≤ 16)
+        × (at ≤ d / 2 ^ suc level * 2 ^ suc level) ⌝ }
     ensures { λ r. ⌜ Wrote at (topDays n d (now (t .entry)) level) (now (list .entry)) r (now (list .exit)) ⌝ }
 {
     let w = layouts::size(level);
@@ -125,7 +132,8 @@ fn top_days(n: u32, d: u32, level: u32, t: &[u8], list: &mut [u32], at: usize) -
 // The maximal chains from left to right.
 fn tree_walk(n: u32, d: u32, t: &[u8], list: &mut [u32]) -> usize
     requires { ⌜ Table 3 n d (now t) × (d ≤ length (now list)) × (levelsRule n d (now t) ≡ true) ⌝ }
-    ensures { λ r. ⌜ Wrote 0 (keep (isListed 3 n (now (t .entry))) (days d)) (now (list .entry)) r (now (list .exit)) ⌝ }
+    ensures { λ r. ⌜ Wrote 0 (keep (isListed 3 n (now (t .entry))) (days d))
+        (now (list .entry)) r (now (list .exit)) ⌝ }
 {
     let mut level = 17;
     let mut at = 0;
@@ -139,7 +147,8 @@ fn tree_walk(n: u32, d: u32, t: &[u8], list: &mut [u32]) -> usize
 // The listed days of an accepted table.
 pub fn listed(scheme: u32, n: u32, d: u32, t: &[u8], list: &mut [u32]) -> usize
     requires { ⌜ Table scheme n d (now t) × (d ≤ length (now list)) × (rule.rules scheme n d (now t) ≡ true) ⌝ }
-    ensures { λ r. ⌜ Wrote 0 (keep (isListed scheme n (now (t .entry))) (days d)) (now (list .entry)) r (now (list .exit)) ⌝ }
+    ensures { λ r. ⌜ Wrote 0 (keep (isListed scheme n (now (t .entry))) (days d))
+        (now (list .entry)) r (now (list .exit)) ⌝ }
 {
     if scheme == 3 {
         return tree_walk(n, d, t, list);

@@ -1,4 +1,5 @@
--- 01's refusals: limits; the tests of a call, in the paper's order; what a call answers, and what a refusal leaves. Definitions only.
+-- 01's refusals: limits; the tests of a call, in the paper's order; what a call answers, and what a refusal leaves.
+-- Definitions only.
 use mathlib.Core.Bool.{Bool, cond}
 use mathlib.Core.List.{List, [], _∷_, _++_}
 use Prim.Native.Nat.{ℕ, zero, suc}

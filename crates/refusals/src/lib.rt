@@ -1,4 +1,5 @@
-// What calls answer: done, or refused with 01's number. The tests of a call, its limits and what a refusal leaves are in specs/.
+// What calls answer: done, or refused with 01's number. The tests of a call, its limits and what a refusal leaves are
+// in specs/.
 ghost use mathlib.Core.Path.{_≡_};
 ghost use Rattle.refusals.specs.Refusals.{numberOf, answerOf};
 

@@ -1,5 +1,5 @@
--- The form of the code, which is no part of the standard: the schedule as a window of sixteen words, renewed one by one.
--- Assumes nothing.
+-- The form of the code, which is no part of the standard: the schedule as a window of sixteen words, renewed one by
+-- one. Assumes nothing.
 use Prim.Native.Nat.{ℕ, zero, suc, _+_, _%_}
 use mathlib.Core.List.{List}
 use lib.ListN.{getD, take, drop, set}

@@ -130,12 +130,12 @@ fn rounds(v: [u32; 8], w: [u32; 16], k: &[u32; 64], t: usize) -> [u32; 8]
     round(v15, k[t + 15], w[15])
 }
 
-// The hash value after h, by the block whose words are m. `rounds` and `slides` are called in one place each, so that the
-// compiler puts them there.
+// The hash value after h, by the block whose words are m. `rounds` and `slides` are called in one place each, so that
+// the compiler puts them there.
 pub fn compress(h: [u32; 8], m: [u32; 16]) -> [u32; 8]
     ensures { λ r. ⌜ r ≡ spec.compress h m ⌝ }
 {
-    let k = sha256_words::table();
+    let k = sha256_words::constants::table();
     let mut v = h;
     let mut w = m;
     let mut t = 0usize;

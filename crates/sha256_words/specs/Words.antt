@@ -1,4 +1,5 @@
--- SHA-256's words, as FIPS 180-4 defines them. A byte is a number below 2 ^ 8 and a word one below 2 ^ 32. Assumes nothing.
+-- SHA-256's words, as FIPS 180-4 defines them. A byte is a number below 2 ^ 8 and a word one below 2 ^ 32. Assumes
+-- nothing.
 use Prim.Native.Nat.{ℕ, _+_, _-_, _*_, _/_, _%_, _^_}
 use mathlib.Core.List.{List, [], _∷_}
 use lib.Bits.{bitAnd, bitOr, bitXor}

@@ -11,7 +11,7 @@ use Rattle.listing.proofs.tile_walk.Reads as tile-walk
 use Rattle.listing.proofs.tile_walk.Kinds as tile-walk-kinds
 use Rattle.listing.proofs.+tile_walk.Lts-tile_walk as tile-walk-lts
 use Rattle.layouts.proofs.size.Reads as size-reads
-use Rattle.acceptance.proofs.tile_bit.Reads as tile-bit-reads
+use Rattle.acceptance.proofs.values.tile_bit.Reads as tile-bit-reads
 use Rattle.listing.proofs.+tile_walk.{statement}
 use Rattle.listing.proofs.+tile_walk.Tie.{close}
 

@@ -11,7 +11,7 @@ use Rattle.listing.proofs.walk.Reads as walk
 use Rattle.listing.proofs.walk.Kinds as walk-kinds
 use Rattle.listing.proofs.+walk.Lts-walk as walk-lts
 use Rattle.layouts.proofs.size.Reads as size-reads
-use Rattle.acceptance.proofs.tree_passes.Reads as tree-passes-reads
+use Rattle.acceptance.proofs.values.tree_passes.Reads as tree-passes-reads
 use Rattle.listing.proofs.+walk.{statement}
 use Rattle.listing.proofs.+walk.Tie.{close}
 

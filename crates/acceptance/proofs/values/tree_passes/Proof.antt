@@ -1,6 +1,6 @@
 use Rattle.acceptance.proofs.Steps.{chain-has, tree-inside, passes-by}
-use Rattle.acceptance.proofs.tree_passes.Statement.{statement}
-use Rattle.acceptance.proofs.tree_passes.Tie as tie
+use Rattle.acceptance.proofs.values.tree_passes.Statement.{statement}
+use Rattle.acceptance.proofs.values.tree_passes.Tie as tie
 
 tree-at-requires : tie.Need-tree-at-requires
 tree-at-requires c κs = chain-has (c .before .pre)

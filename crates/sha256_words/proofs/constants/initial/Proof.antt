@@ -1,8 +1,8 @@
--- `sha256_words::initial` meets its contract.
+-- `sha256_words::constants::initial` meets its contract.
 use Rattle.sha256_words.specs.Words.{initial}
 use borrow.Author.Needs.{needs}
-use Rattle.sha256_words.proofs.initial.Statement.{statement}
-use Rattle.sha256_words.proofs.initial.Tie as tie
+use Rattle.sha256_words.proofs.constants.initial.Statement.{statement}
+use Rattle.sha256_words.proofs.constants.initial.Tie as tie
 
 returns : tie.Need-returns
 unfolding initial

@@ -1,6 +1,6 @@
 use Rattle.acceptance.proofs.Steps.{interval-tile, tile-inside, passes-by}
-use Rattle.acceptance.proofs.tile_passes.Statement.{statement}
-use Rattle.acceptance.proofs.tile_passes.Tie as tie
+use Rattle.acceptance.proofs.values.tile_passes.Statement.{statement}
+use Rattle.acceptance.proofs.values.tile_passes.Tie as tie
 
 tile-at-requires : tie.Need-tile-at-requires
 tile-at-requires c κs = interval-tile (c .before .pre .0) (c .before .pre .1)

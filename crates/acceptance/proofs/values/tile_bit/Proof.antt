@@ -1,8 +1,8 @@
 use Rattle.acceptance.proofs.Steps.{bit-by}
 use Rattle.layouts.proofs.AllowedLaws.{allowed-n-is}
 use borrow.Author.Needs.{needs}
-use Rattle.acceptance.proofs.tile_bit.Statement.{statement}
-use Rattle.acceptance.proofs.tile_bit.Tie as tie
+use Rattle.acceptance.proofs.values.tile_bit.Statement.{statement}
+use Rattle.acceptance.proofs.values.tile_bit.Tie as tie
 
 lg-requires : tie.Need-lg-requires
 lg-requires c κs = allowed-n-is _ (c .before .pre .0 .has .n-ok) .some

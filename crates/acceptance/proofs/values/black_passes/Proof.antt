@@ -1,6 +1,6 @@
 use Rattle.acceptance.proofs.Steps.{interval-black, black-inside, passes-by}
-use Rattle.acceptance.proofs.black_passes.Statement.{statement}
-use Rattle.acceptance.proofs.black_passes.Tie as tie
+use Rattle.acceptance.proofs.values.black_passes.Statement.{statement}
+use Rattle.acceptance.proofs.values.black_passes.Tie as tie
 
 black-at-requires : tie.Need-black-at-requires
 black-at-requires c κs = interval-black (c .before .pre)

@@ -1,8 +1,8 @@
--- `sha256_words::table` meets its contract.
+-- `sha256_words::constants::table` meets its contract.
 use Rattle.sha256_words.specs.Words.{kTable}
 use borrow.Author.Needs.{needs}
-use Rattle.sha256_words.proofs.table.Statement.{statement}
-use Rattle.sha256_words.proofs.table.Tie as tie
+use Rattle.sha256_words.proofs.constants.table.Statement.{statement}
+use Rattle.sha256_words.proofs.constants.table.Tie as tie
 
 returns : tie.Need-returns
 unfolding kTable
