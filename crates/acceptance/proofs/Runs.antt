@@ -1,7 +1,7 @@
 -- Laws of tests over lists and of runs of days.
 use mathlib.Core.Path.{_≡_, refl, sym, ap, _∙_}
 use mathlib.Core.Logic.{_⊎_, inl, inr}
-use mathlib.Core.Bool.{Bool, true, false, _&&_, _||_, cond}
+use mathlib.Core.Bool.{Bool, true, false, _||_, cond}
 use mathlib.Core.List.{List, [], _∷_, _++_, append-nil, List·Memᴰ·head, List·Memᴰ·tail}
 use Prim.Native.Nat.{ℕ, zero, suc, _+_, _-_, _*_, _/_, _%_, _^_, _≤_, _<_}
 use native.Mathlib.Nat.{div-add-mod'}
@@ -11,9 +11,9 @@ use lib.Arith.{digits-mod}
 use lib.ListN.{length}
 use lib.Pow.{field, mod-mod-pow}
 use borrow.Author.Tests.{eqb-true, eq-eqb}
-use Rattle.lists.specs.Lists.{_among_, has, upFrom, keep, lastOf, every}
+use Rattle.lists.specs.Lists.{_among_, has, upFrom, keep, lastOf}
 use Rattle.evidence.specs.Evidence.{days, Within, meets}
-use Rattle.lists.proofs.Laws.{upFrom-append, split, true-or-false, and-both, and-of, mem-has, upFrom-mem, upFrom-bounds, has-keep, keep-append, upFrom-snoc}
+use Rattle.lists.proofs.Laws.{upFrom-append, mem-has, upFrom-mem, upFrom-bounds, has-keep, keep-append, upFrom-snoc}
 use Rattle.layouts.specs.Layouts.{divides, lastDays}
 
 -- ---- some

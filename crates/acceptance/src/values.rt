@@ -6,8 +6,7 @@ ghost use lib.ListN.{length, getD};
 ghost use Rattle.layouts.specs.Layouts.{black, tile, tree};
 ghost use Rattle.layouts.specs.Layouts as layout;
 ghost use Rattle.acceptance.specs.Private as rule;
-ghost use Rattle.acceptance.specs.Private.{Interval, Chain, passes};
-ghost use Rattle.acceptance.specs.Private.{tileBit};
+ghost use Rattle.acceptance.specs.Private.{Interval, Chain, passes, tileBit};
 
 fn mark(t: &[u8], p: u32) -> bool
     requires { ⌜ p < length (now t) ⌝ }

@@ -1,13 +1,11 @@
 -- Laws of the book: one more day, its front, its length, and what a check against it finds.
-use mathlib.Core.Path.{_≡_, refl, sym, ap, ap₂, _∙_}
-use mathlib.Core.List.{List, [], _∷_, _++_, List·Memᴰ}
-use Prim.Native.Nat.{ℕ, zero, suc, pred, _+_, _-_, _*_, _≤_, _<_}
+use mathlib.Core.Path.{_≡_, refl, ap, _∙_}
+use mathlib.Core.List.{List, [], _∷_, _++_}
+use Prim.Native.Nat.{ℕ, suc, pred, _+_, _*_, _≤_}
 use native.Mathlib.Omega.{arith}
-use lib.ListN.{length, getD, take, length-append, List·getD-append}
-use lib.Seq.{take-length}
+use lib.ListN.{length, length-append, List·getD-append}
 use Rattle.lists.specs.Lists.{_among_}
-use Rattle.evidence.specs.Evidence.{days, Within, tableOf, dayOf, changed, value, values, checkOutcomes, NoCollision}
-use Rattle.lists.proofs.Laws.{upFrom-bounds}
+use Rattle.evidence.specs.Evidence.{days, tableOf, dayOf, changed, value, values, checkOutcomes, NoCollision}
 use Rattle.evidence.proofs.ValueLaws.{values-append, values-same, value-same, length-values, check-table, check-unaltered}
 use Rattle.layouts.specs.Layouts.{chains, chainsOfDay}
 use Rattle.layouts.proofs.Coverage.{chains-within, chains-suc, chains-front}

@@ -1,31 +1,30 @@
 -- What the running hashes hold after some days: black the value over all of them, each slot the value over the days of its
 -- chain that is not ended yet. The law of the step: they hold it again, and the values of the day are the layout's.
 use mathlib.Core.Path.{_≡_, refl, sym, ap, ap₂, _∙_}
-use mathlib.Core.Bool.{Bool, true, false, not, _&&_, cond}
+use mathlib.Core.Bool.{Bool, true, false, cond}
 use mathlib.Core.Logic.{_⊎_, inl, inr}
-use mathlib.Core.List.{List, [], _∷_, _++_, map, append-nil, List·Memᴰ, List·Memᴰ·head, List·Memᴰ·tail, List·Memᴰ·append-cases, List·Memᴰ·eq-of-singleton, Memᴰ·of-map}
+use mathlib.Core.List.{List, [], _∷_, _++_, map, append-nil, List·Memᴰ·head, List·Memᴰ·tail, List·Memᴰ·append-cases, List·Memᴰ·eq-of-singleton, Memᴰ·of-map}
 use Prim.Native.Nat.{ℕ, zero, suc, pred, _+_, _-_, _*_, _/_, _%_, _^_, _≤_, _<_}
-use native.Mathlib.Nat.{div-add-mod', suc-mul, add-zero, zero-add, mod-lt, zero-mod}
+use native.Mathlib.Nat.{div-add-mod', suc-mul, add-zero, zero-add, zero-mod}
 use native.Mathlib.Omega.{arith}
-use lib.Dec.{eqb, leb}
+use lib.Dec.{leb}
 use lib.ListN.{length, getD, replicate, length-append, length-replicate, getD-replicate, List·getD-append}
 use lib.Pow.{pow-pos}
 use lib.Seq.{getD-at}
 use borrow.Author.Tests.{eqb-true, leb-true, le-leb}
 use Rattle.lists.specs.Lists.{_among_, upFrom, keep}
-use Rattle.evidence.specs.Evidence.{days, Within, dayOf, digest, linkInput, value, values}
-use Rattle.lists.proofs.Laws.{split, true-or-false, and-both, upFrom-bounds, keep-mem, keep-append, upFrom-snoc}
+use Rattle.evidence.specs.Evidence.{days, Within, dayOf, digest, value, values}
+use Rattle.lists.proofs.Laws.{true-or-false, and-both, upFrom-bounds, keep-mem, keep-append, upFrom-snoc}
 use Rattle.evidence.proofs.ValueLaws.{value-append, value-same}
-use Rattle.layouts.specs.Layouts.{divides, allowedScheme, allowedN, lg, Name, black, tile, tree, lastDays, offset, covers, coveredDays, levels, storesBlackOfTree, namesOfDay, chainsOfDay}
-use Rattle.layouts.proofs.AllowedLaws.{allowed-scheme-is, allowed-n-is}
-use Rattle.layouts.proofs.Counts.{bit, div-step}
+use Rattle.layouts.specs.Layouts.{divides, allowedN, lg, Name, black, tile, tree, lastDays, offset, covers, coveredDays, levels, storesBlackOfTree, namesOfDay, chainsOfDay}
+use Rattle.layouts.proofs.AllowedLaws.{allowed-n-is}
+use Rattle.layouts.proofs.Counts.{div-step}
 use Rattle.layouts.proofs.Coverage.{cond-mem}
 use Rattle.sha256.specs.Sha256.{sha256, hashed}
 use Rattle.sha256_words.specs.Words.{bytesOf}
 use Rattle.chains.specs.declared.Value.{Value}
-use Rattle.chains.specs.declared.DayStep.{DayStep}
 use Rattle.chains.specs.Book.{start}
-use Rattle.chains.specs.Step.{startValue, linked, linksSlot, storesSlot, linkSlot, restartSlot, each, linkedSlots, restarted, current, dayValues, Stepped, valueBytes}
+use Rattle.chains.specs.Step.{startValue, linked, linksSlot, storesSlot, linkSlot, restartSlot, each, linkedSlots, restarted, current, dayValues, valueBytes}
 use Rattle.chains.proofs.Values.{level-small}
 
 -- ---- the start

@@ -1,21 +1,20 @@
 -- The cases of the tests on slots, and the loops over them.
 use mathlib.Core.Path.{_≡_, refl, sym, ap, _∙_}
-use mathlib.Core.Bool.{Bool, true, false, not, _&&_, cond}
+use mathlib.Core.Bool.{Bool, true, false, not}
 use mathlib.Core.Logic.{_⊎_, inl, inr}
-use mathlib.Core.List.{List, [], _∷_, _++_}
-use Prim.Native.Nat.{ℕ, zero, suc, pred, _+_, _-_, _*_, _/_, _%_, _^_, _≤_, _<_}
-use native.Mathlib.Nat.{one-mul, mod-eq-of-lt}
+use mathlib.Core.List.{List, [], _∷_}
+use Prim.Native.Nat.{ℕ, zero, suc, pred, _+_, _-_, _%_, _^_, _≤_, _<_}
 use native.Mathlib.Omega.{arith}
-use lib.Dec.{eqb, leb, ltb}
+use lib.Dec.{eqb, leb}
 use lib.ListN.{length, getD, set}
-use lib.Pow.{pow-pos, pow-lt, pow-mono}
+use lib.Pow.{pow-lt, pow-mono}
 use borrow.Author.Tests.{eqb-true, eq-eqb, ne-eqb, leb-true, leb-false, le-leb, lt-leb}
-use Rattle.lists.proofs.Laws.{split, true-or-false, bool-ext}
-use Rattle.layouts.specs.Layouts.{divides, allowedScheme, allowedN, lg, offset, covers, storedOnce, storesBlackOfTree}
-use Rattle.layouts.proofs.AllowedLaws.{allowed-scheme-is, allowed-n-is}
+use Rattle.lists.proofs.Laws.{split, bool-ext}
+use Rattle.layouts.specs.Layouts.{allowedScheme, lg, covers, storedOnce}
+use Rattle.layouts.proofs.AllowedLaws.{allowed-scheme-is}
 use Rattle.layouts.proofs.Counts.{lg-unique, lg-bounds, power-of, of-power}
 use Rattle.chains.specs.declared.Value.{Value}
-use Rattle.chains.specs.Step.{linked, linksSlot, storesSlot, storesBlack, linkSlot, restartSlot, each, linkedSlots, restarted}
+use Rattle.chains.specs.Step.{linksSlot, storesSlot, storesBlack, linkSlot, restartSlot, each, linkedSlots, restarted}
 
 -- ---- whether a day is linked to a slot
 

@@ -2,23 +2,24 @@
 use mathlib.Core.Path.{_≡_, refl, sym, ap, ap₂, _∙_}
 use mathlib.Core.Bool.{Bool, true, false, not, _&&_, cond}
 use mathlib.Core.Logic.{_⊎_, inl, inr}
-use mathlib.Core.List.{List, [], _∷_, _++_, map, map-append, append-nil, List·Memᴰ, List·Memᴰ·head, List·Memᴰ·tail}
-use Prim.Native.Nat.{ℕ, zero, suc, pred, _+_, _-_, _*_, _/_, _%_, _^_, _≤_, _<_}
+use mathlib.Core.List.{List, [], _∷_, _++_, map, map-append, append-nil}
+use Prim.Native.Nat.{ℕ, zero, suc, _+_, _-_, _^_, _≤_, _<_}
 use native.Mathlib.Omega.{arith}
-use lib.Dec.{eqb, leb}
+use lib.Dec.{leb}
 use lib.ListN.{length, getD, take, set, length-map, length-append}
 use lib.Pow.{pow-mono}
 use lib.Seq.{take-suc, take-suc-set}
 use borrow.Author.Tests.{leb-true, leb-false}
-use Rattle.lists.specs.Lists.{_among_, upFrom, keep}
-use Rattle.lists.proofs.Laws.{split, true-or-false, and-both, upFrom-mem, keep-mem, upFrom-snoc, length-upFrom}
+use Rattle.lists.specs.Lists.{upFrom}
+use Rattle.lists.proofs.Laws.{split, true-or-false, upFrom-mem, keep-mem, upFrom-snoc, length-upFrom}
 use Rattle.layouts.specs.Layouts.{divides, allowedScheme, allowedN, lg, Name, black, tile, tree, levels, storedOnce, storesBlackOfTree, namesOfDay, chainsOfDay, coveredDays}
 use Rattle.layouts.proofs.AllowedLaws.{allowed-scheme-is, allowed-n-is}
 use Rattle.layouts.proofs.Coverage.{divisor-le}
 use Rattle.layouts.proofs.Counts.{of-power}
 use Rattle.layouts.proofs.Positions.{levels-run}
 use Rattle.chains.specs.declared.Value.{Value}
-use Rattle.chains.specs.Step.{linked, storesBlack, linkedSlots, restarted, current, dayValues, Stepped}
+use Rattle.chains.specs.Step.{linked, storesBlack, linkedSlots, restarted, current, dayValues}
+use Rattle.chains.specs.Private.{Stepped}
 
 -- the names of a day: m of slots, in order, then black where it is a value of its own
 pub record InSlots (s n g : ℕ) : Type 0 where

@@ -1,8 +1,21 @@
--- The form of the code of `link`: the words of the two blocks, made of the words that are hashed.
--- Assumes nothing.
-use Prim.Native.Nat.{ℕ, _+_, _*_, _/_, _%_, _^_}
+-- What private contracts cite: what one day more gives, and the form of the code of `link_words`. Definitions only.
+use mathlib.Core.Path.{_≡_}
 use mathlib.Core.List.{List, [], _∷_}
-use lib.ListN.{getD}
+use Prim.Native.Nat.{ℕ, _+_, _*_, _/_, _%_, _^_}
+use lib.ListN.{length, getD, take}
+use Rattle.layouts.specs.Layouts.{namesOfDay}
+use Rattle.chains.specs.declared.DayStep.{DayStep}
+use Rattle.chains.specs.declared.Value.{Value}
+use Rattle.chains.specs.Step.{linked, linkedSlots, restarted, dayValues}
+
+-- what one more day gives: the running hashes after it, the values of the day at the front of a list, and their number
+pub record Stepped (scheme n g : ℕ) (start b : Value) (slots : List Value) (h : List ℕ) (r : DayStep) : Type 0 where
+  pub black-is : r .black ≡ linked b h
+  pub slots-are : r .slots ≡ restarted scheme n g start (linkedSlots scheme n g h slots)
+  pub count-is : r .count ≡ length (namesOfDay scheme n g)
+  pub values-are : take (r .count) (r .values) ≡ dayValues scheme n g (linked b h) (linkedSlots scheme n g h slots)
+
+-- ---- the two blocks of a link, made of the words that are hashed
 
 -- the word of the last byte of the word a and the first three bytes of the word b
 unfoldable pub across : ℕ → ℕ → ℕ

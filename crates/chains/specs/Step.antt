@@ -1,15 +1,13 @@
 -- The running hashes, and what one more day does to them. Definitions only.
 -- There is one for black and seventeen slots: tile chain c(i) in slot i, or the tree's level l in slot l.
-use mathlib.Core.Path.{_≡_}
 use mathlib.Core.Bool.{Bool, true, false, _&&_, cond}
 use mathlib.Core.List.{List, [], _∷_, _++_, map}
 use Prim.Native.Nat.{ℕ, zero, suc, _^_}
 use lib.Dec.{leb}
-use lib.ListN.{length, getD, take, replicate}
+use lib.ListN.{getD, replicate}
 use Rattle.layouts.specs.Layouts.{divides, lg, Name, black, tile, tree, offset, covers, storesBlackOfTree, namesOfDay}
 use Rattle.sha256.specs.Sha256.{hashed}
 use Rattle.sha256_words.specs.Words.{bytesOf}
-use Rattle.chains.specs.declared.DayStep.{DayStep}
 use Rattle.chains.specs.declared.Value.{Value}
 
 -- the start of a chain, as words
@@ -71,13 +69,6 @@ current b slots (tree l g) = getD slots l b
 -- the values of day g, in book order
 unfoldable pub dayValues : ℕ → ℕ → ℕ → Value → List Value → List Value
 dayValues scheme n g b slots = map (current b slots) (namesOfDay scheme n g)
-
--- what one more day gives: the running hashes after it, the values of the day at the front of a list, and their number
-pub record Stepped (scheme n g : ℕ) (start b : Value) (slots : List Value) (h : List ℕ) (r : DayStep) : Type 0 where
-  pub black-is : r .black ≡ linked b h
-  pub slots-are : r .slots ≡ restarted scheme n g start (linkedSlots scheme n g h slots)
-  pub count-is : r .count ≡ length (namesOfDay scheme n g)
-  pub values-are : take (r .count) (r .values) ≡ dayValues scheme n g (linked b h) (linkedSlots scheme n g h slots)
 
 -- values as bytes, end to end
 unfoldable pub valueBytes : List Value → List ℕ

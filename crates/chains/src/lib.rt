@@ -4,13 +4,12 @@ pub mod link;
 
 ghost use mathlib.Core.Path.{_≡_};
 ghost use mathlib.Core.Bool.{true};
-ghost use mathlib.Core.List.{_++_};
-ghost use Prim.Native.Nat.{_+_, _≤_, _<_, _^_};
-ghost use lib.ListN.{length, take, drop};
+ghost use Prim.Native.Nat.{_+_, _≤_, _<_};
+ghost use lib.ListN.{length, take};
 ghost use Rattle.layouts.specs.Layouts.{allowedScheme, allowedN, namesOfDay};
 ghost use Rattle.chains.specs.Step as spec;
-ghost use Rattle.chains.specs.Step.{startValue, linked, linksSlot, storesSlot, storesBlack, linkSlot};
-ghost use Rattle.chains.specs.Step.{restartSlot, linkedSlots, restarted, dayValues, Stepped};
+ghost use Rattle.chains.specs.Step.{startValue, linked, linksSlot, storesSlot, storesBlack, linkSlot, restartSlot, linkedSlots, restarted, dayValues};
+ghost use Rattle.chains.specs.Private.{Stepped};
 
 pub struct Value {
     pub words: [u32; 8],

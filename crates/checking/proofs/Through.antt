@@ -22,7 +22,8 @@ use Rattle.sha256.proofs.Laws.{sha256-length}
 use Rattle.chains.specs.declared.Value.{Value}
 use Rattle.chains.specs.declared.DayStep.{DayStep}
 use Rattle.chains.specs.Book.{start}
-use Rattle.chains.specs.Step.{startValue, linked, linkedSlots, current, dayValues, Stepped}
+use Rattle.chains.specs.Step.{startValue, linked, linkedSlots, current, dayValues}
+use Rattle.chains.specs.Private.{Stepped}
 use Rattle.chains.proofs.Values.{chainsOfDay-length}
 use Rattle.chains.proofs.Running.{Holds, holds-fresh, holds-next, namesOfDay-right}
 use Rattle.buffers.proofs.Lent.{lent-put, lent-length}

@@ -7,7 +7,7 @@ ghost use mathlib.Core.List.{_∷_, _++_};
 ghost use Prim.Native.Nat.{_+_, _*_, _≤_, _<_};
 ghost use lib.ListN.{length, take, drop};
 ghost use Rattle.evidence.specs.Evidence as lists;
-ghost use Rattle.chains.specs.Step.{Stepped};
+ghost use Rattle.chains.specs.Private.{Stepped};
 ghost use Rattle.layouts.specs.Layouts.{allowedScheme, allowedN, namesOfDay, chains};
 ghost use Rattle.sha256.specs.Sha256.{hashed};
 ghost use Rattle.sha256_words.specs.Words.{bytesOf};

@@ -2,13 +2,13 @@
 use mathlib.Core.Path.{_≡_, refl, sym, ap, _∙_}
 use mathlib.Core.Logic.{_↔_, _⊎_, inl, inr}
 use mathlib.Core.Bool.{Bool, true, false, not, _&&_, _||_, cond}
-use mathlib.Core.List.{List, [], _∷_, map, List·Memᴰ, List·Memᴰ·head, List·Memᴰ·tail, List·Memᴰ·cases-cons, List·Memᴰ·eq-of-singleton}
-use Prim.Native.Nat.{ℕ, zero, suc, _+_, _≤_, _<_}
+use mathlib.Core.List.{List, [], _∷_, List·Memᴰ·head, List·Memᴰ·tail, List·Memᴰ·eq-of-singleton}
+use Prim.Native.Nat.{ℕ}
 use native.Mathlib.Omega.{arith}
 use lib.Dec.{eqb}
-use borrow.Author.Tests.{eqb-true, eqb-false, eq-eqb, not-true}
-use Rattle.lists.specs.Lists.{_among_, has, same, upFrom, keep, Ascends}
-use Rattle.evidence.specs.Statements.{AcceptedIfGiven, ListedIfGiven, AcceptedLists}
+use borrow.Author.Tests.{not-true}
+use Rattle.lists.specs.Lists.{_among_, has, keep, Ascends}
+use Rattle.evidence.specs.Statements.{AcceptedIfGiven, AcceptedLists}
 use Rattle.evidence.specs.Evidence.{days, Within, meets, setOutcome, tableOf, Gives, cleared, listing, accepted}
 use Rattle.lists.proofs.Laws.{split, true-or-false, or-split, or-left, or-right, bool-ext, has-mem, mem-has, same-eq, eq-same, upFrom-mem, upFrom-bounds, keep-mem, mem-keep, keep-congr, keep-ascends, no-mem, mem-nil, map-same}
 

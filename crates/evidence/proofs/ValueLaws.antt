@@ -1,17 +1,17 @@
 -- Laws of values: what equal values say of the days, and that a check against the book of the sealed days finds the
 -- changed days' table. Nothing is assumed of the hash but its length; that two inputs do not collide is a premise, and only
 -- of the inputs hashed.
-use mathlib.Core.Path.{_≡_, refl, sym, ap, _∙_}
+use mathlib.Core.Path.{_≡_, refl, _∙_}
 use mathlib.Core.Logic.{_↔_, _⊎_, inl, inr}
 use mathlib.Core.Bool.{Bool, true, false, not, cond}
-use mathlib.Core.List.{List, [], _∷_, _++_, map, flatMap, append-assoc, List·Memᴰ, List·Memᴰ·head, List·Memᴰ·tail, List·Memᴰ·cases-cons, Memᴰ·append-left, Memᴰ·append-right, Memᴰ·map}
-use Prim.Native.Nat.{ℕ, zero, suc, pred, _+_, _*_, _≤_, _<_}
+use mathlib.Core.List.{List, [], _∷_, _++_, map, flatMap, append-assoc, List·Memᴰ·head, List·Memᴰ·tail, List·Memᴰ·cases-cons, Memᴰ·append-left, Memᴰ·append-right, Memᴰ·map}
+use Prim.Native.Nat.{ℕ, _+_, _*_, _≤_}
 use native.Mathlib.Omega.{arith}
-use lib.ListN.{length, getD, take, drop, length-append}
+use lib.ListN.{length, length-append}
 use lib.Seq.{take-at, drop-at}
 use borrow.Author.Tests.{not-true}
-use Rattle.lists.specs.Lists.{_among_, same, upFrom, keep}
-use Rattle.evidence.specs.Evidence.{days, Within, meets, setOutcome, tableOf, listing, accepted, Gives, dayOf, changed, digest, linkInput, value, values, checkOutcomes, linkInputs, inputs, NoCollision}
+use Rattle.lists.specs.Lists.{_among_, same, keep}
+use Rattle.evidence.specs.Evidence.{days, Within, meets, setOutcome, tableOf, listing, dayOf, changed, digest, linkInput, value, values, checkOutcomes, linkInputs, inputs, NoCollision}
 use Rattle.lists.proofs.Laws.{split, true-or-false, same-eq, eq-same, no-mem, upFrom-mem, upFrom-bounds, keep-mem, mem-keep, map-same}
 use Rattle.evidence.proofs.TableLaws.{meets-of, meets-day, lists-all, lists-exactly, lists-none}
 

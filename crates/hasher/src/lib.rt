@@ -3,7 +3,7 @@ ghost use mathlib.Core.Path.{_≡_};
 ghost use mathlib.Core.List.{[], _∷_, _++_};
 ghost use Prim.Native.Nat.{_+_, _*_, _≤_};
 ghost use lib.ListN.{length, take};
-ghost use Rattle.sha256_words.specs.Words.{words, bytesOf};
+ghost use Rattle.sha256_words.specs.Words.{words};
 ghost use Rattle.sha256.specs.Sha256.{wide, hashed};
 ghost use Rattle.hasher.specs.Hasher as spec;
 ghost use Rattle.hasher.specs.Hasher.{filled};

@@ -2,9 +2,9 @@
 use mathlib.Core.Path.{_≡_, refl, sym, ap, _∙_}
 use mathlib.Core.Logic.{_⊎_, inl, inr}
 use mathlib.Core.Bool.{Bool, true, false, not, _&&_, _||_, cond}
-use mathlib.Core.List.{List, [], _∷_, List·Memᴰ, List·Memᴰ·head, List·Memᴰ·tail}
+use mathlib.Core.List.{List, [], _∷_, List·Memᴰ·head, List·Memᴰ·tail}
 use Prim.Native.Nat.{ℕ, zero, suc, pred, _+_, _-_, _*_, _/_, _%_, _^_, _≤_, _<_}
-use native.Mathlib.Nat.{le-div-iff-mul-le, mod-lt, div-add-mod', mul-assoc, mul-comm, div-le-self, le-trans, mul-le-mul, le-add-right}
+use native.Mathlib.Nat.{le-div-iff-mul-le, mod-lt, div-add-mod', mul-assoc, div-le-self, le-trans, mul-le-mul, le-add-right}
 use native.Mathlib.Omega.{arith}
 use lib.Arith.{digits-mod}
 use lib.Count.{ones, leadingZeros, leading-top, leading-of-zero}
@@ -12,12 +12,12 @@ use lib.Dec.{eqb, leb}
 use lib.ListN.{length, length-map, length-append}
 use lib.Pow.{pow-pos, pow-mono}
 use borrow.Author.Tests.{eqb-true, eq-eqb, leb-true, not-true, not-false}
-use Rattle.lists.specs.Lists.{_among_, has, upFrom}
-use Rattle.lists.proofs.Laws.{split, true-or-false, and-both, bool-ext, has-mem, upFrom-mem}
-use Rattle.refusals.specs.Refusals.{bookLimit, Test, _orRefuse_, firstRefusal}
+use Rattle.lists.specs.Lists.{_among_}
+use Rattle.lists.proofs.Laws.{split, true-or-false, and-both, has-mem, upFrom-mem}
+use Rattle.refusals.specs.Refusals.{bookLimit, _orRefuse_}
 use Rattle.refusals.proofs.TestLaws.{Pass, none-fails, pass-split, refused-before, refused-after}
 use Rattle.layouts.specs.Statements.{ValuesCounted, BookFront}
-use Rattle.layouts.specs.Layouts.{divides, allowedScheme, allowedN, allowedF, allowedD, setupTests, layoutTests, setupRefusal, layoutRefusal, lgIn, lg, Name, black, covers, namesThrough, coveredDays, chainsOfDay, chains, position}
+use Rattle.layouts.specs.Layouts.{divides, allowedScheme, allowedN, allowedF, allowedD, setupTests, layoutTests, setupRefusal, layoutRefusal, lg, black, covers, namesThrough, coveredDays, chainsOfDay, chains, position}
 use Rattle.layouts.proofs.Coverage.{divisor-le, chains-suc, chains-front}
 use Rattle.layouts.proofs.Counts.{lg-unique, ones-small, digits, digits-small, through, count-through, values-length}
 

@@ -1,6 +1,6 @@
 -- Days end to end, with their running totals as ends, are the days of a ledger that passes tests 9 and 10.
-use mathlib.Core.Path.{_≡_, refl, sym, ap, ap₂, _∙_}
-use mathlib.Core.List.{List, [], _∷_, _++_, List·Memᴰ, List·Memᴰ·head, List·Memᴰ·tail}
+use mathlib.Core.Path.{_≡_, refl, ap, ap₂, _∙_}
+use mathlib.Core.List.{List, [], _∷_, _++_, List·Memᴰ·head, List·Memᴰ·tail}
 use Prim.Native.Nat.{ℕ, zero, suc, _+_, _-_, _≤_, _<_}
 use native.Mathlib.Omega.{arith}
 use lib.ListN.{length, getD, take, drop, length-append}
@@ -8,7 +8,7 @@ use lib.Seq.{take-at, drop-at, take-suc, split-at, ext-getD}
 use Rattle.lists.specs.Lists.{_among_, joined}
 use Rattle.lists.proofs.Laws.{joined-append, joined-one, joined-single}
 use Rattle.refusals.specs.Refusals.{dayLimit}
-use Rattle.ledger.specs.Ledger.{startOf, endOf, dayAt, daysOf, endsFrom, endsRefusal, EndsHold}
+use Rattle.ledger.specs.Ledger.{startOf, endOf, dayAt, daysOf, endsFrom, endsRefusal}
 use Rattle.ledger.proofs.EndLaws.{none-refusal}
 use Rattle.ledger.proofs.DayLaws.{days-length, days-at}
 

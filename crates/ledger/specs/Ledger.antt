@@ -1,9 +1,9 @@
 -- A ledger: bytes, and the ends of its days. Definitions only.
 -- Day 1 has the index 0: the day of index i is day i + 1.
-use mathlib.Core.Bool.{Bool, true, _&&_, cond}
+use mathlib.Core.Bool.{Bool, true, _&&_}
 use mathlib.Core.List.{List, [], _∷_, _++_, map}
 use Prim.Native.Nat.{ℕ, zero, suc, _+_, _-_, _≤_, _<_}
-use lib.Dec.{leb, ltb}
+use lib.Dec.{leb}
 use lib.ListN.{length, getD, take, drop}
 use Rattle.refusals.specs.Refusals.{dayLimit, Test, _orRefuse_, firstRefusal}
 

@@ -18,7 +18,7 @@ use Rattle.layouts.proofs.AllowedLaws.{allowed-n-is, allowed-scheme-is}
 use Rattle.layouts.proofs.Coverage.{divisor-le}
 use Rattle.acceptance.specs.Private.{Table, Interval, Chain, passes, levelsRule, rules, blocksRule, tileBit, isListed}
 use Rattle.listing.specs.Private.{Tile, tileDays, treeDays, topDays}
-use Rattle.buffers.specs.Buffers.{Wrote}
+use Rattle.buffers.specs.Private.{Wrote}
 use Rattle.acceptance.proofs.Runs.{keep-length, div-whole}
 use Rattle.listing.proofs.Walks.{run-none, run-all, tile-none, tile-days, tree-days, days-block}
 use Rattle.acceptance.proofs.Steps.{interval-number, interval-end, chain-of}

@@ -1,13 +1,12 @@
 -- What the functions that write the list need: what was written after what, and the walks by their steps.
 use mathlib.Core.Path.{_≡_, refl, sym, ap, _∙_}
 use mathlib.Core.Bool.{Bool, true, false, cond}
-use mathlib.Core.List.{List, [], _∷_, _++_, append-assoc}
+use mathlib.Core.List.{List, [], _∷_, _++_}
 use Prim.Native.Nat.{ℕ, zero, suc, _+_, _-_, _^_, _≤_, _<_}
 use native.Mathlib.Nat.{pow-succ'}
 use native.Mathlib.Omega.{arith}
-use lib.ListN.{length, take, drop, set, length-append, length-drop, take-append-drop}
+use lib.ListN.{length, set, length-append}
 use lib.Pow.{pow-pos}
-use lib.Seq.{length-take-le, take-at, drop-at, drop-drop, set-split}
 use Rattle.lists.specs.Lists.{upFrom}
 use Rattle.layouts.specs.Layouts.{lg, tree}
 use Rattle.layouts.proofs.AllowedLaws.{allowed-n-is}
@@ -15,7 +14,7 @@ use Rattle.lists.proofs.Laws.{upFrom-snoc, length-upFrom}
 use Rattle.acceptance.specs.Private.{Chain, passes}
 use Rattle.buffers.proofs.Writes.{wrote-none, wrote-one, wrote-length, wrote-join}
 use Rattle.listing.specs.Private.{Tile, tileDays, treeDays}
-use Rattle.buffers.specs.Buffers.{Wrote}
+use Rattle.buffers.specs.Private.{Wrote}
 use Rattle.acceptance.proofs.Steps.{chain-left, chain-right, chain-room}
 
 -- ---- a run of days

@@ -1,7 +1,7 @@
 -- What the walks list, and what is written of it. Definitions only; private contracts cite them, and the laws
 -- `tile-days`, `tree-days` and `listing-local` lead them back to 01's listing.
 use mathlib.Core.Path.{_≡_}
-use mathlib.Core.Bool.{Bool, true, false, cond}
+use mathlib.Core.Bool.{Bool, cond}
 use mathlib.Core.List.{List, [], _∷_, _++_}
 use Prim.Native.Nat.{ℕ, zero, suc, _+_, _-_, _*_, _/_, _%_, _^_, _≤_}
 use lib.Dec.{eqb}

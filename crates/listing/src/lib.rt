@@ -10,7 +10,7 @@ ghost use Rattle.layouts.specs.Layouts.{lastDays};
 ghost use Rattle.acceptance.specs.Private as rule;
 ghost use Rattle.acceptance.specs.Private.{Table, Interval, Chain, levelsRule, tileBit, isListed};
 ghost use Rattle.listing.specs.Private.{Tile, tileDays, treeDays, topDays};
-ghost use Rattle.buffers.specs.Buffers.{Wrote};
+ghost use Rattle.buffers.specs.Private.{Wrote};
 
 // The days from first to before end.
 fn run(first: u32, end: u32, list: &mut [u32], at: usize) -> usize

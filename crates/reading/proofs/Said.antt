@@ -21,7 +21,7 @@ use Rattle.reading.specs.declared.Numbers.{Numbers}
 use Rattle.reading.specs.declared.Reading.the-variants.{Clean, Changed, Refused}
 use Rattle.reading.specs.Contract.{reportOf, tableIn, bits, readRefusal, listedIn, found, unlessRefused, reportOn, listAfter}
 use Rattle.acceptance.specs.Private.{Table, rules, isListed}
-use Rattle.buffers.specs.Buffers.{Wrote}
+use Rattle.buffers.specs.Private.{Wrote}
 use Rattle.reading.specs.Private.{numbersOf}
 use Rattle.acceptance.proofs.Runs.{keep-length}
 use Rattle.acceptance.proofs.Accepted.{accepted-rules, listing-isListed}

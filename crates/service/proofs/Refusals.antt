@@ -14,7 +14,8 @@ use Rattle.layouts.specs.Layouts.{allowedScheme, allowedN, unless, orElse, setu
 use Rattle.layouts.proofs.AllowedLaws.{unless-zero, or-else-zero, setup-is}
 use Rattle.chains.specs.declared.Value.{Value}
 use Rattle.chains.specs.declared.DayStep.{DayStep}
-use Rattle.chains.specs.Step.{startValue, linked, linkedSlots, dayValues, Stepped, valueBytes}
+use Rattle.chains.specs.Step.{startValue, linked, linkedSlots, dayValues, valueBytes}
+use Rattle.chains.specs.Private.{Stepped}
 use Rattle.chains.proofs.Values.{day-few, chainsOfDay-length}
 use Rattle.hasher.specs.declared.Hasher.{Hasher}
 use Rattle.hasher.specs.Hasher.{begun}

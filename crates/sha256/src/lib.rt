@@ -1,7 +1,6 @@
 // SHA-256 (FIPS 180-4): schedule, rounds, compression of a block and of the blocks of a list.
 ghost use mathlib.Core.Path.{_≡_};
 ghost use Prim.Native.Nat.{_+_, _≤_, _<_};
-ghost use lib.ListN.{length};
 ghost use Rattle.sha256.specs.Sha256 as spec;
 ghost use Rattle.sha256.specs.Private as form;
 

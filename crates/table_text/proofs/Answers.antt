@@ -20,7 +20,7 @@ use Rattle.reading.specs.declared.Reading.{Reading}
 use Rattle.reading.specs.declared.Reading.the-variants.{Clean, Changed, Refused}
 use Rattle.reading.specs.declared.Numbers.{Numbers}
 use Rattle.reading.proofs.Report.{reportOn-found, list-found}
-use Rattle.buffers.specs.Buffers.{Wrote}
+use Rattle.buffers.specs.Private.{Wrote}
 use Rattle.table_text.specs.Text.{digitOf, digits, lastLine, outcomesIn, unlessFormed, formRefusal, extraRefusal, tableRefusal, textRefusal, decimal, line, noLine, dayLines, lines, report, printed, textOf}
 use Rattle.table_text.specs.Private.{TypedIs, SaidIs}
 use Rattle.table_text.specs.declared.Report.{Report}

@@ -9,7 +9,7 @@ use lib.Dec.{ltb}
 use lib.ListN.{length, getD, set, take, length-append}
 use lib.Seq.{take-all, take-suc, length-take-le}
 use borrow.Author.Tests.{lt-ltb, le-ltb}
-use Rattle.buffers.specs.Buffers.{Wrote}
+use Rattle.buffers.specs.Private.{Wrote}
 use Rattle.buffers.proofs.Writes.{wrote-none, wrote-one, wrote-as, wrote-join}
 use Rattle.table_text.specs.Text.{decimalIn, decimal, commaNumbers, line, refLine, dayLines, lines}
 

@@ -6,7 +6,7 @@ ghost use mathlib.Core.List.{_∷_, [], _++_, map};
 ghost use Prim.Native.Nat.{_+_, _-_, _*_, _≤_, _<_};
 ghost use lib.ListN.{length, take, drop};
 ghost use Rattle.lists.specs.Lists.{same};
-ghost use Rattle.buffers.specs.Buffers.{Wrote};
+ghost use Rattle.buffers.specs.Private.{Wrote};
 ghost use Rattle.reading.specs.Contract.{reportOf};
 ghost use Rattle.table_text.specs.Text as spec;
 ghost use Rattle.table_text.specs.Text.{isDigit, digitOf, digits, isNumber, numberFrom, startsWith, extraRefusal, tableRefusal, decimalIn, decimal, commaNumbers, noLine, dayLines, printed, textOf};

@@ -1,10 +1,8 @@
+-- `acceptance::accepts` meets its contract.
 use Rattle.acceptance.proofs.Steps.{table-as, rules-no, rules-blocks, rules-tree}
 use borrow.Author.Needs.{needs}
 use Rattle.acceptance.proofs.accepts.Statement.{statement}
 use Rattle.acceptance.proofs.accepts.Tie as tie
-
-block-rules-requires : tie.Need-block-rules-requires
-block-rules-requires c κs = search needs
 
 returns : tie.Need-returns
 returns c = rules-no _ _ _ _ (c .before .block-rules .ensures) (c .if1 .taken)
@@ -20,4 +18,4 @@ returns-3 c = rules-tree _ _ _ _ (c .before .before .before .block-rules .ensure
 
 pub accepts-spec : {M : Type 1} → statement M
 accepts-spec =
-    tie.close (tie.spec block-rules-requires returns returns-2 level-rules-requires returns-3)
+    tie.close (tie.spec (λ c. λ κs. search needs) returns returns-2 level-rules-requires returns-3)

@@ -1,3 +1,4 @@
+-- `acceptance::block_rule` meets its contract.
 use Rattle.acceptance.proofs.Steps.{third, interval-as, rule-as}
 use Rattle.acceptance.proofs.block_rule.Statement.{statement}
 use Rattle.acceptance.proofs.block_rule.Tie as tie

@@ -1,3 +1,4 @@
+-- `acceptance::block_rules` meets its contract.
 use Rattle.acceptance.proofs.Steps.{every-next, every-stop, every-done, block-at-by, blocks-by, interval-of, product-fits, count-fits}
 use Rattle.lists.specs.Lists.{every, upFrom}
 use Rattle.acceptance.specs.Private.{blockAt}
@@ -39,9 +40,6 @@ returns c =
     let args = c .before .before .before .before .before .args in
     blocks-by _ _ _ _ (every-stop (blockAt (args .scheme) (args .n) (args .t .now)) 1 (args .d / args .n) (c .before .before .before .loop .k + 1) (omega arith) (omega arith) (block-at-by _ _ _ _ (c .before .block-rule .ensures)) (c .if1 .taken))
 
-loop-less : tie.Need-loop-less Inv-loop μ-loop
-loop-less c = omega arith
-
 loop-again : tie.Need-loop-again Inv-loop μ-loop
 loop-again c =
     let args = c .before .before .before .before .before .args in
@@ -66,6 +64,6 @@ block-rules-spec =
     mul-block-rule
     block-rule-requires
     returns
-    loop-less
+    (λ c. omega arith)
     loop-again
     returns-2)

@@ -1,16 +1,11 @@
+-- `acceptance::halves_rule` meets its contract.
 use Rattle.acceptance.proofs.Steps.{chain-next, chain-room, chain-left, chain-right, halves-by}
 use borrow.Author.Needs.{needs}
 use Rattle.acceptance.proofs.halves_rule.Statement.{statement}
 use Rattle.acceptance.proofs.halves_rule.Tie as tie
 
-add-tree-passes : tie.Need-add-tree-passes
-add-tree-passes c = search needs
-
 tree-passes-requires : tie.Need-tree-passes-requires
 tree-passes-requires c κs = chain-next (c .before .pre)
-
-size-requires : tie.Need-size-requires
-size-requires c κs = search needs
 
 sub-tree-passes : tie.Need-sub-tree-passes
 sub-tree-passes c = chain-room _ (c .before .before .before .pre) (c .size .ensures)
@@ -21,12 +16,6 @@ tree-passes-requires-2 c κs = chain-left _ (c .before .before .before .pre) (c 
 tree-passes-requires-3 : tie.Need-tree-passes-requires-3
 tree-passes-requires-3 c κs = chain-right (c .before .before .before .before .pre)
 
-both-requires : tie.Need-both-requires
-both-requires c κs = search needs
-
-alike-requires : tie.Need-alike-requires
-alike-requires c κs = search needs
-
 returns : tie.Need-returns
 returns c = halves-by _ _ _ _ (c .before .before .before .before .size .ensures) (c .before .before .before .before .before .tree-passes .ensures) (c .before .before .before .tree-passes2 .ensures) (c .before .before .tree-passes3 .ensures) (c .before .both .ensures) (c .alike .ensures)
 
@@ -34,12 +23,12 @@ pub halves-rule-spec : {M : Type 1} → statement M
 halves-rule-spec =
     tie.close
     (tie.spec
-    add-tree-passes
+    (λ c. search needs)
     tree-passes-requires
-    size-requires
+    (λ c. λ κs. search needs)
     sub-tree-passes
     tree-passes-requires-2
     tree-passes-requires-3
-    both-requires
-    alike-requires
+    (λ c. λ κs. search needs)
+    (λ c. λ κs. search needs)
     returns)

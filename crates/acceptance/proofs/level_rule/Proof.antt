@@ -1,3 +1,4 @@
+-- `acceptance::level_rule` meets its contract.
 use Rattle.acceptance.proofs.Steps.{count-fits, every-next, every-stop, every-done, halves-at-by, level-by, chain-next-of, weight-positive, product-fits}
 use Rattle.lists.specs.Lists.{every, upFrom}
 use Rattle.acceptance.specs.Private.{halvesAt}
@@ -14,12 +15,6 @@ Inv-loop n d l t w m k₀ k = (k ≤ m) × (every (halvesAt n t l) (upFrom 1 k) 
 
 abbrev μ-loop : tie.MeasureT-loop
 μ-loop n d l t w m k₀ k = m - k
-
-add-size : tie.Need-add-size Inv-loop μ-loop
-add-size c = search needs
-
-size-requires : tie.Need-size-requires Inv-loop μ-loop
-size-requires c κs = search needs
 
 div-m : tie.Need-div-m Inv-loop μ-loop
 div-m c = weight-positive _ _ (c .size .ensures)
@@ -43,9 +38,6 @@ returns c =
     let args = c .before .before .before .before .before .before .args in
     level-by _ _ _ _ _ (c .before .before .before .before .size .ensures) (every-stop (halvesAt (args .n) (args .t .now) (args .l)) 1 (args .d / c .before .before .before .before .size .result) (c .before .before .before .loop .k + 1) (omega arith) (omega arith) (halves-at-by _ _ _ _ _ (c .before .before .before .before .size .ensures) (c .before .halves-rule .ensures)) (c .if1 .taken))
 
-loop-less : tie.Need-loop-less Inv-loop μ-loop
-loop-less c = omega arith
-
 loop-again : tie.Need-loop-again Inv-loop μ-loop
 loop-again c =
     let args = c .before .before .before .before .before .before .args in
@@ -64,14 +56,14 @@ level-rule-spec =
     (tie.spec
     Inv-loop
     μ-loop
-    add-size
-    size-requires
+    (λ c. search needs)
+    (λ c. λ κs. search needs)
     div-m
     loop-holds
     add-k
     mul-halves-rule
     halves-rule-requires
     returns
-    loop-less
+    (λ c. omega arith)
     loop-again
     returns-2)

@@ -1,3 +1,4 @@
+-- `acceptance::level_rules` meets its contract.
 use Rattle.acceptance.proofs.Steps.{every-next, every-stop, every-done, levels-by}
 use Rattle.lists.specs.Lists.{every, upFrom}
 use Rattle.acceptance.specs.Private.{levelRule}
@@ -25,12 +26,6 @@ returns c =
     let args = c .before .before .before .before .before .args in
     levels-by _ _ _ (every-stop (levelRule (args .n) (args .d) (args .t .now)) 0 16 (c .before .before .before .loop .l) (omega arith) (omega arith) (c .before .level-rule .ensures) (c .if1 .taken))
 
-add-l : tie.Need-add-l Inv-loop μ-loop
-add-l c = omega arith
-
-loop-less : tie.Need-loop-less Inv-loop μ-loop
-loop-less c = omega arith
-
 loop-again : tie.Need-loop-again Inv-loop μ-loop
 loop-again c =
     let args = c .before .before .before .before .before .args in
@@ -52,7 +47,7 @@ level-rules-spec =
     loop-holds
     level-rule-requires
     returns
-    add-l
-    loop-less
+    (λ c. omega arith)
+    (λ c. omega arith)
     loop-again
     returns-2)

@@ -1,3 +1,4 @@
+-- `acceptance::prior` meets its contract.
 use Rattle.acceptance.proofs.Steps.{interval-before, prior-none, prior-some}
 use borrow.Author.Needs.{needs}
 use Rattle.acceptance.proofs.prior.Statement.{statement}
@@ -6,9 +7,6 @@ use Rattle.acceptance.proofs.prior.Tie as tie
 returns : tie.Need-returns
 returns c = prior-none _ _ _ _ (c .if1 .taken)
 
-sub-black-passes : tie.Need-sub-black-passes
-sub-black-passes c = search needs
-
 black-passes-requires : tie.Need-black-passes-requires
 black-passes-requires c κs = interval-before (c .before .before .pre) (c .if1 .left)
 
@@ -16,4 +14,4 @@ returns-2 : tie.Need-returns-2
 returns-2 c = prior-some _ _ _ _ (c .before .if1 .left) (c .black-passes .ensures)
 
 pub prior-spec : {M : Type 1} → statement M
-prior-spec = tie.close (tie.spec returns sub-black-passes black-passes-requires returns-2)
+prior-spec = tie.close (tie.spec returns (λ c. search needs) black-passes-requires returns-2)

@@ -1,3 +1,4 @@
+-- `acceptance::tile_rules` meets its contract.
 use Rattle.acceptance.proofs.Steps.{every-next, every-stop, every-done}
 use Rattle.lists.specs.Lists.{every, upFrom}
 use Rattle.acceptance.specs.Private.{tileRule}
@@ -22,9 +23,6 @@ lg-requires c κs = allowed-n-is _ (c .before .pre .has .n-ok) .some
 loop-holds : tie.Need-loop-holds Inv-loop μ-loop
 loop-holds c = (omega arith, refl)
 
-add-i : tie.Need-add-i Inv-loop μ-loop
-add-i c = omega arith
-
 tile-rule-requires : tie.Need-tile-rule-requires Inv-loop μ-loop
 tile-rule-requires c κs = (c .before .before .before .before .pre, omega (arith, c .before .before .lg .ensures))
 
@@ -32,9 +30,6 @@ returns : tie.Need-returns Inv-loop μ-loop
 returns c =
     let args = c .before .before .before .before .before .before .args in
     every-stop (tileRule (args .n) (args .t .now) (args .g)) 1 (lg (args .n)) (c .before .before .before .loop .i + 1) (omega arith) (omega (arith, c .before .before .before .before .lg .ensures)) (c .before .tile-rule .ensures) (c .if1 .taken)
-
-loop-less : tie.Need-loop-less Inv-loop μ-loop
-loop-less c = omega arith
 
 loop-again : tie.Need-loop-again Inv-loop μ-loop
 loop-again c =
@@ -56,9 +51,9 @@ tile-rules-spec =
     μ-loop
     lg-requires
     loop-holds
-    add-i
+    (λ c. omega arith)
     tile-rule-requires
     returns
-    loop-less
+    (λ c. omega arith)
     loop-again
     returns-2)

@@ -1,21 +1,13 @@
+-- `chains::day_values` meets its contract.
 use Rattle.chains.proofs.Values.{in-slots, values-black, values-plain, black-place}
 use mathlib.Core.Path.{sym, refl, _∙_}
 use borrow.Author.Needs.{needs}
 use Rattle.chains.proofs.day_values.Statement.{statement}
 use Rattle.chains.proofs.day_values.Tie as tie
 
-stores-black-requires : tie.Need-stores-black-requires
-stores-black-requires c κs = search needs
-
 sub-at : tie.Need-sub-at
 sub-at c = let a = c .before .before .args in let p = c .before .before .pre in
     black-place (a .scheme) (a .n) (a .g) (a .black) (a .slots) (search needs) (in-slots (a .scheme) (a .n) (a .g) (p .0) (p .1) (p .2) (p .3)) (a .k) (sym (c .before .stores-black .ensures) ∙ c .if1 .taken) (p .4) .0
-
-cast-at : tie.Need-cast-at
-cast-at c = search needs
-
-mul-r : tie.Need-mul-r
-mul-r c = search needs
 
 array-set-from-r : tie.Need-array-set-from-r
 array-set-from-r c = let a = c .before .before .args in let p = c .before .before .pre in
@@ -32,4 +24,4 @@ returns-2 c = let a = c .before .before .args in let p = c .before .before .pre 
 pub day-values-spec : {M : Type 1} → statement M
 day-values-spec =
     tie.close
-    (tie.spec stores-black-requires sub-at cast-at mul-r array-set-from-r returns returns-2)
+    (tie.spec (λ c. λ κs. search needs) sub-at (λ c. search needs) (λ c. search needs) array-set-from-r returns returns-2)

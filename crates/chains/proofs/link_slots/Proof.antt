@@ -1,9 +1,10 @@
+-- `chains::link_slots` meets its contract.
 use Prim.Native.Nat.{_-_, _≤_}
 use mathlib.Core.Path.{_≡_, refl}
 use lib.ListN.{length}
 use borrow.Author.Needs.{needs}
-use Rattle.chains.specs.Step.{linkSlot, restartSlot}
-use Rattle.chains.proofs.Slots.{upto, upto-next, linked-done, restarted-done}
+use Rattle.chains.specs.Step.{linkSlot}
+use Rattle.chains.proofs.Slots.{upto, upto-next, linked-done}
 use Rattle.chains.proofs.link_slots.Statement.{statement}
 use Rattle.chains.proofs.link_slots.Tie as tie
 
@@ -15,27 +16,6 @@ abbrev μ-loop : tie.MeasureT-loop
 
 loop-holds : tie.Need-loop-holds Inv-loop μ-loop
 loop-holds c = (search needs, search needs, refl)
-
-mul-v : tie.Need-mul-v Inv-loop μ-loop
-mul-v c = search needs
-
-array-copy-out-v : tie.Need-array-copy-out-v Inv-loop μ-loop
-array-copy-out-v c = search needs
-
-slot-linked-requires : tie.Need-slot-linked-requires Inv-loop μ-loop
-slot-linked-requires c κs = search needs
-
-mul-r : tie.Need-mul-r Inv-loop μ-loop
-mul-r c = search needs
-
-array-set-from-r : tie.Need-array-set-from-r Inv-loop μ-loop
-array-set-from-r c = search needs
-
-add-i : tie.Need-add-i Inv-loop μ-loop
-add-i c = search needs
-
-loop-less : tie.Need-loop-less Inv-loop μ-loop
-loop-less c = search needs
 
 loop-again : tie.Need-loop-again Inv-loop μ-loop
 loop-again c = (search needs, search needs, upto-next _ _ _ _ _ _ (c .before .before .before .loop .inv .2) (c .slot-linked .ensures) (search needs))
@@ -50,12 +30,12 @@ link-slots-spec =
     Inv-loop
     μ-loop
     loop-holds
-    mul-v
-    array-copy-out-v
-    slot-linked-requires
-    mul-r
-    array-set-from-r
-    add-i
-    loop-less
+    (λ c. search needs)
+    (λ c. search needs)
+    (λ c. λ κs. search needs)
+    (λ c. search needs)
+    (λ c. search needs)
+    (λ c. search needs)
+    (λ c. search needs)
     loop-again
     returns)

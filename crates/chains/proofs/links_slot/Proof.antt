@@ -1,3 +1,4 @@
+-- `chains::links_slot` meets its contract.
 use Rattle.chains.proofs.Slots.{links-above, links-tile, links-other}
 use Rattle.layouts.proofs.AllowedLaws.{allowed-n-is}
 use native.Mathlib.Nat.{mod-lt}
@@ -10,9 +11,6 @@ lg-requires c κs = allowed-n-is _ (c .before .pre .0) .some
 
 returns : tie.Need-returns
 returns c = links-above _ _ _ _ _ (c .before .before .if1 .taken) (c .before .lg .ensures) (c .if2 .taken)
-
-sub-covers : tie.Need-sub-covers
-sub-covers c = search needs
 
 rem-covers : tie.Need-rem-covers
 rem-covers c = allowed-n-is _ (c .before .before .before .pre .0) .some
@@ -29,4 +27,4 @@ returns-3 c = links-other _ _ _ _ (c .if1 .left)
 pub links-slot-spec : {M : Type 1} → statement M
 links-slot-spec =
     tie.close
-    (tie.spec lg-requires returns sub-covers rem-covers covers-requires returns-2 returns-3)
+    (tie.spec lg-requires returns (λ c. search needs) rem-covers covers-requires returns-2 returns-3)

@@ -1,16 +1,8 @@
+-- `chains::slot_linked` meets its contract.
 use mathlib.Core.Path.{sym, _∙_}
 use borrow.Author.Needs.{needs}
 use Rattle.chains.proofs.slot_linked.Statement.{statement}
 use Rattle.chains.proofs.slot_linked.Tie as tie
-
-cast-links-slot : tie.Need-cast-links-slot
-cast-links-slot c = search needs
-
-links-slot-requires : tie.Need-links-slot-requires
-links-slot-requires c κs = search needs
-
-link-value-requires : tie.Need-link-value-requires
-link-value-requires c κs = search needs
 
 returns : tie.Need-returns
 returns c = rw (sym (c .before .before .links-slot .ensures) ∙ c .before .if1 .taken) (c .link-value .ensures)
@@ -20,4 +12,4 @@ returns-2 c = rw (sym (c .before .links-slot .ensures) ∙ c .if1 .left)
 
 pub slot-linked-spec : {M : Type 1} → statement M
 slot-linked-spec =
-    tie.close (tie.spec cast-links-slot links-slot-requires link-value-requires returns returns-2)
+    tie.close (tie.spec (λ c. search needs) (λ c. λ κs. search needs) (λ c. λ κs. search needs) returns returns-2)

@@ -1,3 +1,4 @@
+-- `chains::start` meets its contract.
 use Rattle.chains.specs.Step.{startValue}
 use mathlib.Core.Path.{refl}
 use Rattle.chains.proofs.start.Statement.{statement}

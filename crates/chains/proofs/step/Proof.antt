@@ -1,23 +1,12 @@
+-- `chains::step` meets its contract.
 use Rattle.chains.proofs.Values.{stepped, chainsOfDay-length}
 use mathlib.Core.Path.{_∙_}
 use borrow.Author.Needs.{needs}
 use Rattle.chains.proofs.step.Statement.{statement}
 use Rattle.chains.proofs.step.Tie as tie
 
-link-value-requires : tie.Need-link-value-requires
-link-value-requires c κs = search needs
-
-link-slots-requires : tie.Need-link-slots-requires
-link-slots-requires c κs = search needs
-
-values-of-day-requires : tie.Need-values-of-day-requires
-values-of-day-requires c κs = search needs
-
 day-values-requires : tie.Need-day-values-requires
 day-values-requires c κs = let p = c .before .before .before .pre in (p .0, p .1, p .2, p .3, c .values-of-day .ensures ∙ chainsOfDay-length _ _ _)
-
-restart-slots-requires : tie.Need-restart-slots-requires
-restart-slots-requires c κs = search needs
 
 returns : tie.Need-returns
 returns c = let a = c .before .before .before .before .before .args in
@@ -27,9 +16,9 @@ pub step-spec : {M : Type 1} → statement M
 step-spec =
     tie.close
     (tie.spec
-    link-value-requires
-    link-slots-requires
-    values-of-day-requires
+    (λ c. λ κs. search needs)
+    (λ c. λ κs. search needs)
+    (λ c. λ κs. search needs)
     day-values-requires
-    restart-slots-requires
+    (λ c. λ κs. search needs)
     returns)

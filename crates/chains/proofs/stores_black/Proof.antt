@@ -1,3 +1,4 @@
+-- `chains::stores_black` meets its contract.
 use Rattle.chains.proofs.Slots.{black-off, black-on, black-tree, lg-day}
 use Rattle.layouts.proofs.AllowedLaws.{allowed-n-is}
 use borrow.Author.Needs.{needs}
@@ -13,9 +14,6 @@ returns c = black-off (c .before .args .scheme) (c .before .args .n) (c .before 
 returns-2 : tie.Need-returns-2
 returns-2 c = black-on (c .before .before .args .scheme) (c .before .before .args .n) (c .before .before .args .g) (c .before .before .pre .0) (c .before .if1 .left) (c .if2 .taken)
 
-lg-requires : tie.Need-lg-requires
-lg-requires c κs = search needs
-
 size-requires : tie.Need-size-requires
 size-requires c κs = lg-day _ _ (c .before .before .before .pre .2) (c .before .before .before .pre .3) (c .lg .ensures)
 
@@ -24,4 +22,4 @@ returns-3 c = black-tree (c .before .before .before .before .args .scheme) (c .b
 
 pub stores-black-spec : {M : Type 1} → statement M
 stores-black-spec =
-    tie.close (tie.spec rem-if1 returns returns-2 lg-requires size-requires returns-3)
+    tie.close (tie.spec rem-if1 returns returns-2 (λ c. λ κs. search needs) size-requires returns-3)

@@ -1,3 +1,4 @@
+-- `chains::stores_slot` meets its contract.
 use Rattle.chains.proofs.Slots.{stores-above, stores-tile, stores-tree, stores-none}
 use Rattle.layouts.proofs.AllowedLaws.{allowed-n-is}
 use lib.Pow.{pow-pos}
@@ -17,9 +18,6 @@ rem-result c = allowed-n-is _ (c .before .before .before .pre .0) .some
 returns-2 : tie.Need-returns-2
 returns-2 c = stores-tile _ _ _ _ _ (c .before .before .if1 .taken) (c .before .lg .ensures) (c .if2 .left)
 
-size-requires : tie.Need-size-requires
-size-requires c κs = search needs
-
 rem-result-2 : tie.Need-rem-result-2
 rem-result-2 c = rw (c .size .ensures) (pow-pos _)
 
@@ -37,7 +35,7 @@ stores-slot-spec =
     returns
     rem-result
     returns-2
-    size-requires
+    (λ c. λ κs. search needs)
     rem-result-2
     returns-3
     returns-4)

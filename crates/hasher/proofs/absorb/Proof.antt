@@ -8,17 +8,8 @@ use borrow.Author.Needs.{needs}
 use Rattle.hasher.proofs.absorb.Statement.{statement}
 use Rattle.hasher.proofs.absorb.Tie as tie
 
-onward-requires : tie.Need-onward-requires
-onward-requires c κs = search needs
-
 returns : tie.Need-returns
 returns c = absorb-none _ _ (c .before .before .before .before .before .args .count) _ (c .onward .ensures) (omega arith)
-
-sub-room : tie.Need-sub-room
-sub-room c = search needs
-
-fill-requires : tie.Need-fill-requires
-fill-requires c κs = search needs
 
 returns-2 : tie.Need-returns-2
 returns-2 c = absorb-short (c .before .before .before .before .before .before .args .st) _ _ (c .before .before .before .before .before .before .args .count) (c .fill .ensures) (search needs) (omega arith)
@@ -29,24 +20,6 @@ slice-aggregate-fill c = sym (length-take-le (64 - c .before .before .before .be
 fill-requires-2 : tie.Need-fill-requires-2
 fill-requires-2 c κs = rw (length-take-le (64 - c .before .before .before .before .before .before .args .count % 64) (c .before .before .before .before .before .before .args .s .now) (omega arith)) (omega arith)
 
-slice-aggregate-blocks : tie.Need-slice-aggregate-blocks
-slice-aggregate-blocks c = search needs
-
-blocks-requires : tie.Need-blocks-requires
-blocks-requires c κs = search needs
-
-sub-onward : tie.Need-sub-onward
-sub-onward c = search needs
-
-part-onward-start : tie.Need-part-onward-start
-part-onward-start c = search needs
-
-part-onward-end : tie.Need-part-onward-end
-part-onward-end c = search needs
-
-onward-requires-2 : tie.Need-onward-requires-2
-onward-requires-2 c κs = search needs
-
 returns-3 : tie.Need-returns-3
 returns-3 c = absorb-long (c .before .before .before .before .before .before .before .before .before .before .before .args .st) _ (c .before .before .before .before .before .before .before .before .before .before .before .args .s .now) _ _ (c .before .before .before .before .before .before .before .before .before .before .before .args .count) (c .before .before .before .before .fill2 .ensures) (c .before .before .blocks2 .ensures) (c .onward2 .ensures) (search needs) (omega arith)
 
@@ -54,17 +27,17 @@ pub absorb-spec : {M : Type 1} → statement M
 absorb-spec =
     tie.close
     (tie.spec
-    onward-requires
+    (λ c. λ κs. search needs)
     returns
-    sub-room
-    fill-requires
+    (λ c. search needs)
+    (λ c. λ κs. search needs)
     returns-2
     slice-aggregate-fill
     fill-requires-2
-    slice-aggregate-blocks
-    blocks-requires
-    sub-onward
-    part-onward-start
-    part-onward-end
-    onward-requires-2
+    (λ c. search needs)
+    (λ c. λ κs. search needs)
+    (λ c. search needs)
+    (λ c. search needs)
+    (λ c. search needs)
+    (λ c. λ κs. search needs)
     returns-3)

@@ -4,11 +4,8 @@ use borrow.Author.Needs.{needs}
 use Rattle.hasher.proofs.empty.Statement.{statement}
 use Rattle.hasher.proofs.empty.Tie as tie
 
-initial-requires : tie.Need-initial-requires
-initial-requires c κs = search needs
-
 returns : tie.Need-returns
 returns c = empty-of _ (c .initial .ensures)
 
 pub empty-spec : {M : Type 1} → statement M
-empty-spec = tie.close (tie.spec initial-requires returns)
+empty-spec = tie.close (tie.spec (λ c. λ κs. search needs) returns)

@@ -25,38 +25,11 @@ abbrev μ-loop2 : tie.MeasureT-loop2
 loop-holds : tie.Need-loop-holds Inv-loop μ-loop Inv-loop2 μ-loop2
 loop-holds c = (search needs, search needs, filled-none)
 
-array-read-r : tie.Need-array-read-r Inv-loop μ-loop Inv-loop2 μ-loop2
-array-read-r c = search needs
-
-array-write-r : tie.Need-array-write-r Inv-loop μ-loop Inv-loop2 μ-loop2
-array-write-r c = search needs
-
-add-i : tie.Need-add-i Inv-loop μ-loop Inv-loop2 μ-loop2
-add-i c = search needs
-
-loop-less : tie.Need-loop-less Inv-loop μ-loop Inv-loop2 μ-loop2
-loop-less c = search needs
-
 loop-again : tie.Need-loop-again Inv-loop μ-loop Inv-loop2 μ-loop2
 loop-again c = (search needs, search needs, fill-first _ _ _ (let lb : length (c .before .before .args .t1) ≡ 64 = search needs in omega arith) (omega arith) (c .before .loop .inv .2))
 
 loop2-holds : tie.Need-loop2-holds Inv-loop μ-loop Inv-loop2 μ-loop2
 loop2-holds c = (search needs, search needs, fill-begin (c .before .before .args .t1) (c .before .loop .r) (c .before .before .args .at) (c .before .loop .i) (omega arith) (let lb : length (c .before .before .args .t1) ≡ 64 = search needs in omega arith) (c .before .loop .inv .2))
-
-shared-slice-read-r : tie.Need-shared-slice-read-r Inv-loop μ-loop Inv-loop2 μ-loop2
-shared-slice-read-r c = search needs
-
-add-r : tie.Need-add-r Inv-loop μ-loop Inv-loop2 μ-loop2
-add-r c = search needs
-
-array-write-r-2 : tie.Need-array-write-r-2 Inv-loop μ-loop Inv-loop2 μ-loop2
-array-write-r-2 c = search needs
-
-add-j : tie.Need-add-j Inv-loop μ-loop Inv-loop2 μ-loop2
-add-j c = search needs
-
-loop2-less : tie.Need-loop2-less Inv-loop μ-loop Inv-loop2 μ-loop2
-loop2-less c = search needs
 
 loop2-again : tie.Need-loop2-again Inv-loop μ-loop Inv-loop2 μ-loop2
 loop2-again c = (search needs, search needs, fill-second _ _ _ _ _ (omega arith) (omega arith) (omega arith) (c .before .before .loop2 .inv .2))
@@ -73,16 +46,16 @@ fill-spec =
     Inv-loop2
     μ-loop2
     loop-holds
-    array-read-r
-    array-write-r
-    add-i
-    loop-less
+    (λ c. search needs)
+    (λ c. search needs)
+    (λ c. search needs)
+    (λ c. search needs)
     loop-again
     loop2-holds
-    shared-slice-read-r
-    add-r
-    array-write-r-2
-    add-j
-    loop2-less
+    (λ c. search needs)
+    (λ c. search needs)
+    (λ c. search needs)
+    (λ c. search needs)
+    (λ c. search needs)
     loop2-again
     returns)

@@ -1,3 +1,4 @@
+-- `layouts::allowed_d` meets its contract.
 use native.Mathlib.Nat.{mul-le-mul, mul-pos}
 use native.Mathlib.Omega.{arith}
 use borrow.Author.Tests.{lt-leb, le-leb}

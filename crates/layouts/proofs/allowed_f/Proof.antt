@@ -1,3 +1,4 @@
+-- `layouts::allowed_f` meets its contract.
 use borrow.Author.Tests.{lt-leb, le-leb, eq-eqb, ne-eqb}
 use Rattle.layouts.proofs.allowed_f.Statement.{statement}
 use Rattle.layouts.proofs.allowed_f.Tie as tie

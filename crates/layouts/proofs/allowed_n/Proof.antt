@@ -1,3 +1,4 @@
+-- `layouts::allowed_n` meets its contract.
 use Rattle.layouts.proofs.AllowedLaws.{one-bit, too-large}
 use Rattle.layouts.proofs.allowed_n.Statement.{statement}
 use Rattle.layouts.proofs.allowed_n.Tie as tie

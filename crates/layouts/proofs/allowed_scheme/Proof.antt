@@ -1,3 +1,4 @@
+-- `layouts::allowed_scheme` meets its contract.
 use borrow.Author.Tests.{lt-leb, le-leb}
 use Rattle.layouts.proofs.allowed_scheme.Statement.{statement}
 use Rattle.layouts.proofs.allowed_scheme.Tie as tie

@@ -1,8 +1,8 @@
+-- `layouts::intervals` meets its contract.
 use Prim.Native.Nat.{ℕ, _/_, _^_}
 use mathlib.Core.Path.{sym, ap, _∙_}
 use native.Mathlib.Omega.{arith}
 use Rattle.layouts.proofs.AllowedLaws.{allowed-n-is}
-use borrow.Author.Needs.{needs}
 use Rattle.layouts.proofs.intervals.Statement.{statement}
 use Rattle.layouts.proofs.intervals.Tie as tie
 

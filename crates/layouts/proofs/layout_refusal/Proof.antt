@@ -1,11 +1,9 @@
+-- `layouts::layout_refusal` meets its contract.
 use Rattle.layouts.proofs.AllowedLaws.{setup-bounds, layout-early, layout-7, layout-0}
 use mathlib.Core.Path.{sym, _∙_}
 use borrow.Author.Needs.{needs}
 use Rattle.layouts.proofs.layout_refusal.Statement.{statement}
 use Rattle.layouts.proofs.layout_refusal.Tie as tie
-
-setup-refusal-requires : tie.Need-setup-refusal-requires
-setup-refusal-requires c κs = search needs
 
 returns : tie.Need-returns
 returns c = layout-early _ _ _ _ _ (c .before .setup-refusal .ensures) (c .if1 .taken)
@@ -21,4 +19,4 @@ returns-3 c = layout-0 _ _ _ _ (c .before .before .before .setup-refusal .ensure
 
 pub layout-refusal-spec : {M : Type 1} → statement M
 layout-refusal-spec =
-    tie.close (tie.spec setup-refusal-requires returns allowed-d-requires returns-2 returns-3)
+    tie.close (tie.spec (λ c. λ κs. search needs) returns allowed-d-requires returns-2 returns-3)

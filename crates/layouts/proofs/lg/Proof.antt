@@ -1,3 +1,4 @@
+-- `layouts::lg` meets its contract.
 use Rattle.layouts.proofs.AllowedLaws.{lg-leading}
 use Rattle.layouts.proofs.lg.Statement.{statement}
 use Rattle.layouts.proofs.lg.Tie as tie

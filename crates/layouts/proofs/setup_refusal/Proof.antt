@@ -1,22 +1,14 @@
+-- `layouts::setup_refusal` meets its contract.
 use Rattle.layouts.proofs.AllowedLaws.{setup-1, setup-2, setup-3, setup-0}
 use borrow.Author.Needs.{needs}
 use Rattle.layouts.proofs.setup_refusal.Statement.{statement}
 use Rattle.layouts.proofs.setup_refusal.Tie as tie
 
-allowed-scheme-requires : tie.Need-allowed-scheme-requires
-allowed-scheme-requires c κs = search needs
-
 returns : tie.Need-returns
 returns c = setup-1 _ _ _ (c .before .allowed-scheme .ensures) (c .if1 .taken)
 
-allowed-n-requires : tie.Need-allowed-n-requires
-allowed-n-requires c κs = search needs
-
 returns-2 : tie.Need-returns-2
 returns-2 c = setup-2 _ _ _ (c .before .before .before .allowed-scheme .ensures) (c .before .before .if1 .left) (c .before .allowed-n .ensures) (c .if2 .taken)
-
-allowed-f-requires : tie.Need-allowed-f-requires
-allowed-f-requires c κs = search needs
 
 returns-3 : tie.Need-returns-3
 returns-3 c = setup-3 _ _ _ (c .before .before .before .before .before .allowed-scheme .ensures) (c .before .before .before .before .if1 .left) (c .before .before .before .allowed-n .ensures) (c .before .before .if2 .left) (c .before .allowed-f .ensures) (c .if3 .taken)
@@ -28,10 +20,10 @@ pub setup-refusal-spec : {M : Type 1} → statement M
 setup-refusal-spec =
     tie.close
     (tie.spec
-    allowed-scheme-requires
+    (λ c. λ κs. search needs)
     returns
-    allowed-n-requires
+    (λ c. λ κs. search needs)
     returns-2
-    allowed-f-requires
+    (λ c. λ κs. search needs)
     returns-3
     returns-4)

@@ -1,3 +1,4 @@
+-- `layouts::size` meets its contract.
 use lib.Pow.{pow-mono}
 use native.Mathlib.Omega.{arith}
 use native.Mathlib.Nat.{mod-eq-of-lt}
@@ -10,11 +11,8 @@ use Rattle.layouts.proofs.size.Tie as tie
 fits : (l : ℕ) → l ≤ 16 → 1 * 2 ^ l % 4294967296 ≡ 2 ^ l
 fits l h = let p : 2 ^ l ≤ 2 ^ 16 = pow-mono h in let e : 1 * 2 ^ l ≡ 2 ^ l = omega arith in rw e (mod-eq-of-lt (omega arith))
 
-shl-result : tie.Need-shl-result
-shl-result c = search needs
-
 returns : tie.Need-returns
 returns c = fits _ (c .pre)
 
 pub size-spec : {M : Type 1} → statement M
-size-spec = tie.close (tie.spec shl-result returns)
+size-spec = tie.close (tie.spec (λ c. search needs) returns)

@@ -1,13 +1,8 @@
+-- `layouts::tree_through` meets its contract.
 use Rattle.layouts.proofs.AllowedLaws.{tree-sum-is}
 use borrow.Author.Needs.{needs}
 use Rattle.layouts.proofs.tree_through.Statement.{statement}
 use Rattle.layouts.proofs.tree_through.Tie as tie
-
-intervals-requires : tie.Need-intervals-requires
-intervals-requires c κs = search needs
-
-mul-result : tie.Need-mul-result
-mul-result c = search needs
 
 sub-result : tie.Need-sub-result
 sub-result c = tree-sum-is (c .before .args .n) (c .before .args .g) (c .before .pre .0) (c .before .pre .1) .first
@@ -28,8 +23,8 @@ pub tree-through-spec : {M : Type 1} → statement M
 tree-through-spec =
     tie.close
     (tie.spec
-    intervals-requires
-    mul-result
+    (λ c. λ κs. search needs)
+    (λ c. search needs)
     sub-result
     add-result
     sub-result-2

@@ -1,3 +1,4 @@
+-- `layouts::values_through` meets its contract.
 use Prim.Native.Nat.{ℕ, _+_, _*_}
 use mathlib.Core.Path.{ap, _∙_}
 use Rattle.layouts.proofs.AllowedLaws.{lg-fits, allowed-n-is, tile-bound, through-1, through-2, through-3}
@@ -5,14 +6,8 @@ use borrow.Author.Needs.{needs}
 use Rattle.layouts.proofs.values_through.Statement.{statement}
 use Rattle.layouts.proofs.values_through.Tie as tie
 
-intervals-requires : tie.Need-intervals-requires
-intervals-requires c κs = search needs
-
 returns : tie.Need-returns
 returns c = c .intervals .ensures ∙ through-1 _ _ _ (c .before .if1 .taken) (c .before .before .pre .1)
-
-intervals-requires-2 : tie.Need-intervals-requires-2
-intervals-requires-2 c κs = search needs
 
 lg-requires : tie.Need-lg-requires
 lg-requires c κs = allowed-n-is _ (c .before .before .before .pre .1) .some
@@ -26,9 +21,6 @@ mul-result c = record { fits = rw (c .before .intervals2 .ensures, c .lg .ensure
 returns-2 : tie.Need-returns-2
 returns-2 c = ap (λ (x : ℕ). x * (2 + c .lg .result)) (c .before .intervals2 .ensures) ∙ through-2 _ _ _ _ (c .before .before .if2 .taken) (c .before .before .before .before .pre .1) (c .lg .ensures)
 
-tree-through-requires : tie.Need-tree-through-requires
-tree-through-requires c κs = search needs
-
 returns-3 : tie.Need-returns-3
 returns-3 c = through-3 _ _ _ _ (c .before .before .before .pre .0) (c .before .before .if1 .left) (c .before .if2 .left) (c .tree-through .ensures)
 
@@ -36,12 +28,12 @@ pub values-through-spec : {M : Type 1} → statement M
 values-through-spec =
     tie.close
     (tie.spec
-    intervals-requires
+    (λ c. λ κs. search needs)
     returns
-    intervals-requires-2
+    (λ c. λ κs. search needs)
     lg-requires
     add-result
     mul-result
     returns-2
-    tree-through-requires
+    (λ c. λ κs. search needs)
     returns-3)

@@ -16,32 +16,14 @@ Inv-loop d ends size days i₀ i = (i ≤ days) × (goodEnds i ends size ≡ tru
 abbrev μ-loop : tie.MeasureT-loop
 μ-loop d ends size days i₀ i = days - i
 
-wide-requires : tie.Need-wide-requires Inv-loop μ-loop
-wide-requires c κs = search needs
-
 returns : tie.Need-returns Inv-loop μ-loop
 returns c = sym (refusal-9 _ _ _ (omega arith))
 
 loop-holds : tie.Need-loop-holds Inv-loop μ-loop
 loop-holds c = (search needs, refl)
 
-start-of-requires : tie.Need-start-of-requires Inv-loop μ-loop
-start-of-requires c κs = search needs
-
-end-of-requires : tie.Need-end-of-requires Inv-loop μ-loop
-end-of-requires c κs = search needs
-
-good-end-requires : tie.Need-good-end-requires Inv-loop μ-loop
-good-end-requires c κs = search needs
-
 returns-2 : tie.Need-returns-2 Inv-loop μ-loop
 returns-2 c = sym (test-bad _ _ _ _ _ _ (c .before .before .before .start-of .ensures) (c .before .before .end-of .ensures) (c .before .good-end .ensures) (not-true _ (c .if2 .taken)) _ (omega arith) (omega arith))
-
-add-i : tie.Need-add-i Inv-loop μ-loop
-add-i c = search needs
-
-loop-less : tie.Need-loop-less Inv-loop μ-loop
-loop-less c = search needs
 
 loop-again : tie.Need-loop-again Inv-loop μ-loop
 loop-again c = (search needs, test-good (c .before .before .before .before .before .before .before .before .before .args .ends .now) _ (c .before .before .before .before .before .loop .i) _ _ _ (c .before .before .before .start-of .ensures) (c .before .before .end-of .ensures) (c .before .good-end .ensures) (not-false _ (c .if2 .left)) (c .before .before .before .before .before .loop .inv .1))
@@ -55,14 +37,14 @@ ends-refusal-spec =
     (tie.spec
     Inv-loop
     μ-loop
-    wide-requires
+    (λ c. λ κs. search needs)
     returns
     loop-holds
-    start-of-requires
-    end-of-requires
-    good-end-requires
+    (λ c. λ κs. search needs)
+    (λ c. λ κs. search needs)
+    (λ c. λ κs. search needs)
     returns-2
-    add-i
-    loop-less
+    (λ c. search needs)
+    (λ c. search needs)
     loop-again
     returns-3)

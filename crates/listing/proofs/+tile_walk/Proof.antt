@@ -1,3 +1,4 @@
+-- `listing::tile_walk` meets its contract.
 use Rattle.buffers.proofs.Writes.{wrote-one, wrote-as}
 use Rattle.listing.proofs.Writes.{tile-day, tile-upper, level-less, level-some, place-one, left-place, lower-tile, upper-tile, tile-sum, tile-small, tile-level, tile-right-place, tile-join}
 use Rattle.acceptance.specs.Private.{tileBit}

@@ -1,3 +1,4 @@
+-- `listing::walk` meets its contract.
 use Rattle.buffers.proofs.Writes.{wrote-none, wrote-one}
 use Rattle.listing.proofs.Writes.{tree-none, tree-day, level-less, level-some, place-one, left-room, left-chain, right-chain, left-place, tree-right-place, tree-join}
 use borrow.Author.Needs.{needs}

@@ -1,3 +1,4 @@
+-- `listing::interval_days` meets its contract.
 use Rattle.layouts.specs.Layouts.{lastDays}
 use Rattle.listing.proofs.Lists.{second, isListed-as}
 use Rattle.buffers.proofs.Writes.{wrote-as}
@@ -9,9 +10,6 @@ use Rattle.listing.proofs.interval_days.Tie as tie
 black-days-requires : tie.Need-black-days-requires
 black-days-requires c κs = (interval-as 1 (c .before .if1 .taken) (c .before .before .before .before .pre .0), c .before .before .before .before .pre .1)
 
-same-length : tie.Need-same-length
-same-length c = search needs
-
 returns : tie.Need-returns
 returns c =
     let args = c .before .before .before .before .before .before .before .args in
@@ -22,9 +20,6 @@ tile-days-requires c κs =
     let pre = c .before .before .before .before .pre in
     (interval-as 2 (second _ (pre .0 .has .scheme-ok) (pre .2) (c .before .if1 .left)) (pre .0), pre .1)
 
-same-length-2 : tie.Need-same-length-2
-same-length-2 c = search needs
-
 returns-2 : tie.Need-returns-2
 returns-2 c =
     let args = c .before .before .before .before .before .before .before .args in
@@ -34,4 +29,4 @@ returns-2 c =
 pub interval-days-spec : {M : Type 1} → statement M
 interval-days-spec =
     tie.close
-    (tie.spec black-days-requires same-length returns tile-days-requires same-length-2 returns-2)
+    (tie.spec black-days-requires (λ c. search needs) returns tile-days-requires (λ c. search needs) returns-2)

@@ -1,7 +1,8 @@
+-- `listing::interval_walk` meets its contract.
 use Rattle.listing.proofs.Lists.{none-yet, so-far-length, next-place, next-interval, all-intervals}
 use Rattle.acceptance.proofs.Steps.{interval-of, interval-end, count-fits, product-fits}
 use Rattle.acceptance.specs.Private.{isListed}
-use Rattle.buffers.specs.Buffers.{Wrote}
+use Rattle.buffers.specs.Private.{Wrote}
 use Rattle.layouts.proofs.AllowedLaws.{allowed-n-is}
 use Rattle.evidence.specs.Evidence.{days}
 use Rattle.lists.specs.Lists.{keep}
@@ -42,9 +43,6 @@ interval-days-requires c κs =
     let pre = c .before .before .before .before .before .pre in
     (interval-of _ (pre .0) (omega arith) (omega arith), next-place (isListed (args .scheme) (args .n) (args .t .now)) (args .n) (args .d) (loop .k) (loop .at) (args .list .now) (loop .list) (c .before .loop-test .taken) (pre .1) (loop .inv .1), pre .2)
 
-loop-less : tie.Need-loop-less Inv-loop μ-loop
-loop-less c = omega arith
-
 loop-again : tie.Need-loop-again Inv-loop μ-loop
 loop-again c =
     let args = c .before .before .before .before .before .before .before .before .args in
@@ -74,7 +72,7 @@ interval-walk-spec =
     add-k
     mul-interval-days
     interval-days-requires
-    loop-less
+    (λ c. omega arith)
     loop-again
     same-length
     returns)

@@ -1,3 +1,4 @@
+-- `listing::listed` meets its contract.
 use Rattle.listing.proofs.Lists.{isListed-as, below-third, rules-levels}
 use Rattle.buffers.proofs.Writes.{wrote-as}
 use Rattle.acceptance.proofs.Steps.{table-as}
@@ -11,9 +12,6 @@ tree-walk-requires c κs =
     let pre = c .before .before .before .before .pre in
     (table-as 3 (c .before .if1 .taken) (pre .0), pre .1, rules-levels _ _ _ _ (c .before .if1 .taken) (pre .2))
 
-same-length : tie.Need-same-length
-same-length c = search needs
-
 returns : tie.Need-returns
 returns c =
     let args = c .before .before .before .before .before .before .before .args in
@@ -24,19 +22,13 @@ interval-walk-requires c κs =
     let pre = c .before .before .before .before .pre in
     (pre .0, pre .1, below-third _ (pre .0 .scheme-ok) (c .before .if1 .left))
 
-same-length-2 : tie.Need-same-length-2
-same-length-2 c = search needs
-
-returns-2 : tie.Need-returns-2
-returns-2 c = search needs
-
 pub listed-spec : {M : Type 1} → statement M
 listed-spec =
     tie.close
     (tie.spec
     tree-walk-requires
-    same-length
+    (λ c. search needs)
     returns
     interval-walk-requires
-    same-length-2
-    returns-2)
+    (λ c. search needs)
+    (λ c. search needs))

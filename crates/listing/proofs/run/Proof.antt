@@ -1,5 +1,6 @@
+-- `listing::run` meets its contract.
 use Rattle.listing.proofs.Writes.{run-start, run-place, run-next, run-length, run-end}
-use Rattle.buffers.specs.Buffers.{Wrote}
+use Rattle.buffers.specs.Private.{Wrote}
 use Rattle.lists.specs.Lists.{upFrom}
 use borrow.Author.Needs.{needs}
 use native.Mathlib.Omega.{arith}
@@ -34,12 +35,6 @@ add-p c =
     let loop = c .before .loop in
     let q = run-place (args .first) (loop .day) (args .end) (args .at) (loop .p) (args .list .now) (loop .list) (loop .inv .0) (c .loop-test .taken) (c .before .before .pre .1) (loop .inv .2) in omega (arith, q .0, q .1, c .before .before .good .1 .1 .0 .1)
 
-add-day : tie.Need-add-day Inv-loop μ-loop
-add-day c = search needs
-
-loop-less : tie.Need-loop-less Inv-loop μ-loop
-loop-less c = omega arith
-
 loop-again : tie.Need-loop-again Inv-loop μ-loop
 loop-again c =
     let args = c .before .before .args in
@@ -68,8 +63,8 @@ run-spec =
     mul-list
     slice-write-list
     add-p
-    add-day
-    loop-less
+    (λ c. search needs)
+    (λ c. omega arith)
     loop-again
     same-length
     returns)

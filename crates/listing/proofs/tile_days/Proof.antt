@@ -1,12 +1,10 @@
+-- `listing::tile_days` meets its contract.
 use Rattle.listing.proofs.Lists.{interval-room, tile-whole, tile-failed, tile-start}
 use Rattle.buffers.proofs.Writes.{wrote-none, wrote-as}
 use Rattle.layouts.proofs.AllowedLaws.{allowed-n-is}
 use borrow.Author.Needs.{needs}
 use Rattle.listing.proofs.tile_days.Statement.{statement}
 use Rattle.listing.proofs.tile_days.Tie as tie
-
-tile-passes-requires : tie.Need-tile-passes-requires
-tile-passes-requires c κs = search needs
 
 returns : tie.Need-returns
 returns c = wrote-none _ _ _ (tile-whole _ _ _ (c .before .before .before .before .pre .0) (c .before .tile-passes .ensures) (c .if1 .taken))
@@ -17,16 +15,10 @@ lg-requires c κs = allowed-n-is _ (c .before .before .before .before .pre .0 .h
 sub-tile-walk : tie.Need-sub-tile-walk
 sub-tile-walk c = interval-room (c .before .before .before .before .before .pre .0)
 
-add-tile-walk : tie.Need-add-tile-walk
-add-tile-walk c = search needs
-
 tile-walk-requires : tie.Need-tile-walk-requires
 tile-walk-requires c κs =
     let pre = c .before .before .before .before .before .before .pre in
     tile-start _ _ _ _ _ (pre .0) (pre .1) (c .before .lg .ensures)
-
-same-length : tie.Need-same-length
-same-length c = search needs
 
 returns-2 : tie.Need-returns-2
 returns-2 c = wrote-as _ (tile-failed _ _ _ (c .before .before .before .before .before .before .before .before .before .pre .0) (c .before .before .before .before .before .before .tile-passes .ensures) (c .before .before .before .before .before .if1 .left) (c .before .before .before .before .lg .ensures)) (c .before .before .tile-walk .ensures)
@@ -35,11 +27,11 @@ pub tile-days-spec : {M : Type 1} → statement M
 tile-days-spec =
     tie.close
     (tie.spec
-    tile-passes-requires
+    (λ c. λ κs. search needs)
     returns
     lg-requires
     sub-tile-walk
-    add-tile-walk
+    (λ c. search needs)
     tile-walk-requires
-    same-length
+    (λ c. search needs)
     returns-2)

@@ -1,12 +1,10 @@
+-- `listing::top_days` meets its contract.
 use Rattle.listing.proofs.Lists.{top-none, top-chain, top-walk, top-fits}
 use Rattle.buffers.proofs.Writes.{wrote-none, wrote-as}
 use Rattle.acceptance.proofs.Steps.{weight-positive}
 use borrow.Author.Needs.{needs}
 use Rattle.listing.proofs.top_days.Statement.{statement}
 use Rattle.listing.proofs.top_days.Tie as tie
-
-size-requires : tie.Need-size-requires
-size-requires c κs = search needs
 
 div-k : tie.Need-div-k
 div-k c = weight-positive _ _ (c .size .ensures)
@@ -22,12 +20,9 @@ walk-requires c κs =
     let pre = c .before .before .before .before .before .pre in
     top-walk _ _ _ _ _ _ (c .before .before .before .before .before .args .list .now) (pre .0) (pre .2) (c .before .before .size .ensures) (c .before .if1 .left) (pre .1) (pre .3)
 
-same-length : tie.Need-same-length
-same-length c = search needs
-
 returns-2 : tie.Need-returns-2
 returns-2 c = wrote-as _ (top-chain _ _ _ _ _ (c .before .before .before .before .before .size .ensures) (c .before .before .before .before .if1 .left)) (c .before .before .walk .ensures)
 
 pub top-days-spec : {M : Type 1} → statement M
 top-days-spec =
-    tie.close (tie.spec size-requires div-k returns mul-walk walk-requires same-length returns-2)
+    tie.close (tie.spec (λ c. λ κs. search needs) div-k returns mul-walk walk-requires (λ c. search needs) returns-2)

@@ -1,6 +1,7 @@
+-- `listing::tree_walk` meets its contract.
 use Rattle.listing.proofs.Lists.{none-yet, no-level, level-place, next-level, level-length, all-levels}
 use Rattle.acceptance.specs.Private.{isListed}
-use Rattle.buffers.specs.Buffers.{Wrote}
+use Rattle.buffers.specs.Private.{Wrote}
 use Rattle.evidence.specs.Evidence.{days}
 use Rattle.lists.specs.Lists.{keep}
 use native.Mathlib.Omega.{arith}
@@ -17,18 +18,12 @@ abbrev μ-loop : tie.MeasureT-loop
 loop-holds : tie.Need-loop-holds Inv-loop μ-loop
 loop-holds c = (omega arith, none-yet _ _ _ (no-level _ (c .before .before .pre .0 .most)))
 
-sub-level : tie.Need-sub-level Inv-loop μ-loop
-sub-level c = omega arith
-
 top-days-requires : tie.Need-top-days-requires Inv-loop μ-loop
 top-days-requires c κs =
     let args = c .before .before .before .before .before .args in
     let loop = c .before .before .loop in
     let pre = c .before .before .before .before .before .pre in
     (pre .0, level-place (isListed 3 (args .n) (args .t .now)) (args .d) (loop .level) (loop .at) (args .list .now) (loop .list) (c .before .loop-test .taken) (pre .1) (loop .inv .1) .0, omega arith, level-place (isListed 3 (args .n) (args .t .now)) (args .d) (loop .level) (loop .at) (args .list .now) (loop .list) (c .before .loop-test .taken) (pre .1) (loop .inv .1) .1)
-
-loop-less : tie.Need-loop-less Inv-loop μ-loop
-loop-less c = omega arith
 
 loop-again : tie.Need-loop-again Inv-loop μ-loop
 loop-again c =
@@ -56,9 +51,9 @@ tree-walk-spec =
     Inv-loop
     μ-loop
     loop-holds
-    sub-level
+    (λ c. omega arith)
     top-days-requires
-    loop-less
+    (λ c. omega arith)
     loop-again
     same-length
     returns)

@@ -1,5 +1,5 @@
+-- `refusals::answer_of` meets its contract.
 use mathlib.Core.Path.{refl}
-use borrow.Author.Needs.{needs}
 use Rattle.refusals.proofs.TestLaws.{answer-refused, answer-done}
 use Rattle.refusals.proofs.answer_of.Statement.{statement}
 use Rattle.refusals.proofs.answer_of.Tie as tie

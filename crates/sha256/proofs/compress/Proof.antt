@@ -14,31 +14,16 @@ Inv-loop h k v₀ w₀ t₀ v w t = Before h w₀ t v w
 abbrev μ-loop : tie.MeasureT-loop
 μ-loop h k v₀ w₀ t₀ v w t = 64 - t
 
-table-requires : tie.Need-table-requires Inv-loop μ-loop
-table-requires c κs = search needs
-
 loop-holds : tie.Need-loop-holds Inv-loop μ-loop
 loop-holds c = before-first _ _ (search needs)
 
 rounds-requires : tie.Need-rounds-requires Inv-loop μ-loop
 rounds-requires c κs = let s = c .before .before .loop .inv .sixteens in omega arith
 
-slides-requires : tie.Need-slides-requires Inv-loop μ-loop
-slides-requires c κs = search needs
-
-add-t : tie.Need-add-t Inv-loop μ-loop
-add-t c = search needs
-
-loop-less : tie.Need-loop-less Inv-loop μ-loop
-loop-less c = search needs
-
 loop-again : tie.Need-loop-again Inv-loop μ-loop
 loop-again c =
     before-next _ _ _ (c .before .before .before .before .loop .inv) (search needs) (c .before .before .before .before .before .table .ensures) (c .before .rounds .ensures) (c .if1 .w)
     (λ q. ⊎-elim (λ a. a .2 ∙ a .1 .ensures) (λ a. absurd (let l = a .0 .left in omega arith)) (c .if1 .came))
-
-summed-requires : tie.Need-summed-requires Inv-loop μ-loop
-summed-requires c κs = search needs
 
 returns : tie.Need-returns Inv-loop μ-loop
 returns c = compressed _ _ _ (c .before .before .loop .inv) (omega arith) (c .summed .ensures)
@@ -49,12 +34,12 @@ compress-spec =
     (tie.spec
     Inv-loop
     μ-loop
-    table-requires
+    (λ c. λ κs. search needs)
     loop-holds
     rounds-requires
-    slides-requires
-    add-t
-    loop-less
+    (λ c. λ κs. search needs)
+    (λ c. search needs)
+    (λ c. search needs)
     loop-again
-    summed-requires
+    (λ c. λ κs. search needs)
     returns)

@@ -4,12 +4,9 @@ use borrow.Author.Needs.{needs}
 use Rattle.sha256_words.proofs.add32.Statement.{statement}
 use Rattle.sha256_words.proofs.add32.Tie as tie
 
-wrapping-add-u32-requires : tie.Need-wrapping-add-u32-requires
-wrapping-add-u32-requires c κs = search needs
-
 returns : tie.Need-returns
 unfolding add32
 returns c = search needs
 
 pub add32-spec : {M : Type 1} → statement M
-add32-spec = tie.close (tie.spec wrapping-add-u32-requires returns)
+add32-spec = tie.close (tie.spec (λ c. λ κs. search needs) returns)

@@ -19,54 +19,6 @@ abbrev μ-loop : tie.MeasureT-loop
 loop-holds : tie.Need-loop-holds Inv-loop μ-loop
 loop-holds c = (search needs, search needs, bytes-none)
 
-mul-x : tie.Need-mul-x Inv-loop μ-loop
-mul-x c = search needs
-
-array-read-x : tie.Need-array-read-x Inv-loop μ-loop
-array-read-x c = search needs
-
-mul-a : tie.Need-mul-a Inv-loop μ-loop
-mul-a c = search needs
-
-cast-r : tie.Need-cast-r Inv-loop μ-loop
-cast-r c = search needs
-
-array-write-r : tie.Need-array-write-r Inv-loop μ-loop
-array-write-r c = search needs
-
-cast-r-2 : tie.Need-cast-r-2 Inv-loop μ-loop
-cast-r-2 c = search needs
-
-add-r : tie.Need-add-r Inv-loop μ-loop
-add-r c = search needs
-
-array-write-r-2 : tie.Need-array-write-r-2 Inv-loop μ-loop
-array-write-r-2 c = search needs
-
-cast-r-3 : tie.Need-cast-r-3 Inv-loop μ-loop
-cast-r-3 c = search needs
-
-add-r-2 : tie.Need-add-r-2 Inv-loop μ-loop
-add-r-2 c = search needs
-
-array-write-r-3 : tie.Need-array-write-r-3 Inv-loop μ-loop
-array-write-r-3 c = search needs
-
-cast-r-4 : tie.Need-cast-r-4 Inv-loop μ-loop
-cast-r-4 c = search needs
-
-add-r-3 : tie.Need-add-r-3 Inv-loop μ-loop
-add-r-3 c = search needs
-
-array-write-r-4 : tie.Need-array-write-r-4 Inv-loop μ-loop
-array-write-r-4 c = search needs
-
-add-i : tie.Need-add-i Inv-loop μ-loop
-add-i c = search needs
-
-loop-less : tie.Need-loop-less Inv-loop μ-loop
-loop-less c = search needs
-
 loop-again : tie.Need-loop-again Inv-loop μ-loop
 loop-again c = (search needs, simp length-set (c .before .loop .inv .1), bytes-step (c .before .before .args .t1) (c .before .loop .r) (c .before .loop .i) _ _ _ _ (let lb : length (c .before .before .args .t1) ≡ 8 = search needs in omega arith) (omega arith) (c .before .loop .inv .2) refl refl refl refl)
 
@@ -80,21 +32,21 @@ bytes-spec =
     Inv-loop
     μ-loop
     loop-holds
-    mul-x
-    array-read-x
-    mul-a
-    cast-r
-    array-write-r
-    cast-r-2
-    add-r
-    array-write-r-2
-    cast-r-3
-    add-r-2
-    array-write-r-3
-    cast-r-4
-    add-r-3
-    array-write-r-4
-    add-i
-    loop-less
+    (λ c. search needs)
+    (λ c. search needs)
+    (λ c. search needs)
+    (λ c. search needs)
+    (λ c. search needs)
+    (λ c. search needs)
+    (λ c. search needs)
+    (λ c. search needs)
+    (λ c. search needs)
+    (λ c. search needs)
+    (λ c. search needs)
+    (λ c. search needs)
+    (λ c. search needs)
+    (λ c. search needs)
+    (λ c. search needs)
+    (λ c. search needs)
     loop-again
     returns)

@@ -1,5 +1,5 @@
 use Rattle.table_text.proofs.Lines.{word-none, word-next, word-done}
-use Rattle.buffers.specs.Buffers.{Wrote}
+use Rattle.buffers.specs.Private.{Wrote}
 use borrow.Author.Needs.{needs}
 use lib.ListN.{length, take}
 use mathlib.Core.Path.{_≡_, refl}

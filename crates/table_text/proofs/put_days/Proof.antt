@@ -1,6 +1,6 @@
 use Rattle.table_text.proofs.Lines.{days-none, days-room, days-next, days-done}
 use Rattle.table_text.specs.Text.{dayLines}
-use Rattle.buffers.specs.Buffers.{Wrote}
+use Rattle.buffers.specs.Private.{Wrote}
 use borrow.Author.Needs.{needs}
 use lib.ListN.{length, take}
 use mathlib.Core.Path.{_≡_, refl}

@@ -1,6 +1,6 @@
 use Rattle.table_text.proofs.Lines.{numbers-none, numbers-room, numbers-next, numbers-done}
 use Rattle.table_text.specs.Text.{commaNumbers}
-use Rattle.buffers.specs.Buffers.{Wrote}
+use Rattle.buffers.specs.Private.{Wrote}
 use borrow.Author.Needs.{needs}
 use lib.ListN.{length, take}
 use mathlib.Core.Path.{_≡_, refl}

@@ -1,3 +1,4 @@
+-- `acceptance::values::black_passes` meets its contract.
 use Rattle.acceptance.proofs.Steps.{interval-black, black-inside, passes-by}
 use Rattle.acceptance.proofs.values.black_passes.Statement.{statement}
 use Rattle.acceptance.proofs.values.black_passes.Tie as tie

@@ -1,3 +1,4 @@
+-- `acceptance::values::tile_bit` meets its contract.
 use Rattle.acceptance.proofs.Steps.{bit-by}
 use Rattle.layouts.proofs.AllowedLaws.{allowed-n-is}
 use borrow.Author.Needs.{needs}
@@ -7,14 +8,8 @@ use Rattle.acceptance.proofs.values.tile_bit.Tie as tie
 lg-requires : tie.Need-lg-requires
 lg-requires c κs = allowed-n-is _ (c .before .pre .0 .has .n-ok) .some
 
-sub-tile-passes : tie.Need-sub-tile-passes
-sub-tile-passes c = search needs
-
-tile-passes-requires : tie.Need-tile-passes-requires
-tile-passes-requires c κs = search needs
-
 returns : tie.Need-returns
 returns c = bit-by _ _ _ _ (c .before .lg .ensures) (c .tile-passes .ensures)
 
 pub tile-bit-spec : {M : Type 1} → statement M
-tile-bit-spec = tie.close (tie.spec lg-requires sub-tile-passes tile-passes-requires returns)
+tile-bit-spec = tie.close (tie.spec lg-requires (λ c. search needs) (λ c. λ κs. search needs) returns)

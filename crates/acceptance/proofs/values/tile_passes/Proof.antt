@@ -1,3 +1,4 @@
+-- `acceptance::values::tile_passes` meets its contract.
 use Rattle.acceptance.proofs.Steps.{interval-tile, tile-inside, passes-by}
 use Rattle.acceptance.proofs.values.tile_passes.Statement.{statement}
 use Rattle.acceptance.proofs.values.tile_passes.Tie as tie

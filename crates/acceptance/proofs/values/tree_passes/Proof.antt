@@ -1,3 +1,4 @@
+-- `acceptance::values::tree_passes` meets its contract.
 use Rattle.acceptance.proofs.Steps.{chain-has, tree-inside, passes-by}
 use Rattle.acceptance.proofs.values.tree_passes.Statement.{statement}
 use Rattle.acceptance.proofs.values.tree_passes.Tie as tie

@@ -5,14 +5,8 @@ use borrow.Author.Needs.{needs}
 use Rattle.chains.proofs.link.across.Statement.{statement}
 use Rattle.chains.proofs.link.across.Tie as tie
 
-mul-result : tie.Need-mul-result
-mul-result c = search needs
-
-add-result : tie.Need-add-result
-add-result c = search needs
-
 returns : tie.Need-returns
 returns c = across-of (c .args .a) (c .args .b) (omega arith)
 
 pub across-spec : {M : Type 1} → statement M
-across-spec = tie.close (tie.spec mul-result add-result returns)
+across-spec = tie.close (tie.spec (λ c. search needs) (λ c. search needs) returns)

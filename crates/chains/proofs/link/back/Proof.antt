@@ -4,14 +4,8 @@ use borrow.Author.Needs.{needs}
 use Rattle.chains.proofs.link.back.Statement.{statement}
 use Rattle.chains.proofs.link.back.Tie as tie
 
-array-read-across : tie.Need-array-read-across
-array-read-across c = search needs
-
-across-requires : tie.Need-across-requires
-across-requires c κs = search needs
-
 returns : tie.Need-returns
 returns c = back-of _ (c .across .ensures)
 
 pub back-spec : {M : Type 1} → statement M
-back-spec = tie.close (tie.spec array-read-across across-requires returns)
+back-spec = tie.close (tie.spec (λ c. search needs) (λ c. λ κs. search needs) returns)
