@@ -1,10 +1,12 @@
--- What open, add and close answer, give back and write, for every record, whatever its words and block bytes. Definitions only.
+-- What open, add and close answer, give back and write, for every record, whatever its words and block bytes.
+-- Definitions only.
 use mathlib.Core.Bool.{Bool, _&&_}
 use mathlib.Core.List.{List, [], _∷_, _++_}
 use Prim.Native.Nat.{ℕ, zero, suc, _+_, _*_}
 use lib.Dec.{leb, ltb}
 use lib.ListN.{length, replicate}
-use Rattle.refusals.specs.Refusals.{bookLimit, dayLimit, Test, _orRefuse_, firstRefusal, answerOf, unlessRefused, frontWritten}
+use Rattle.refusals.specs.Refusals.{bookLimit, dayLimit, Test, _orRefuse_, firstRefusal}
+use Rattle.refusals.specs.Refusals.{answerOf, unlessRefused, frontWritten}
 use Rattle.hasher.specs.declared.Hasher.{Hasher}
 use Rattle.hasher.specs.Hasher.{begun, absorbed, finished}
 use Rattle.layouts.specs.Layouts.{allowedScheme, allowedN, allowedF, setupRefusal, chainsOfDay}
@@ -63,7 +65,8 @@ opened scheme n f =
 -- 01's cause 6 is not there: scheme, n and f are allowed, days closed and open bytes are within their limits
 abbrev pub allowedRecord : Record → Bool
 allowedRecord r =
-    allowedScheme (r .scheme) && allowedN (r .n) && allowedF (r .scheme) (r .f) && leb (r .days) bookLimit && leb (r .bytes) dayLimit
+    allowedScheme (r .scheme) && allowedN (r .n) && allowedF (r .scheme) (r .f)
+    && leb (r .days) bookLimit && leb (r .bytes) dayLimit
 
 -- 01's tests 6 5, with which add and close begin
 abbrev pub recordTests : Record → List Test

@@ -53,8 +53,9 @@ bookWritten r (c ∷ cs) = called r c .wrote ++ bookWritten (called r c .state) 
 abbrev pub journalOf : ℕ → ℕ → List Call → Journal
 journalOf scheme n cs = journalAfter scheme n empty (map argumentOf cs)
 
--- The claim: from the record of an accepted open, for every list of calls, refused ones included, the service refuses exactly
--- what the journal refuses, with the same number; and what the accepted closes wrote is 01's book over the journal's entries.
+-- The claim: from the record of an accepted open, for every list of calls, refused ones included, the service refuses
+-- exactly what the journal refuses, with the same number; and what the accepted closes wrote is 01's book over the
+-- journal's entries.
 pub record Kept (scheme n f : ℕ) (cs : List Call) : Type 0 where
   pub refused : answers (opened scheme n f .state) cs ≡ refusals scheme n empty (map argumentOf cs)
   pub book : bookWritten (opened scheme n f .state) cs ≡ bookOf scheme n (journalOf scheme n cs .entries)

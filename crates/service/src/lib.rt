@@ -1,12 +1,13 @@
-// The service: open, add to the open day, close the day. A record goes in by value and comes back; a refused call gives it back
-// as it came.
+// The service: open, add to the open day, close the day. A record goes in by value and comes back; a refused call gives
+// it back as it came.
 mod day;
 mod records;
 
 use chains::Value;
 use refusals::Answer;
 ghost use mathlib.Core.Path.{_≡_};
-ghost use Rattle.service.specs.Contract.{writingNumber, countOf, opened, addRefusal, added, closeRefusal, closing};
+ghost use Rattle.service.specs.Contract.{opened, addRefusal, added, closeRefusal, closing};
+ghost use Rattle.service.specs.Contract.{writingNumber, countOf};
 
 // 01's five numbers, and the running hashes: of the open day (hash, block) and of the chains.
 pub struct Record {
