@@ -102,6 +102,6 @@ fn print_hex(s: &[u8]) {
 // Writes the SHA-256 of the bytes, as hexadecimal digits.
 pub fn print_digest(s: &[u8]) {
     let st = hasher::absorb(hasher::empty(), 0, s);
-    let h = sha256::bytes(hasher::finish(st, s.len() as u64));
+    let h = sha256_words::bytes(hasher::finish(st, s.len() as u64));
     print_hex(&h);
 }

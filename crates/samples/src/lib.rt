@@ -135,6 +135,6 @@ pub fn print_number(x: u32) {
 // Writes the SHA-256 of the bytes, and a line end.
 pub fn print_digest(s: &[u8]) {
     let st = hasher::absorb(hasher::empty(), 0, s);
-    let h = sha256::bytes(hasher::finish(st, s.len() as u64));
+    let h = sha256_words::bytes(hasher::finish(st, s.len() as u64));
     print_bytes(&h);
 }

@@ -1,3 +1,4 @@
-pub mod Refusals
-pub mod Writes
-pub mod Lists
+pub mod RecordLaws
+pub mod CallLaws
+pub mod DayLaws
+pub mod RunLaws

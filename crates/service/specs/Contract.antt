@@ -1,41 +1,26 @@
--- What open, add and close answer, give back and write, for every record, whatever its words and block bytes. Definitions only.
-use mathlib.Core.Bool.{Bool, true, false, _&&_}
+-- What open, add and close answer, give back and write, for every record, whatever its words and block bytes.
+-- Definitions only.
+use mathlib.Core.Bool.{Bool, _&&_}
 use mathlib.Core.List.{List, [], _∷_, _++_}
 use Prim.Native.Nat.{ℕ, zero, suc, _+_, _*_}
-use lib.Dec.{eqb, leb, ltb}
-use lib.ListN.{length, drop, replicate}
-use Rattle.chains.specs.declared.Value.{Value}
-use Rattle.chains.specs.Step.{startValue, linked, linkedSlots, restarted, dayValues, valueBytes}
+use lib.Dec.{leb, ltb}
+use lib.ListN.{length, replicate}
+use Rattle.refusals.specs.Refusals.{bookLimit, dayLimit, Test, _orRefuse_, firstRefusal, answerOf, unlessRefused, frontWritten}
 use Rattle.hasher.specs.declared.Hasher.{Hasher}
 use Rattle.hasher.specs.Hasher.{begun, absorbed, finished}
-use Rattle.refusals.specs.Refusals.{bookLimit, dayLimit}
-use Rattle.layouts.specs.Layouts.{unless, orElse, setupRefusal, chainsOfDay}
+use Rattle.layouts.specs.Layouts.{allowedScheme, allowedN, allowedF, setupRefusal, chainsOfDay}
+use Rattle.chains.specs.declared.Value.{Value}
+use Rattle.chains.specs.Step.{startValue, linked, linkedSlots, restarted, dayValues, valueBytes}
 use Rattle.service.specs.declared.Record.{Record}
-use Rattle.service.specs.declared.Answer.{Answer}
-use Rattle.service.specs.declared.Answer.the-variants.{Done, Refused}
 use Rattle.service.specs.declared.Writing.{Writing}
-use Rattle.service.specs.declared.Writing.the-variants.{Wrote}
-use Rattle.service.specs.declared.Writing.the-variants as writing
+use Rattle.service.specs.declared.Writing.the-variants.{Wrote, Refused}
 use Rattle.service.specs.declared.Opened.{Opened}
 use Rattle.service.specs.declared.Added.{Added}
 use Rattle.service.specs.declared.Closed.{Closed}
 
--- 01's number for each answer: 0, or the refusal; and the number of values that a close wrote
-abbrev pub numberOf : Answer → ℕ
-numberOf Done = 0
-numberOf (Refused number) = number
+-- ---- open: 01's tests 1 2 3
 
-abbrev pub writingNumber : Writing → ℕ
-writingNumber (Wrote count) = 0
-writingNumber (writing.Refused number) = number
-
-abbrev pub countOf : Writing → ℕ
-countOf (Wrote count) = count
-countOf (writing.Refused number) = 0
-
--- ---- open
-
--- 01's fresh service: no day closed, the open day empty, each chain at its start
+-- 01's record of an accepted open: scheme, n and f, no day closed, no byte in the open day, each chain at its start
 unfoldable pub fresh : ℕ → ℕ → ℕ → Record
 fresh scheme n f =
     record {
@@ -50,33 +35,54 @@ fresh scheme n f =
       running = replicate 17 (startValue scheme n);
     }
 
+-- 01's record of zeros
 unfoldable pub noValue : Value
 noValue = record { words = replicate 8 0 }
 
 unfoldable pub zeros : Record
-zeros = record { scheme = 0; n = 0; f = 0; days = 0; bytes = 0; hash = replicate 8 0; block = replicate 64 0; black = noValue; running = replicate 17 noValue }
+zeros =
+    record {
+      scheme = 0;
+      n = 0;
+      f = 0;
+      days = 0;
+      bytes = 0;
+      hash = replicate 8 0;
+      block = replicate 64 0;
+      black = noValue;
+      running = replicate 17 noValue;
+    }
 
-abbrev pub openedBy : ℕ → Record → Opened
-openedBy zero state = record { answer = Done; state = state }
-openedBy (suc x) state = record { answer = Refused (suc x); state = zeros }
-
+-- what open gives
 unfoldable pub opened : ℕ → ℕ → ℕ → Opened
-opened scheme n f = openedBy (setupRefusal scheme n f) (fresh scheme n f)
+opened scheme n f =
+    let refusal = setupRefusal scheme n f in
+    record { answer = answerOf refusal; state = unlessRefused refusal (fresh scheme n f) zeros }
 
--- ---- add
+-- ---- add: 01's tests 6 5 4
 
--- 01's test 6
-unfoldable pub recordRefusal : Record → ℕ
-recordRefusal r = unless (eqb (setupRefusal (r .scheme) (r .n) (r .f)) 0 && (leb (r .days) bookLimit && leb (r .bytes) dayLimit)) 6
+-- 01's cause 6 is not there: scheme, n and f are allowed, days closed and open bytes are within their limits
+abbrev pub allowedRecord : Record → Bool
+allowedRecord r =
+    allowedScheme (r .scheme) && allowedN (r .n) && allowedF (r .scheme) (r .f)
+    && leb (r .days) bookLimit && leb (r .bytes) dayLimit
 
--- 01's tests 6 5 4, for a piece of size bytes
+-- 01's tests 6 5, with which add and close begin
+abbrev pub recordTests : Record → List Test
+recordTests r = allowedRecord r orRefuse 6 ∷ ltb (r .days) bookLimit orRefuse 5 ∷ []
+
+-- for a piece of size bytes
+abbrev pub addTests : Record → ℕ → List Test
+addTests r size = recordTests r ++ (leb (r .bytes + size) dayLimit orRefuse 4 ∷ [])
+
 unfoldable pub addRefusal : Record → ℕ → ℕ
-addRefusal r size = orElse (recordRefusal r) (orElse (unless (ltb (r .days) bookLimit) 5) (unless (leb (r .bytes + size) dayLimit) 4))
+addRefusal r size = firstRefusal (addTests r size)
 
--- the running hash of the open day: byte 00 and the day's bytes so far, r .bytes + 1 of them
+-- the running hash of the open day: of byte 00 and the day's bytes so far, r .bytes + 1 in all
 abbrev pub openDay : Record → Hasher
 openDay r = record { words = r .hash; block = r .block }
 
+-- the record with the piece in its open day
 unfoldable pub grown : Record → List ℕ → Record
 grown r piece =
     record {
@@ -91,21 +97,26 @@ grown r piece =
       running = r .running;
     }
 
-abbrev pub addedBy : ℕ → Record → List ℕ → Added
-addedBy zero r piece = record { answer = Done; state = grown r piece }
-addedBy (suc x) r piece = record { answer = Refused (suc x); state = r }
-
+-- what add gives
 unfoldable pub added : Record → List ℕ → Added
-added r piece = addedBy (addRefusal r (length piece)) r piece
+added r piece =
+    let refusal = addRefusal r (length piece) in
+    record { answer = answerOf refusal; state = unlessRefused refusal (grown r piece) r }
 
--- ---- close
+-- ---- close: 01's tests 6 5 8
 
--- 01's tests 6 5 8, for a part of size bytes
+-- 01's number of the layout's values for the open day
+abbrev pub dayCount : Record → ℕ
+dayCount r = length (chainsOfDay (r .scheme) (r .n) (suc (r .days)))
+
+-- for a part of size bytes
+abbrev pub closeTests : Record → ℕ → List Test
+closeTests r size = recordTests r ++ (leb (32 * dayCount r) size orRefuse 8 ∷ [])
+
 unfoldable pub closeRefusal : Record → ℕ → ℕ
-closeRefusal r size =
-    orElse (recordRefusal r) (orElse (unless (ltb (r .days) bookLimit) 5) (unless (leb (32 * length (chainsOfDay (r .scheme) (r .n) (suc (r .days)))) size) 8))
+closeRefusal r size = firstRefusal (closeTests r size)
 
--- the digest of the open day, as words
+-- 01's digest of the open day, as words
 abbrev pub digestOf : Record → List ℕ
 digestOf r = finished (openDay r) (r .bytes + 1)
 
@@ -113,9 +124,10 @@ digestOf r = finished (openDay r) (r .bytes + 1)
 abbrev pub linkedOf : Record → List Value
 linkedOf r = linkedSlots (r .scheme) (r .n) (suc (r .days)) (digestOf r) (r .running)
 
--- the values of the day, as bytes
+-- 01's values of the day, as bytes
 unfoldable pub dayBytes : Record → List ℕ
-dayBytes r = valueBytes (dayValues (r .scheme) (r .n) (suc (r .days)) (linked (r .black) (digestOf r)) (linkedOf r))
+dayBytes r =
+    valueBytes (dayValues (r .scheme) (r .n) (suc (r .days)) (linked (r .black) (digestOf r)) (linkedOf r))
 
 -- the record with the day closed and the next one open
 unfoldable pub nextDay : Record → Record
@@ -132,17 +144,29 @@ nextDay r =
       running = restarted (r .scheme) (r .n) (suc (r .days)) (startValue (r .scheme) (r .n)) (linkedOf r);
     }
 
-abbrev pub closedBy : ℕ → Record → Closed
-closedBy zero r = record { answer = Wrote (length (chainsOfDay (r .scheme) (r .n) (suc (r .days)))); state = nextDay r }
-closedBy (suc x) r = record { answer = writing.Refused (suc x); state = r }
+-- the answer of close: the number of values written, or the refusal
+abbrev pub writingOf : ℕ → ℕ → Writing
+writingOf zero count = Wrote count
+writingOf (suc x) count = Refused (suc x)
 
-unfoldable pub closed : Record → ℕ → Closed
-closed r size = closedBy (closeRefusal r size) r
+-- 01's number for each answer, and the number of values written
+abbrev pub writingNumber : Writing → ℕ
+writingNumber (Wrote count) = 0
+writingNumber (Refused number) = number
 
-abbrev pub front : ℕ → List ℕ → List ℕ → List ℕ
-front zero values part = values ++ drop (length values) part
-front (suc x) values part = part
+abbrev pub countOf : Writing → ℕ
+countOf (Wrote count) = count
+countOf (Refused number) = 0
 
--- the part after the call: the day's values, then what stood there; a refusal changes nothing
-unfoldable pub written : Record → List ℕ → List ℕ
-written r part = front (closeRefusal r (length part)) (dayBytes r) part
+-- what close gives, and the part as it leaves it: the day's values at its front
+pub record Closing : Type 0 where
+  pub result : Closed
+  pub part : List ℕ
+
+unfoldable pub closing : Record → List ℕ → Closing
+closing r part =
+    let refusal = closeRefusal r (length part) in
+    record {
+      result = record { answer = writingOf refusal (dayCount r); state = unlessRefused refusal (nextDay r) r };
+      part = frontWritten refusal (dayBytes r) part;
+    }

@@ -3,9 +3,10 @@ use mathlib.Core.Path.{_≡_}
 use mathlib.Core.List.{List, [], _∷_, _++_, map}
 use Prim.Native.Nat.{ℕ, _*_}
 use lib.ListN.{length, take}
+use Rattle.refusals.specs.Refusals.{numberOf}
 use Rattle.chains.specs.Book.{bookOf}
 use Rattle.service.specs.declared.Record.{Record}
-use Rattle.service.specs.Contract.{numberOf, writingNumber, countOf, opened, added, closed, written}
+use Rattle.service.specs.Contract.{writingNumber, countOf, opened, added, closing}
 use Rattle.service.specs.Journal.{Journal, empty, Argument, adds, closes, journalAfter, refusals}
 
 -- a call: add with its piece, close with the part lent to it, whatever it holds
@@ -17,30 +18,44 @@ abbrev pub argumentOf : Call → Argument
 argumentOf (add piece) = adds piece
 argumentOf (close part) = closes (length part)
 
+-- what a call leaves: its answer's number, its record, and what it wrote to the front of its part
+pub record Called : Type 0 where
+  pub number : ℕ
+  pub state : Record
+  pub wrote : List ℕ
+
+abbrev pub called : Record → Call → Called
+called r (add piece) = record { number = numberOf (added r piece .answer); state = added r piece .state; wrote = [] }
+called r (close part) =
+    let c = closing r part in
+    record {
+      number = writingNumber (c .result .answer);
+      state = c .result .state;
+      wrote = take (32 * countOf (c .result .answer)) (c .part);
+    }
+
 -- each call is handed the record that the call before gave back, refused or not
 abbrev pub stateAfter : Record → List Call → Record
 stateAfter r [] = r
-stateAfter r (add piece ∷ cs) = stateAfter (added r piece .state) cs
-stateAfter r (close part ∷ cs) = stateAfter (closed r (length part) .state) cs
+stateAfter r (c ∷ cs) = stateAfter (called r c .state) cs
 
 -- the number of each answer
 abbrev pub answers : Record → List Call → List ℕ
 answers r [] = []
-answers r (add piece ∷ cs) = numberOf (added r piece .answer) ∷ answers (added r piece .state) cs
-answers r (close part ∷ cs) = writingNumber (closed r (length part) .answer) ∷ answers (closed r (length part) .state) cs
+answers r (c ∷ cs) = called r c .number ∷ answers (called r c .state) cs
 
--- 01's book of the list: what its accepted closes wrote to the front of their parts, end to end
+-- 01's book of the list: what its accepted closes wrote, end to end
 abbrev pub bookWritten : Record → List Call → List ℕ
 bookWritten r [] = []
-bookWritten r (add piece ∷ cs) = bookWritten (added r piece .state) cs
-bookWritten r (close part ∷ cs) = take (32 * countOf (closed r (length part) .answer)) (written r part) ++ bookWritten (closed r (length part) .state) cs
+bookWritten r (c ∷ cs) = called r c .wrote ++ bookWritten (called r c .state) cs
 
 -- the journal of the list, from no entry and an empty open day
 abbrev pub journalOf : ℕ → ℕ → List Call → Journal
 journalOf scheme n cs = journalAfter scheme n empty (map argumentOf cs)
 
--- The claim: from the record of an accepted open, for every list of calls, refused ones included, the service refuses exactly
--- what the journal refuses, with the same number; and what the accepted closes wrote is 01's book over the journal's entries.
+-- The claim: from the record of an accepted open, for every list of calls, refused ones included, the service refuses
+-- exactly what the journal refuses, with the same number; and what the accepted closes wrote is 01's book over the
+-- journal's entries.
 pub record Kept (scheme n f : ℕ) (cs : List Call) : Type 0 where
   pub refused : answers (opened scheme n f .state) cs ≡ refusals scheme n empty (map argumentOf cs)
   pub book : bookWritten (opened scheme n f .state) cs ≡ bookOf scheme n (journalOf scheme n cs .entries)

@@ -1,0 +1,141 @@
+-- The refusals of add and close by their tests, and what open, add and close give by the refusal found.
+use mathlib.Core.Path.{_≡_, refl, sym, ap, ap₂, _∙_}
+use mathlib.Core.Bool.{Bool, true, false, cond}
+use mathlib.Core.List.{List, [], _∷_, _++_}
+use Prim.Native.Nat.{ℕ, zero, suc, _+_, _-_, _*_, _≤_, _<_}
+use native.Mathlib.Numerals.{add-one}
+use native.Mathlib.Omega.{arith}
+use lib.Dec.{leb}
+use lib.ListN.{length, drop}
+use borrow.Author.Tests.{le-leb, lt-leb, leb-true}
+use Rattle.refusals.specs.declared.Answer.the-variants.{Done, Refused}
+use Rattle.refusals.specs.Refusals.{dayLimit, Test, _orRefuse_, firstRefusal, numberOf, answerOf}
+use Rattle.refusals.proofs.TestLaws.{numbered, none-fails, refused-before, refused-after, answer-refused, answer-done, old-stays, new-stands, front-stands}
+use Rattle.buffers.specs.Private.{Wrote}
+use Rattle.layouts.specs.Layouts.{setupRefusal, chainsOfDay}
+use Rattle.service.specs.declared.Record.{Record}
+use Rattle.service.specs.declared.Writing.the-variants as writing
+use Rattle.service.specs.declared.Opened.{Opened}
+use Rattle.service.specs.declared.Added.{Added}
+use Rattle.service.specs.declared.Closed.{Closed}
+use Rattle.service.specs.Contract.{fresh, zeros, opened, recordTests, addTests, addRefusal, grown, added, dayCount, closeTests, closeRefusal, dayBytes, nextDay, writingOf, writingNumber, closing}
+use Rattle.service.specs.Private.{recordRefusal}
+use Rattle.service.proofs.RecordLaws.{record-passes}
+
+-- ---- a call's last test, with no cause found before it
+
+module _ (tests : List Test) (b : Bool) (number : ℕ) {x : ℕ} (k : numbered tests ≡ true) (e : x ≡ firstRefusal tests) (z : x ≡ 0) where
+  last-decides : cond b 0 number ≡ firstRefusal (tests ++ (b orRefuse number ∷ []))
+  last-decides = sym (refused-after tests (b orRefuse number ∷ []) k (sym e ∙ z))
+
+  pub last-fails : b ≡ false → number ≡ firstRefusal (tests ++ (b orRefuse number ∷ []))
+  last-fails t = ap (λ (y : Bool). cond y 0 number) (sym t) ∙ last-decides
+
+  pub last-passes : b ≡ true → 0 ≡ firstRefusal (tests ++ (b orRefuse number ∷ []))
+  last-passes t = ap (λ (y : Bool). cond y 0 number) (sym t) ∙ last-decides
+
+-- ---- add
+
+module _ (r : Record) (size : ℕ) {x : ℕ} (e : x ≡ recordRefusal r) where
+  pub add-early : (x ≡ 0 → ⊥) → x ≡ addRefusal r size
+  unfolding recordRefusal addRefusal
+  add-early h = refused-before (recordTests r) (leb (r .bytes + size) dayLimit orRefuse 4 ∷ []) e h
+
+  module _ (z : x ≡ 0) {left : ℕ} (q : left ≡ dayLimit - r .bytes) where
+    pub add-4 : left < size → 4 ≡ addRefusal r size
+    unfolding recordRefusal addRefusal
+    add-4 h = last-fails (recordTests r) (leb (r .bytes + size) dayLimit) 4 refl e z (lt-leb (r .bytes + size) dayLimit (omega arith))
+
+    pub add-0 : size ≤ left → 0 ≡ addRefusal r size
+    unfolding recordRefusal addRefusal
+    add-0 h = let b = record-passes r e z .0 .bytes-most in last-passes (recordTests r) (leb (r .bytes + size) dayLimit) 4 refl e z (le-leb (r .bytes + size) dayLimit (omega arith))
+
+-- what no refusal says
+pub add-fits : (r : Record) (size : ℕ) {x : ℕ} → x ≡ addRefusal r size → x ≡ 0 → r .bytes + size ≤ dayLimit
+unfolding addRefusal
+add-fits r size e z = leb-true (r .bytes + size) dayLimit (none-fails (addTests r size) refl (sym e ∙ z) .1 .1 .0)
+
+-- ---- close
+
+module _ (r : Record) (size : ℕ) {x : ℕ} (e : x ≡ recordRefusal r) where
+  pub close-early : (x ≡ 0 → ⊥) → x ≡ closeRefusal r size
+  unfolding recordRefusal closeRefusal
+  close-early h = refused-before (recordTests r) (leb (32 * dayCount r) size orRefuse 8 ∷ []) e h
+
+  module _ (z : x ≡ 0) {k w : ℕ} (c : k ≡ length (chainsOfDay (r .scheme) (r .n) (r .days + 1))) (q : w ≡ k) where
+    count-is : w ≡ dayCount r
+    count-is = q ∙ c ∙ ap (λ (g : ℕ). length (chainsOfDay (r .scheme) (r .n) g)) (add-one (r .days))
+
+    pub close-8 : size < 32 * w → 8 ≡ closeRefusal r size
+    unfolding recordRefusal closeRefusal
+    close-8 h = last-fails (recordTests r) (leb (32 * dayCount r) size) 8 refl e z (lt-leb (32 * dayCount r) size (omega (arith, count-is)))
+
+    pub close-0 : 32 * w ≤ size → 0 ≡ closeRefusal r size
+    unfolding recordRefusal closeRefusal
+    close-0 h = last-passes (recordTests r) (leb (32 * dayCount r) size) 8 refl e z (le-leb (32 * dayCount r) size (omega (arith, count-is)))
+
+-- what no refusal says
+pub close-passes : (r : Record) (size : ℕ) {x : ℕ} → x ≡ closeRefusal r size → x ≡ 0 → (recordRefusal r ≡ 0) × (32 * dayCount r ≤ size)
+unfolding recordRefusal closeRefusal
+close-passes r size e z =
+    let p = none-fails (closeTests r size) refl (sym e ∙ z) in
+    (rw (p .0, p .1 .0), leb-true (32 * dayCount r) size (p .1 .1 .0))
+
+-- ---- what a call gives, refused and not
+
+module _ (s n f : ℕ) {x : ℕ} {state : Record} (e : x ≡ setupRefusal s n f) where
+  pub opened-refused : (x ≡ 0 → ⊥) → state ≡ zeros → record { answer = Refused x; state = state } ≡ opened s n f
+  unfolding opened
+  opened-refused h q = ap₂ {C = Opened} (λ a t. record { answer = a; state = t }) (answer-refused (setupRefusal s n f) e h) (q ∙ old-stays (setupRefusal s n f) (fresh s n f) zeros e h)
+
+  pub opened-done : x ≡ 0 → state ≡ fresh s n f → record { answer = Done; state = state } ≡ opened s n f
+  unfolding opened
+  opened-done z q = ap₂ {C = Opened} (λ a t. record { answer = a; state = t }) (answer-done (setupRefusal s n f) e z) (q ∙ new-stands (setupRefusal s n f) (fresh s n f) zeros e z)
+
+module _ (r : Record) (piece : List ℕ) {x : ℕ} (e : x ≡ addRefusal r (length piece)) where
+  pub added-refused : (x ≡ 0 → ⊥) → record { answer = Refused x; state = r } ≡ added r piece
+  unfolding added
+  added-refused h = ap₂ {C = Added} (λ a t. record { answer = a; state = t }) (answer-refused (addRefusal r (length piece)) e h) (old-stays (addRefusal r (length piece)) (grown r piece) r e h)
+
+  pub added-done : {state : Record} → x ≡ 0 → state ≡ grown r piece → record { answer = Done; state = state } ≡ added r piece
+  unfolding added
+  added-done z q = ap₂ {C = Added} (λ a t. record { answer = a; state = t }) (answer-done (addRefusal r (length piece)) e z) (q ∙ new-stands (addRefusal r (length piece)) (grown r piece) r e z)
+
+writing-refused : {x : ℕ} (r count : ℕ) → x ≡ r → (x ≡ 0 → ⊥) → writing.Refused x ≡ writingOf r count
+writing-refused {x = zero} r count e h = absurd (h refl)
+writing-refused {x = suc y} r count e h = rw (← e)
+
+module _ (r : Record) (part : List ℕ) {x : ℕ} (e : x ≡ closeRefusal r (length part)) where
+  pub closing-refused : (x ≡ 0 → ⊥) → (record { answer = writing.Refused x; state = r } ≡ closing r part .result) × (part ≡ closing r part .part)
+  unfolding closing
+  closing-refused h =
+      let refusal = closeRefusal r (length part) in
+      (ap₂ {C = Closed} (λ a t. record { answer = a; state = t }) (writing-refused refusal (dayCount r) e h) (old-stays refusal (nextDay r) r e h), old-stays refusal (dayBytes r ++ drop (length (dayBytes r)) part) part e h)
+
+  pub closing-done : {k : ℕ} {state : Record} {next : List ℕ} → x ≡ 0 → k ≡ dayCount r → state ≡ nextDay r → Wrote 0 (dayBytes r) part (32 * k) next →
+      (record { answer = writing.Wrote k; state = state } ≡ closing r part .result) × (next ≡ closing r part .part)
+  unfolding closing
+  closing-done {k} {next = next} z c q w =
+      (rw (← e, z, c, q), front-stands (closeRefusal r (length part)) (dayBytes r) part next (32 * k) e z (omega (arith, w .count)) (w .list))
+
+-- ---- the number of each answer is the refusal's
+
+answer-number : (x : ℕ) → numberOf (answerOf x) ≡ x
+answer-number zero = refl
+answer-number (suc x) = refl
+
+writing-number : (x count : ℕ) → writingNumber (writingOf x count) ≡ x
+writing-number zero count = refl
+writing-number (suc x) count = refl
+
+pub opened-number : (s n f : ℕ) → numberOf (opened s n f .answer) ≡ setupRefusal s n f
+unfolding opened
+opened-number s n f = answer-number (setupRefusal s n f)
+
+pub added-number : (r : Record) (piece : List ℕ) → numberOf (added r piece .answer) ≡ addRefusal r (length piece)
+unfolding added
+added-number r piece = answer-number (addRefusal r (length piece))
+
+pub closing-number : (r : Record) (part : List ℕ) → writingNumber (closing r part .result .answer) ≡ closeRefusal r (length part)
+unfolding closing
+closing-number r part = writing-number (closeRefusal r (length part)) (dayCount r)

@@ -1,0 +1,90 @@
+-- The open day: what it asks, the values that its step gives, their bytes written to a part, the record after it.
+use mathlib.Core.Path.{_≡_, refl, sym, ap, _∙_}
+use mathlib.Core.Bool.{true}
+use mathlib.Core.List.{List, [], _∷_, _++_, append-assoc, append-nil}
+use Prim.Native.Nat.{ℕ, suc, _+_, _*_, _≤_, _<_}
+use native.Mathlib.Numerals.{add-one}
+use native.Mathlib.Omega.{arith}
+use lib.ListN.{length, getD, take, drop, length-append}
+use lib.Seq.{take-suc}
+use Rattle.refusals.specs.Refusals.{bookLimit}
+use Rattle.buffers.specs.Private.{Wrote}
+use Rattle.buffers.proofs.Writes.{wrote-join}
+use Rattle.sha256_words.specs.Words.{bytesOf}
+use Rattle.hasher.specs.declared.Hasher.{Hasher}
+use Rattle.hasher.specs.Hasher.{begun}
+use Rattle.layouts.specs.Layouts.{allowedScheme, allowedN, namesOfDay}
+use Rattle.layouts.proofs.AllowedLaws.{setup-is}
+use Rattle.chains.specs.declared.Value.{Value}
+use Rattle.chains.specs.declared.DayStep.{DayStep}
+use Rattle.chains.specs.Step.{valueBytes}
+use Rattle.chains.proofs.Values.{day-few, chainsOfDay-length}
+use Rattle.service.specs.declared.Record.{Record}
+use Rattle.service.specs.Contract.{dayCount, dayBytes, nextDay}
+use Rattle.service.specs.Private.{recordRefusal, StepOf}
+use Rattle.service.proofs.RecordLaws.{record-passes}
+
+-- what the layouts ask of the open day
+pub day-asks : (r : Record) {x : ℕ} → x ≡ recordRefusal r → x ≡ 0 →
+    (allowedScheme (r .scheme) ≡ true) × (allowedN (r .n) ≡ true) × (1 ≤ r .days + 1) × (r .days + 1 ≤ bookLimit)
+day-asks r e z =
+    let p = record-passes r e z in
+    let u = setup-is (r .scheme) (r .n) (r .f) (p .0 .setup) in
+    (u .scheme-ok, u .n-ok, omega arith, omega (arith, p .1))
+
+-- ---- the step of the day
+
+module _ (r : Record) (d : DayStep) (s : StepOf r d) where
+  pub step-count : d .count ≡ dayCount r
+  step-count =
+      s .count-is ∙ ap (λ (g : ℕ). length (namesOfDay (r .scheme) (r .n) g)) (add-one (r .days)) ∙
+      sym (chainsOfDay-length (r .scheme) (r .n) (suc (r .days)))
+
+  pub step-bytes : dayBytes r ≡ valueBytes (take (d .count) (d .values))
+  unfolding dayBytes
+  step-bytes = rw (s .values-are, add-one (r .days))
+
+  pub step-next : {h : Hasher} → h ≡ begun (0 ∷ []) →
+      record { scheme = r .scheme; n = r .n; f = r .f; days = r .days + 1; bytes = 0; hash = h .words; block = h .block; black = d .black; running = d .slots } ≡ nextDay r
+  unfolding nextDay
+  step-next e = rw (e, s .black-is, s .slots-are, add-one (r .days))
+
+  pub step-fits : (size : ℕ) → recordRefusal r ≡ 0 → 32 * dayCount r ≤ size → (d .count ≤ 17) × (32 * d .count ≤ size)
+  step-fits size z room =
+      let a = day-asks r refl z in
+      let few = day-few (r .scheme) (r .n) (r .days + 1) (a .0) (a .1) (a .2) (a .3) in
+      (omega (arith, s .count-is), omega (arith, step-count))
+
+-- ---- values written one by one
+
+value-bytes-append : (xs ys : List Value) → valueBytes (xs ++ ys) ≡ valueBytes xs ++ valueBytes ys
+unfolding valueBytes
+value-bytes-append [] ys = refl
+value-bytes-append (x ∷ xs) ys =
+    ap (λ (r : List ℕ). bytesOf (x .words) ++ r) (value-bytes-append xs ys) ∙ sym (append-assoc (bytesOf (x .words)) (valueBytes xs) (valueBytes ys))
+
+one-value : (v : Value) → valueBytes (v ∷ []) ≡ bytesOf (v .words)
+unfolding valueBytes
+one-value v = append-nil (bytesOf (v .words))
+
+module _ (values : List Value) (old : List ℕ) where
+  pub no-value-written : Wrote 0 (valueBytes (take 0 values)) old 0 old
+  unfolding valueBytes
+  no-value-written = record { count = refl; list = refl }
+
+  pub value-written : (part next b : List ℕ) (i w : ℕ) (z : Value) → Wrote 0 (valueBytes (take i values)) old (32 * i) part →
+      b ≡ bytesOf (getD values i z .words) → length b ≡ 32 → w ≡ i → next ≡ take (32 * w) part ++ b ++ drop (32 * w + 32) part →
+      i < length values → 32 * (i + 1) ≤ length old → Wrote 0 (valueBytes (take (i + 1) values)) old (32 * (i + 1)) next
+  value-written part next b i w z before eb lb ew en h room =
+      wrote-join 0 (valueBytes (take (i + 1) values)) (valueBytes (take i values)) b old part next (32 * i) (32 * (i + 1)) more
+      (omega (arith, before .count, ap length more, length-append (valueBytes (take i values)) b)) before
+      (record { count = omega arith; list = here })
+    where
+      more : valueBytes (take (i + 1) values) ≡ valueBytes (take i values) ++ b
+      more = rw (add-one, take-suc values i z h, value-bytes-append, one-value, eb)
+
+      end : 32 * w + 32 ≡ 32 * (i + 1)
+      end = omega arith
+
+      here : next ≡ take (32 * i) part ++ (b ++ drop (32 * (i + 1)) part)
+      here = en ∙ append-assoc (take (32 * w) part) b (drop (32 * w + 32) part) ∙ rw (end, ew)

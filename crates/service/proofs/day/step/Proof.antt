@@ -1,0 +1,22 @@
+use mathlib.Core.Path.{refl}
+use native.Mathlib.Omega.{arith}
+use borrow.Author.Needs.{needs}
+use Rattle.service.proofs.RecordLaws.{record-passes}
+use Rattle.service.proofs.DayLaws.{day-asks}
+use Rattle.service.proofs.day.step.Statement.{statement}
+use Rattle.service.proofs.day.step.Tie as tie
+
+digest-requires : tie.Need-digest-requires
+digest-requires c κs = record-passes (c .args .state) refl (c .pre) .0 .bytes-most
+
+add-step : tie.Need-add-step
+add-step c = let a = day-asks (c .before .before .before .before .before .args .state) refl (c .before .before .before .before .before .pre) in omega (arith, a .3)
+
+step-requires : tie.Need-step-requires
+step-requires c κs = day-asks (c .before .before .before .before .before .args .state) refl (c .before .before .before .before .before .pre)
+
+returns : tie.Need-returns
+returns c = rw (← (c .before .before .before .before .before .digest .ensures), ← (c .before .before .before .before .start .ensures)) (c .step .ensures)
+
+pub step-spec : {M : Type 1} → statement M
+step-spec = tie.close (tie.spec digest-requires (λ c κs. search needs) add-step step-requires returns)
