@@ -1,3 +1,5 @@
-pub mod Good
-pub mod Tests
+pub mod BitLaws
+pub mod LastGood
+pub mod RefusalLaws
 pub mod Report
+pub mod Statements

@@ -1,17 +1,20 @@
--- What reading answers, and what it leaves in the list. Definitions only.
+-- 01's reading: its tests, what it says, and the list after it. Definitions only.
+use mathlib.Core.Path.{_≡_}
 use mathlib.Core.Bool.{Bool, true, false, _&&_, _||_}
 use mathlib.Core.List.{List, [], _∷_, _++_}
-use Prim.Native.Nat.{ℕ, zero, suc}
+use Prim.Native.Nat.{ℕ, _≤_}
 use lib.Dec.{eqb, leb}
-use lib.ListN.{length, take, drop}
+use lib.ListN.{length, take}
 use Rattle.evidence.specs.Evidence.{listing, accepted}
-use Rattle.layouts.specs.Layouts.{unless, orElse, layoutRefusal, chains}
+use Rattle.refusals.specs.Refusals.{bookLimit, Test, _orRefuse_, firstRefusal, unlessRefused, frontWritten}
+use Rattle.layouts.specs.Layouts.{divides, allowedScheme, allowedN, layoutTests, chains}
 use Rattle.reading.specs.Numbers.{lowOf, lastGood}
 use Rattle.reading.specs.declared.Reading.{Reading}
 use Rattle.reading.specs.declared.Reading.the-variants.{Clean, Changed, Refused}
 
--- 01's number and values for each case of the answer, with d: the refusal (0 for none), whether the result is clean, and the
--- five numbers
+-- ---- what reading says
+
+-- 01's number and values: the refusal (0 for none), whether the result is clean, and the five numbers
 pub record Report : Type 0 where
   pub refusal : ℕ
   pub clean : Bool
@@ -19,12 +22,31 @@ pub record Report : Type 0 where
   pub first : ℕ
   pub low : ℕ
   pub high : ℕ
-  pub last_good : ℕ
+  pub last-good : ℕ
 
+abbrev pub cleanReport : ℕ → Report
+cleanReport d = record { refusal = 0; clean = true; listed = 0; first = 0; low = 0; high = 0; last-good = d }
+
+abbrev pub refusedReport : ℕ → Report
+refusedReport number =
+    record { refusal = number; clean = false; listed = 0; first = 0; low = 0; high = 0; last-good = 0 }
+
+-- for each case of the answer
 unfoldable pub reportOf : ℕ → Reading → Report
-reportOf d Clean = record { refusal = 0; clean = true; listed = 0; first = 0; low = 0; high = 0; last_good = d }
-reportOf d (Changed m) = record { refusal = 0; clean = false; listed = m .listed; first = m .first; low = m .low; high = m .high; last_good = m .last_good }
-reportOf d (Refused number) = record { refusal = number; clean = false; listed = 0; first = 0; low = 0; high = 0; last_good = 0 }
+reportOf d Clean = cleanReport d
+reportOf d (Changed m) =
+    record {
+      refusal = 0;
+      clean = false;
+      listed = m .listed;
+      first = m .first;
+      low = m .low;
+      high = m .high;
+      last-good = m .«last_good»;
+    }
+reportOf d (Refused number) = refusedReport number
+
+-- ---- tests
 
 -- the table: the outcomes needed, one for each value; those past them are not read
 abbrev pub tableIn : ℕ → ℕ → ℕ → List ℕ → List ℕ
@@ -35,13 +57,34 @@ abbrev pub bits : List ℕ → Bool
 bits [] = true
 bits (o ∷ os) = (eqb o 0 || eqb o 1) && bits os
 
--- 01's tests 1 2 3 7 8 12 13 14; places is the list's length
+-- 01's tests 12 13 14
+abbrev pub outcomeTests : ℕ → ℕ → ℕ → List ℕ → List Test
+outcomeTests scheme n d outcomes =
+    leb (length (chains scheme n d)) (length outcomes) orRefuse 12 ∷
+    bits (tableIn scheme n d outcomes) orRefuse 13 ∷
+    accepted (chains scheme n d) d (tableIn scheme n d outcomes) orRefuse 14 ∷
+    []
+
+-- 01's tests 8 12 13 14; places is the list's length
+abbrev pub tableTests : ℕ → ℕ → ℕ → List ℕ → ℕ → List Test
+tableTests scheme n d outcomes places = leb d places orRefuse 8 ∷ outcomeTests scheme n d outcomes
+
+-- 01's tests 1 2 3 7 8 12 13 14
+abbrev pub readTests : ℕ → ℕ → ℕ → ℕ → List ℕ → ℕ → List Test
+readTests scheme n f d outcomes places = layoutTests scheme n f d ++ tableTests scheme n d outcomes places
+
 unfoldable pub readRefusal : ℕ → ℕ → ℕ → ℕ → List ℕ → ℕ → ℕ
-readRefusal scheme n f d outcomes places =
-    orElse (layoutRefusal scheme n f d)
-    (orElse (unless (leb d places) 8)
-    (orElse (unless (leb (length (chains scheme n d)) (length outcomes)) 12)
-    (orElse (unless (bits (tableIn scheme n d outcomes)) 13) (unless (accepted (chains scheme n d) d (tableIn scheme n d outcomes)) 14))))
+readRefusal scheme n f d outcomes places = firstRefusal (readTests scheme n f d outcomes places)
+
+-- what the tests 1 2 3 7 leave for those after them
+pub record Layout (scheme n d : ℕ) : Type 0 where
+  pub scheme-ok : allowedScheme scheme ≡ true
+  pub n-ok : allowedN n ≡ true
+  pub some : 1 ≤ d
+  pub most : d ≤ bookLimit
+  pub whole : divides n d ≡ true
+
+-- ---- the call
 
 -- the listed days of an accepted table
 unfoldable pub listedIn : ℕ → ℕ → ℕ → List ℕ → List ℕ
@@ -49,22 +92,34 @@ listedIn scheme n d outcomes = listing (chains scheme n d) d (tableIn scheme n d
 
 -- clean if no day is listed; else changed, with the numbers
 unfoldable pub found : ℕ → ℕ → ℕ → List ℕ → ℕ → Report
-found n f d [] last_good = record { refusal = 0; clean = true; listed = 0; first = 0; low = 0; high = 0; last_good = d }
-found n f d (g ∷ gs) last_good = record { refusal = 0; clean = false; listed = length (g ∷ gs); first = g; low = lowOf n f d g; high = d; last_good = last_good }
+found n f d [] last-good = cleanReport d
+found n f d (g ∷ gs) last-good =
+    record {
+      refusal = 0;
+      clean = false;
+      listed = length (g ∷ gs);
+      first = g;
+      low = lowOf n f d g;
+      high = d;
+      last-good = last-good;
+    }
 
-abbrev pub unlessRefused : ℕ → Report → Report
-unlessRefused zero report = report
-unlessRefused (suc x) report = record { refusal = suc x; clean = false; listed = 0; first = 0; low = 0; high = 0; last_good = 0 }
+-- all that a call leaves: what it says, and the list
+pub record Readout : Type 0 where
+  pub report : Report
+  pub list : List ℕ
 
--- what reading says: the refusal, or what it found
-unfoldable pub reportOn : ℕ → ℕ → ℕ → ℕ → List ℕ → ℕ → Report
-reportOn scheme n f d outcomes places =
-    unlessRefused (readRefusal scheme n f d outcomes places) (found n f d (listedIn scheme n d outcomes) (lastGood scheme n d (tableIn scheme n d outcomes)))
+-- by the refusal of the call: what was found, and the listed days before what stood in the list; or the refusal alone
+abbrev pub readoutBy : ℕ → ℕ → ℕ → ℕ → ℕ → List ℕ → List ℕ → Readout
+readoutBy refusal scheme n f d outcomes list =
+    record {
+      report =
+          unlessRefused refusal
+          (found n f d (listedIn scheme n d outcomes) (lastGood scheme n d (tableIn scheme n d outcomes)))
+          (refusedReport refusal);
+      list = frontWritten refusal (listedIn scheme n d outcomes) list;
+    }
 
-abbrev pub front : ℕ → List ℕ → List ℕ → List ℕ
-front zero days list = days ++ drop (length days) list
-front (suc x) days list = list
-
--- the list after the call: the listed days, then what stood there; a refusal changes nothing
-unfoldable pub listAfter : ℕ → ℕ → ℕ → ℕ → List ℕ → List ℕ → List ℕ
-listAfter scheme n f d outcomes list = front (readRefusal scheme n f d outcomes (length list)) (listedIn scheme n d outcomes) list
+unfoldable pub readout : ℕ → ℕ → ℕ → ℕ → List ℕ → List ℕ → Readout
+readout scheme n f d outcomes list =
+    readoutBy (readRefusal scheme n f d outcomes (length list)) scheme n f d outcomes list

@@ -1,3 +1,4 @@
 pub mod Contract
 pub mod Numbers
 pub mod Private
+pub mod Statements

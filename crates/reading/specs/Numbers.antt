@@ -1,7 +1,7 @@
 -- The numbers that reading gives beside the listed days. Definitions only.
 use mathlib.Core.Bool.{Bool, false, _&&_, _||_}
 use mathlib.Core.List.{List, [], _∷_}
-use Prim.Native.Nat.{ℕ, pred, _-_, _*_, _^_, max}
+use Prim.Native.Nat.{ℕ, pred, _-_, _*_, max}
 use lib.Dec.{eqb}
 use Rattle.lists.specs.Lists.{lastOf, keep}
 use Rattle.evidence.specs.Evidence.{days}

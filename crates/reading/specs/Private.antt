@@ -1,19 +1,42 @@
--- Of a table its greatest and least outcome, and the numbers of a changed one as they are worked out. Definitions only; private
--- contracts cite them, and the laws `bits-by`, `refuse-none` and `said-changed` lead them back to 01's.
+-- What the private contracts say: outcomes taken in turn, a table that is read, the numbers of a changed one as they are
+-- worked out. Definitions only; the laws `bits-by`, `given-passes` and `report-changed` lead them back to 01's.
+use mathlib.Core.Path.{_≡_}
+use mathlib.Core.Bool.{true}
 use mathlib.Core.List.{List, [], _∷_}
-use Prim.Native.Nat.{ℕ, _-_, _*_, _/_, min, max}
+use Prim.Native.Nat.{ℕ, _-_, _*_, _/_, _≤_, min, max}
+use Rattle.evidence.specs.Evidence.{accepted}
+use Rattle.refusals.specs.Refusals.{Test, _orRefuse_}
+use Rattle.layouts.specs.Layouts.{chains}
+use Rattle.acceptance.specs.Private.{Table}
 use Rattle.reading.specs.Numbers.{lowOf}
+use Rattle.reading.specs.Contract.{bits}
 use Rattle.reading.specs.declared.Numbers.{Numbers}
+
+-- each outcome in turn joins what the ones before it gave
+abbrev pub inTurn : (ℕ → ℕ → ℕ) → ℕ → List ℕ → ℕ
+inTurn join v [] = v
+inTurn join v (o ∷ os) = inTurn join (join v o) os
 
 -- the greatest outcome, and the least of them and 1
 abbrev pub greatest : List ℕ → ℕ
-greatest [] = 0
-greatest (o ∷ os) = max o (greatest os)
+greatest t = inTurn max 0 t
 
 abbrev pub least : List ℕ → ℕ
-least [] = 1
-least (o ∷ os) = min o (least os)
+least t = inTurn min 1 t
+
+-- 01's tests 13 14, of a table
+abbrev pub givenTests : ℕ → ℕ → ℕ → List ℕ → List Test
+givenTests scheme n d t = bits t orRefuse 13 ∷ accepted (chains scheme n d) d t orRefuse 14 ∷ []
+
+-- what no refusal leaves: a table that some set gives, and places for its days
+pub record Given (scheme n f d : ℕ) (t : List ℕ) (places : ℕ) : Type 0 where
+  pub table : Table scheme n d t
+  pub bits-ok : bits t ≡ true
+  pub accepted-ok : accepted (chains scheme n d) d t ≡ true
+  pub validation : f * n ≤ d
+  pub room : d ≤ places
 
 -- by how many days are listed and the first of them
 unfoldable pub numbersOf : ℕ → ℕ → ℕ → ℕ → ℕ → Numbers
-numbersOf n f d count day = record { listed = count; first = day; low = lowOf n f d day; high = d; last_good = (day - 1) / n * n }
+numbersOf n f d count day =
+    record { listed = count; first = day; low = lowOf n f d day; high = d; «last_good» = (day - 1) / n * n }

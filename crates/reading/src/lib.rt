@@ -1,15 +1,17 @@
 // Reading: from a table of outcomes to the days that may have been changed.
 ghost use mathlib.Core.Path.{_≡_};
+ghost use mathlib.Core.List.{_++_};
 ghost use Prim.Native.Nat.{_*_, _≤_, min, max};
-ghost use lib.ListN.{length};
-ghost use Rattle.evidence.specs.Evidence.{accepted};
-ghost use Rattle.layouts.specs.Layouts.{orElse, unless, chains};
-ghost use Rattle.reading.specs.Numbers.{lowOf};
+ghost use lib.ListN.{length, drop};
+ghost use Rattle.evidence.specs.Evidence.{listing};
+ghost use Rattle.refusals.specs.Refusals.{bookLimit, firstRefusal};
+ghost use Rattle.layouts.specs.Layouts.{chains};
 ghost use Rattle.acceptance.specs.Private.{Table};
+ghost use Rattle.reading.specs.Numbers.{lowOf, lastGood};
 ghost use Rattle.reading.specs.Contract as answer;
-ghost use Rattle.reading.specs.Contract.{reportOf, readRefusal, reportOn, listAfter};
-ghost use Rattle.reading.specs.Private as changed;
-ghost use Rattle.reading.specs.Private.{numbersOf};
+ghost use Rattle.reading.specs.Contract.{reportOf, Layout, tableTests, readRefusal, found, readout};
+ghost use Rattle.reading.specs.Private as private;
+ghost use Rattle.reading.specs.Private.{givenTests, Given, numbersOf};
 
 // 01's numbers of a changed table.
 pub struct Numbers {
@@ -48,7 +50,7 @@ fn smaller(a: u8, b: u8) -> u8
 
 // The greatest outcome. No early end, so that the compiler takes many at a time.
 fn greatest(t: &[u8]) -> u8
-    ensures { λ r. ⌜ r ≡ changed.greatest (now (t .entry)) ⌝ }
+    ensures { λ r. ⌜ r ≡ private.greatest (now (t .entry)) ⌝ }
 {
     let mut m = 0u8;
     let mut i = 0;
@@ -61,7 +63,7 @@ fn greatest(t: &[u8]) -> u8
 
 // The least of the outcomes and 1.
 fn least(t: &[u8]) -> u8
-    ensures { λ r. ⌜ r ≡ changed.least (now (t .entry)) ⌝ }
+    ensures { λ r. ⌜ r ≡ private.least (now (t .entry)) ⌝ }
 {
     let mut m = 1u8;
     let mut i = 0;
@@ -79,9 +81,9 @@ fn bits(t: &[u8]) -> bool
 }
 
 // Tests 13 14. A table of passes, the usual one, needs no other test.
-fn table_refusal(scheme: u32, n: u32, d: u32, t: &[u8]) -> u32
+fn given_refusal(scheme: u32, n: u32, d: u32, t: &[u8]) -> u32
     requires { ⌜ Table scheme n d (now t) ⌝ }
-    ensures { λ r. ⌜ r ≡ orElse (unless (answer.bits (now (t .entry))) 13) (unless (accepted (chains scheme n d) d (now (t .entry))) 14) ⌝ }
+    ensures { λ r. ⌜ r ≡ firstRefusal (givenTests scheme n d (now (t .entry))) ⌝ }
 {
     if !bits(t) {
         return 13;
@@ -95,13 +97,22 @@ fn table_refusal(scheme: u32, n: u32, d: u32, t: &[u8]) -> u32
     0
 }
 
-fn wide(x: u32) -> usize
-    ensures { λ r. ⌜ r ≡ x ⌝ }
+// Tests 8 12 13 14, for a layout that is allowed: the number of the first that finds its cause, or 0.
+pub fn table_refusal(scheme: u32, n: u32, d: u32, outcomes: &[u8], places: usize) -> u32
+    requires { ⌜ Layout scheme n d ⌝ }
+    ensures { λ r. ⌜ r ≡ firstRefusal (tableTests scheme n d (now (outcomes .entry)) places) ⌝ }
 {
-    x as usize
+    if places < buffers::wide(d) {
+        return 8;
+    }
+    let values = buffers::wide(layouts::values_through(scheme, n, d));
+    if outcomes.len() < values {
+        return 12;
+    }
+    given_refusal(scheme, n, d, &outcomes[..values])
 }
 
-// Tests 1 2 3 7 8 12 13 14: the number of the first that finds its cause, or 0.
+// Tests 1 2 3 7 8 12 13 14.
 fn refusal(scheme: u32, n: u32, f: u32, d: u32, outcomes: &[u8], places: usize) -> u32
     ensures { λ r. ⌜ r ≡ readRefusal scheme n f d (now (outcomes .entry)) places ⌝ }
 {
@@ -109,14 +120,7 @@ fn refusal(scheme: u32, n: u32, f: u32, d: u32, outcomes: &[u8], places: usize) 
     if r != 0 {
         return r;
     }
-    if places < wide(d) {
-        return 8;
-    }
-    let values = wide(layouts::values_through(scheme, n, d));
-    if outcomes.len() < values {
-        return 12;
-    }
-    table_refusal(scheme, n, d, &outcomes[..values])
+    table_refusal(scheme, n, d, outcomes, places)
 }
 
 // ---- the answer
@@ -138,38 +142,49 @@ fn changed(n: u32, f: u32, d: u32, count: u32, first: u32) -> Numbers
     ensures { λ r. ⌜ r ≡ numbersOf n f d count first ⌝ }
 {
     let below = low(n, f, d, first);
-    let last_good = (first - 1) / n * n;
+    let good = (first - 1) / n * n;
     Numbers {
         listed: count,
         first: first,
         low: below,
         high: d,
-        last_good: last_good,
+        last_good: good,
     }
 }
 
 fn narrow(x: usize) -> u32
-    requires { ⌜ x ≤ 65536 ⌝ }
+    requires { ⌜ x ≤ bookLimit ⌝ }
     ensures { λ r. ⌜ r ≡ x ⌝ }
 {
     x as u32
 }
 
-// Reads the outcomes needed, in book order: writes the listed days to the front of the list and gives the numbers, or
-// refuses and writes nothing.
-pub fn read(scheme: u32, n: u32, f: u32, d: u32, outcomes: &[u8], list: &mut [u32]) -> Reading
-    ensures { λ r. ⌜ reportOf d r ≡ reportOn scheme n f d (now (outcomes .entry)) (length (now (list .entry))) ⌝ }
-    ensures { λ r. ⌜ now (list .exit) ≡ listAfter scheme n f d (now (outcomes .entry)) (now (list .entry)) ⌝ }
+// A table that some set gives: its listed days to the front of the list, and the numbers.
+fn read_table(scheme: u32, n: u32, f: u32, d: u32, t: &[u8], list: &mut [u32]) -> Reading
+    requires { ⌜ Given scheme n f d (now t) (length (now list)) ⌝ }
+    ensures { λ r. ⌜ reportOf d r ≡
+        found n f d (listing (chains scheme n d) d (now (t .entry))) (lastGood scheme n d (now (t .entry))) ⌝ }
+    ensures { λ r. ⌜ now (list .exit) ≡ listing (chains scheme n d) d (now (t .entry)) ++
+        drop (length (listing (chains scheme n d) d (now (t .entry)))) (now (list .entry)) ⌝ }
 {
-    let r = refusal(scheme, n, f, d, outcomes, list.len());
-    if r != 0 {
-        return Reading::Refused(r);
-    }
-    let values = wide(layouts::values_through(scheme, n, d));
-    let k = listing::listed(scheme, n, d, &outcomes[..values], list);
+    let k = listing::listed(scheme, n, d, t, list);
     if k == 0 {
         return Reading::Clean;
     }
     let first = list[0];
     Reading::Changed(changed(n, f, d, narrow(k), first))
+}
+
+// Reads the outcomes needed, in book order: writes the listed days to the front of the list and gives the numbers, or
+// refuses and writes nothing.
+pub fn read(scheme: u32, n: u32, f: u32, d: u32, outcomes: &[u8], list: &mut [u32]) -> Reading
+    ensures { λ r. ⌜ reportOf d r ≡ readout scheme n f d (now (outcomes .entry)) (now (list .entry)) .report ⌝ }
+    ensures { λ r. ⌜ now (list .exit) ≡ readout scheme n f d (now (outcomes .entry)) (now (list .entry)) .list ⌝ }
+{
+    let r = refusal(scheme, n, f, d, outcomes, list.len());
+    if r != 0 {
+        return Reading::Refused(r);
+    }
+    let values = buffers::wide(layouts::values_through(scheme, n, d));
+    read_table(scheme, n, f, d, &outcomes[..values], list)
 }

@@ -1,7 +1,7 @@
 use Prim.Native.Nat.{ℕ}
 use mathlib.Core.Path.{ap, _∙_}
 use lib.Dec.{leb}
-use Rattle.reading.proofs.Tests.{bits-by}
+use Rattle.reading.proofs.BitLaws.{bits-by}
 use borrow.Author.Needs.{needs}
 use Rattle.reading.proofs.bits.Statement.{statement}
 use Rattle.reading.proofs.bits.Tie as tie

@@ -1,4 +1,4 @@
-use Rattle.reading.proofs.Report.{changed-by, good-fits}
+use Rattle.reading.proofs.Report.{numbers-by, good-fits}
 use mathlib.Core.Path.{refl}
 use borrow.Author.Needs.{needs}
 use Rattle.reading.proofs.changed.Statement.{statement}
@@ -17,7 +17,7 @@ mul-good : tie.Need-mul-good
 mul-good c = record { fits = good-fits (c .before .args .n) (c .before .args .first) (c .before .fits .first .fits) }
 
 returns : tie.Need-returns
-returns c = changed-by _ _ _ _ _ (c .low .ensures) refl
+returns c = numbers-by _ _ _ _ _ (c .low .ensures) refl
 
 pub changed-spec : {M : Type 1} → statement M
 changed-spec = tie.close (tie.spec low-requires sub-good div-good mul-good returns)

@@ -1,30 +1,41 @@
-use Rattle.reading.proofs.Tests.{refuse-none, refuse-13, refuse-14, refuse-0}
+use Rattle.reading.proofs.RefusalLaws.{table-8, table-12, table-given, table-part, part-length}
 use borrow.Author.Needs.{needs}
 use Rattle.reading.proofs.table_refusal.Statement.{statement}
 use Rattle.reading.proofs.table_refusal.Tie as tie
 
-bits-requires : tie.Need-bits-requires
-bits-requires c κs = search needs
+wide-requires : tie.Need-wide-requires
+wide-requires c κs = search needs
 
 returns : tie.Need-returns
-returns c =
-    let args = c .before .before .before .args in
-    refuse-13 (args .scheme) (args .n) (args .d) (args .t .now) (c .before .bits .ensures) (c .if1 .taken)
+returns c = table-8 _ _ _ (c .before .before .before .args .outcomes .now) _ (c .before .wide .ensures) (c .if1 .taken)
 
-least-requires : tie.Need-least-requires
-least-requires c κs = search needs
+values-through-requires : tie.Need-values-through-requires
+values-through-requires c κs = let L = c .before .before .before .pre in (L .scheme-ok, L .n-ok, L .most)
+
+wide-requires-2 : tie.Need-wide-requires-2
+wide-requires-2 c κs = search needs
 
 returns-2 : tie.Need-returns-2
-returns-2 c = refuse-none _ _ _ _ (c .before .before .before .before .before .pre) (c .before .before .before .bits .ensures) (c .before .before .if1 .left) (c .before .least .ensures) (c .if2 .taken)
+returns-2 c = table-12 _ _ _ (c .before .before .before .before .before .before .args .outcomes .now) _ (c .before .before .before .before .wide .ensures) (c .before .before .before .if1 .left) (c .before .before .values-through .ensures) (c .before .wide2 .ensures) (c .if2 .taken)
 
-accepts-requires : tie.Need-accepts-requires
-accepts-requires c κs = search needs
+slice-aggregate-given-refusal : tie.Need-slice-aggregate-given-refusal
+slice-aggregate-given-refusal c = part-length _ _ (c .before .if2 .left)
+
+given-refusal-requires : tie.Need-given-refusal-requires
+given-refusal-requires c κs = table-part _ _ _ (c .before .before .before .before .before .before .before .args .outcomes .now) (c .before .before .before .before .before .before .before .pre) (c .before .before .before .values-through .ensures) (c .before .before .wide2 .ensures) (c .before .if2 .left)
 
 returns-3 : tie.Need-returns-3
-returns-3 c = refuse-14 _ _ _ _ (c .before .before .before .before .before .before .before .pre) (c .before .before .before .before .before .bits .ensures) (c .before .before .before .before .if1 .left) (c .before .accepts .ensures) (c .if3 .taken)
-
-returns-4 : tie.Need-returns-4
-returns-4 c = refuse-0 _ _ _ _ (c .before .before .before .before .before .before .before .pre) (c .before .before .before .before .before .bits .ensures) (c .before .before .before .before .if1 .left) (c .before .accepts .ensures) (c .if3 .left)
+returns-3 c = table-given _ _ _ (c .before .before .before .before .before .before .before .before .args .outcomes .now) _ (c .before .before .before .before .before .before .wide .ensures) (c .before .before .before .before .before .if1 .left) (c .before .before .before .before .values-through .ensures) (c .before .before .before .wide2 .ensures) (c .before .before .if2 .left) (c .given-refusal .ensures)
 
 pub table-refusal-spec : {M : Type 1} → statement M
-table-refusal-spec = tie.close (tie.spec bits-requires returns least-requires returns-2 accepts-requires returns-3 returns-4)
+table-refusal-spec =
+    tie.close
+    (tie.spec
+    wide-requires
+    returns
+    values-through-requires
+    wide-requires-2
+    returns-2
+    slice-aggregate-given-refusal
+    given-refusal-requires
+    returns-3)

@@ -1,0 +1,141 @@
+-- The refusal by the tests, and what no refusal leaves.
+use mathlib.Core.Path.{_≡_, refl, sym, ap, _∙_}
+use mathlib.Core.Bool.{Bool, true, false, not, _&&_, _||_, cond}
+use mathlib.Core.List.{List, [], _∷_}
+use Prim.Native.Nat.{ℕ, _*_, _≤_, _<_}
+use native.Mathlib.Omega.{arith}
+use lib.Dec.{eqb}
+use lib.ListN.{length, take}
+use lib.Seq.{length-take-le}
+use borrow.Author.Tests.{le-leb, lt-leb, leb-true, not-true, not-false}
+use Rattle.evidence.specs.Evidence.{meets, tableOf, Gives, accepted}
+use Rattle.evidence.proofs.TableLaws.{given-iff-accepted}
+use Rattle.refusals.specs.Refusals.{firstRefusal}
+use Rattle.refusals.proofs.TestLaws.{Pass, none-fails, all-pass, pass-split, pass-both, refused-before, refused-after}
+use Rattle.layouts.specs.Layouts.{layoutTests, layoutRefusal, chains}
+use Rattle.layouts.proofs.AllowedLaws.{allowed-n-is, allowed-d-is, divides-factor, layout-is}
+use Rattle.layouts.proofs.Coverage.{divisor-le}
+use Rattle.acceptance.specs.Private.{Table, rules}
+use Rattle.acceptance.proofs.Accepted.{accepted-rules}
+use Rattle.reading.specs.Contract.{tableIn, bits, tableTests, readTests, readRefusal, Layout}
+use Rattle.reading.specs.Private.{least, givenTests, Given}
+use Rattle.reading.proofs.BitLaws.{bits-at, pass-accepted}
+
+-- ---- tests 13 14
+
+pub given-13 : (s n d : ℕ) (t : List ℕ) {b : Bool} → b ≡ bits t → not b ≡ true → 13 ≡ firstRefusal (givenTests s n d t)
+given-13 s n d t {b} e f = rw (← e, not-true b f)
+
+-- with test 13 passed, the refusal is test 14's
+module _ (s n d : ℕ) (t : List ℕ) {b : Bool} (T : Table s n d t) (e : b ≡ bits t) (f : not b ≡ false) where
+  bits-pass : bits t ≡ true
+  bits-pass = sym e ∙ not-false b f
+
+  given-last : {a : Bool} → accepted (chains s n d) d t ≡ a → cond a 0 14 ≡ firstRefusal (givenTests s n d t)
+  given-last h = rw (bits-pass, h)
+
+  by-rules : {r : Bool} → r ≡ rules s n d t → accepted (chains s n d) d t ≡ r
+  by-rules h = accepted-rules s n d t T (bits-at t bits-pass) ∙ sym h
+
+  pub given-passes : {m : ℕ} → m ≡ least t → m ≡ 1 → 0 ≡ firstRefusal (givenTests s n d t)
+  given-passes h k = given-last (pass-accepted (chains s n d) d t (T .size) bits-pass (sym h ∙ k))
+
+  pub given-14 : {r : Bool} → r ≡ rules s n d t → not r ≡ true → 14 ≡ firstRefusal (givenTests s n d t)
+  given-14 {r} h k = given-last (by-rules h ∙ not-true r k)
+
+  pub given-0 : {r : Bool} → r ≡ rules s n d t → not r ≡ false → 0 ≡ firstRefusal (givenTests s n d t)
+  given-0 {r} h k = given-last (by-rules h ∙ not-false r k)
+
+-- ---- tests 8 12 13 14
+
+pub layout-table : (s n d : ℕ) (t : List ℕ) → Layout s n d → length t ≡ length (chains s n d) → Table s n d t
+layout-table s n d t L h =
+    record { scheme-ok = L .scheme-ok; n-ok = L .n-ok; some = L .some; most = L .most; whole = L .whole; size = h }
+
+module _ (s n d : ℕ) (o : List ℕ) (places : ℕ) where
+  pub table-8 : {w : ℕ} → w ≡ d → places < w → 8 ≡ firstRefusal (tableTests s n d o places)
+  table-8 h l = rw (lt-leb d places (omega arith))
+
+  pub table-12 : {w v x : ℕ} → w ≡ d → w ≤ places → v ≡ length (chains s n d) → x ≡ v → length o < x → 12 ≡ firstRefusal (tableTests s n d o places)
+  table-12 h l q k m = rw (le-leb d places (omega arith), lt-leb (length (chains s n d)) (length o) (omega arith))
+
+  pub table-given : {w v x p : ℕ} → w ≡ d → w ≤ places → v ≡ length (chains s n d) → x ≡ v → x ≤ length o → p ≡ firstRefusal (givenTests s n d (take x o)) →
+      p ≡ firstRefusal (tableTests s n d o places)
+  table-given h l q k m y =
+      rw (le-leb d places (omega arith), le-leb (length (chains s n d)) (length o) (omega arith))
+      (y ∙ ap (λ (i : ℕ). firstRefusal (givenTests s n d (take i o))) (k ∙ q))
+
+pub part-length : (x : ℕ) (o : List ℕ) → x ≤ length o → x ≡ length (take x o)
+part-length x o m = sym (length-take-le x o m)
+
+pub table-part : (s n d : ℕ) (o : List ℕ) {v x : ℕ} → Layout s n d → v ≡ length (chains s n d) → x ≡ v → x ≤ length o → Table s n d (take x o)
+table-part s n d o {v} {x} L q k m = layout-table s n d (take x o) L (length-take-le x o m ∙ k ∙ q)
+
+-- ---- tests 1 2 3 7 8 12 13 14
+
+-- the facts of an allowed layout
+pub layout-facts : (s n f d : ℕ) {r : ℕ} → r ≡ layoutRefusal s n f d → r ≡ 0 → Layout s n d
+layout-facts s n f d e z =
+    let u = layout-is s n f d (sym e ∙ z) in
+    let w = allowed-n-is n (u .0 .n-ok) in
+    let v = allowed-d-is n f d (u .1) in
+    record { scheme-ok = u .0 .scheme-ok; n-ok = u .0 .n-ok; some = v .some; most = v .most; whole = divides-factor n f d (w .some) (v .whole) }
+
+module _ (s n f d : ℕ) (o : List ℕ) (places : ℕ) where
+  pub layout-refused : {r : ℕ} → r ≡ layoutRefusal s n f d → (r ≡ 0 → ⊥) → r ≡ readRefusal s n f d o places
+  unfolding readRefusal layoutRefusal
+  layout-refused e h = refused-before (layoutTests s n f d) (tableTests s n d o places) e h
+
+  pub table-refused : {r p : ℕ} → r ≡ layoutRefusal s n f d → r ≡ 0 → p ≡ firstRefusal (tableTests s n d o places) → p ≡ readRefusal s n f d o places
+  unfolding readRefusal layoutRefusal
+  table-refused e z h = h ∙ sym (refused-after (layoutTests s n f d) (tableTests s n d o places) refl (sym e ∙ z))
+
+  -- each test of a call that is not refused
+  pub read-passes : readRefusal s n f d o places ≡ 0 → Pass (layoutTests s n f d) × Pass (tableTests s n d o places)
+  unfolding readRefusal
+  read-passes e = pass-split (layoutTests s n f d) (tableTests s n d o places) (none-fails (readTests s n f d o places) refl e)
+
+  pub read-layout : readRefusal s n f d o places ≡ 0 → layoutRefusal s n f d ≡ 0
+  unfolding layoutRefusal
+  read-layout e = all-pass (layoutTests s n f d) (read-passes e .0)
+
+  pub read-enough : readRefusal s n f d o places ≡ 0 → length (chains s n d) ≤ length o
+  read-enough e = leb-true (length (chains s n d)) (length o) (read-passes e .1 .1 .0)
+
+  -- the outcomes needed are a table that some set gives
+  pub read-given : readRefusal s n f d o places ≡ 0 → Given s n f d (tableIn s n d o) places
+  read-given e =
+      let p = read-passes e .1 in
+      let u = layout-is s n f d (read-layout e) in
+      let v = allowed-d-is n f d (u .1) in
+      record {
+        table = layout-table s n d (tableIn s n d o) (layout-facts s n f d refl (read-layout e)) (length-take-le (length (chains s n d)) o (read-enough e));
+        bits-ok = p .1 .1 .0;
+        accepted-ok = p .1 .1 .1 .0;
+        validation = divisor-le (f * n) d (v .some) (v .whole);
+        room = leb-true d places (p .0);
+      }
+
+-- ---- for theorems above: a table that a set gives is not refused
+
+bits-given : (cs : List (List ℕ)) (S : List ℕ) → bits (tableOf cs S) ≡ true
+unfolding tableOf
+bits-given [] S = refl
+bits-given (c ∷ cs) S = rw (bits-given cs S) (go (meets S c))
+  where
+    go : (b : Bool) → (eqb (cond b 0 1) 0 || eqb (cond b 0 1) 1) && true ≡ true
+    go true = refl
+    go false = refl
+
+pub set-read : (s n f d : ℕ) (o : List ℕ) (places : ℕ) (S : List ℕ) → layoutRefusal s n f d ≡ 0 → d ≤ places → length (chains s n d) ≤ length o →
+    Gives (chains s n d) d S (tableIn s n d o) → readRefusal s n f d o places ≡ 0
+unfolding readRefusal layoutRefusal
+set-read s n f d o places S e l m h =
+    all-pass (readTests s n f d o places)
+    (pass-both (layoutTests s n f d) (tableTests s n d o places) (none-fails (layoutTests s n f d) refl e) (
+      le-leb d places l,
+      (
+        le-leb (length (chains s n d)) (length o) m,
+        (rw (h .gives) at (bits-given (chains s n d) S), (given-iff-accepted (chains s n d) d (tableIn s n d o) .0 (S, h), tt)),
+      ),
+    ))
