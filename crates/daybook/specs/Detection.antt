@@ -13,7 +13,7 @@ use Rattle.layouts.specs.Layouts.{divides, allowedD, lastDays, chains}
 use Rattle.ledger.specs.Ledger.{daysOf, endsRefusal}
 use Rattle.sha256.specs.Sha256.{sha256}
 use Rattle.chains.specs.Book.{inputsOf}
-use Rattle.checking.specs.Contract.{Checking, checked, digestsOf}
+use Rattle.checking.specs.Contract.{Checked, checked, digestsOf}
 use Rattle.reading.specs.Numbers.{lastGood}
 use Rattle.reading.specs.Contract.{Report, found, Readout, readout}
 
@@ -43,7 +43,7 @@ lastUnchanged n d X = lastOf 0 (keep (λ g. divides n g && not (meets X (lastDay
 
 module _ (scheme n f d : ℕ) (x : Handed) where
   -- check, and all that it leaves
-  abbrev pub checking : Checking
+  abbrev pub checking : Checked
   checking = checked scheme n f d (x .ledger) (x .ends) (x .book) (x .work) (x .outcomes)
 
   -- read, on the outcome buffer as check left it, and all that it leaves
