@@ -221,15 +221,22 @@ claim s n f e cs =
     let w = from-open s n f e cs in
     record { refused = w .refused; book = ap (λ (l : List ℕ). l ++ bookWritten (opened s n f .state) cs) (sym (book-none s n)) ∙ w .book }
 
--- ---- a close that is taken, by the journal
+-- ---- a call that the journal takes
 
-module _ {s n f : ℕ} {j : Journal} {r : Record} (k : Keeps s n f j r) (part : List ℕ) (e : refusalOf s n j (closes (length part)) ≡ 0) where
-  pub taken-count : countOf (closing r part .result .answer) ≡ length (chainsOfDay s n (suc (length (j .entries))))
-  unfolding closing
-  taken-count = rw (close-same k (length part), e) (count-kept k)
+module _ {s n f : ℕ} {j : Journal} {r : Record} (k : Keeps s n f j r) where
+  pub taken-add : (piece : List ℕ) → refusalOf s n j (adds piece) ≡ 0 → Keeps s n f (entered j (adds piece)) (added r piece .state)
+  taken-add piece e = rw e at (keeps-added k piece)
 
-  pub taken-part : closing r part .part ≡ values sha256 (start s n) (j .entries ++ (j .day ∷ [])) (chainsOfDay s n (suc (length (j .entries)))) ++ drop (32 * length (chainsOfDay s n (suc (length (j .entries))))) part
-  unfolding closing
-  taken-part =
-      rw (close-same k (length part), e)
-      (ap₂ (λ (x : List ℕ) (y : ℕ). x ++ drop y part) (day-bytes-are k (length part) e) (day-bytes-length k (length part) e ∙ ap (λ (x : ℕ). 32 * x) (count-kept k)))
+  module _ (part : List ℕ) (e : refusalOf s n j (closes (length part)) ≡ 0) where
+    pub taken-close : Keeps s n f (entered j (closes (length part))) (closing r part .result .state)
+    taken-close = rw e at (keeps-closed k part)
+
+    pub taken-count : countOf (closing r part .result .answer) ≡ length (chainsOfDay s n (suc (length (j .entries))))
+    unfolding closing
+    taken-count = rw (close-same k (length part), e) (count-kept k)
+
+    pub taken-part : closing r part .part ≡ values sha256 (start s n) (j .entries ++ (j .day ∷ [])) (chainsOfDay s n (suc (length (j .entries)))) ++ drop (32 * length (chainsOfDay s n (suc (length (j .entries))))) part
+    unfolding closing
+    taken-part =
+        rw (close-same k (length part), e)
+        (ap₂ (λ (x : List ℕ) (y : ℕ). x ++ drop y part) (day-bytes-are k (length part) e) (day-bytes-length k (length part) e ∙ ap (λ (x : ℕ). 32 * x) (count-kept k)))

@@ -1,5 +1,5 @@
--- 01's diary, here a journal: a plain account of a list of calls, fed only their arguments. It knows nothing of records,
--- answers or written bytes. Definitions only.
+-- 01's diary, here a journal: a plain account of a list of calls, fed only their arguments. It knows nothing of
+-- records, answers or written bytes. Definitions only.
 use mathlib.Core.List.{List, [], _∷_, _++_}
 use Prim.Native.Nat.{ℕ, suc, _+_, _*_}
 use lib.Dec.{leb, ltb}
