@@ -97,10 +97,14 @@ module _ (s n f : ℕ) (opens : setupRefusal s n f ≡ 0) (E : List (List ℕ)) 
       let room = roomTests s n d (length (x .book)) (length (x .work)) (length (x .outcomes)) in
       all-pass (checkTests s n f d (x .ends) (length (x .ledger)) (length (x .book)) (length (x .work)) (length (x .outcomes)))
       (pass-both (layoutTests s n f d) (endsTests d (x .ends) (length (x .ledger)) ++ room) (none-fails (layoutTests s n f d) refl layout)
-      (pass-both (endsTests d (x .ends) (length (x .ledger))) room (none-fails (endsTests d (x .ends) (length (x .ledger))) refl (fit .ends-pass))
-      (le-leb (32 * length C) (length (x .book)) book-long,
-      (and-of (leb (32 * d) (length (x .work))) (leb (length C) (length (x .outcomes))) (le-leb (32 * d) (length (x .work)) (fit .work-long))
-      (le-leb (length C) (length (x .outcomes)) (fit .outcomes-long)), tt))))
+      (pass-both (endsTests d (x .ends) (length (x .ledger))) room (none-fails (endsTests d (x .ends) (length (x .ledger))) refl (fit .ends-pass)) (
+        le-leb (32 * length C) (length (x .book)) book-long,
+        (
+          and-of (leb (32 * d) (length (x .work))) (leb (length C) (length (x .outcomes))) (le-leb (32 * d) (length (x .work)) (fit .work-long))
+              (le-leb (length C) (length (x .outcomes)) (fit .outcomes-long)),
+          tt,
+        ),
+      )))
 
   done : checking s n f d x .answer ≡ Done
   unfolding checked

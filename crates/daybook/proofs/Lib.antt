@@ -1,3 +1,5 @@
-pub mod Demands
-pub mod Meets
+pub mod Claim
 pub mod Concrete
+pub mod Detection
+pub mod Meets
+pub mod Seal

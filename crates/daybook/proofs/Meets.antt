@@ -1,49 +1,45 @@
 -- The premises of demand 3 can be met: the sealed days end to end, with their running totals as ends.
-use mathlib.Core.Path.{_≡_, refl, sym, ap, ap₂, _∙_}
-use mathlib.Core.Bool.{Bool, true, false}
+use mathlib.Core.Path.{_≡_, refl, sym, ap, _∙_}
 use mathlib.Core.Logic.{_⊎_, inl, inr}
-use mathlib.Core.List.{List, [], _∷_, _++_, map, append-assoc, append-nil, List·Memᴰ, List·Memᴰ·head, List·Memᴰ·tail, List·Memᴰ·append-cases, List·Memᴰ·eq-of-singleton, List·Memᴰ·not-nil}
-use Prim.Native.Nat.{ℕ, zero, suc, pred, _+_, _-_, _*_, _≤_, _<_}
+use mathlib.Core.List.{List, [], _∷_, _++_, map, List·Memᴰ·append-cases, List·Memᴰ·eq-of-singleton}
+use Prim.Native.Nat.{ℕ, zero, suc, pred, _+_, _*_, _≤_}
 use native.Mathlib.Omega.{arith}
-use lib.Dec.{leb, ltb}
-use lib.ListN.{length, getD, take, drop, replicate, length-append, length-replicate}
-use lib.Seq.{take-at, drop-at, take-length, take-suc, split-at, ext-getD}
+use lib.Dec.{leb}
+use lib.ListN.{length, getD, replicate, length-append, length-replicate}
 use borrow.Author.Tests.{leb-true}
 use Rattle.lists.specs.Lists.{_among_, joined}
-use Rattle.refusals.specs.Refusals.{bookLimit, dayLimit}
-use Rattle.layouts.specs.Layouts.{allowedD, unless, orElse, chains}
-use Rattle.layouts.proofs.AllowedLaws.{unless-zero, or-else-zero}
-use Rattle.ledger.specs.Ledger.{startOf, endOf, dayAt, daysOf, endsRefusal, EndsHold}
-use Rattle.ledger.proofs.EndLaws.{none-refusal}
-use Rattle.ledger.proofs.DayLaws.{days-length, days-at}
-use Rattle.service.specs.Contract.{numberOf, opened}
-use Rattle.service.specs.Journal.{Journal, empty, Argument, adds, closes, refusalOf, entered, unlessRefused, kept, journalAfter}
+use Rattle.refusals.specs.Refusals.{dayLimit, unlessRefused}
+use Rattle.refusals.proofs.TestLaws.{none-fails}
+use Rattle.layouts.specs.Layouts.{chains}
+use Rattle.ledger.specs.Ledger.{endsFrom}
+use Rattle.ledger.proofs.JoinLaws.{days-joined, ends-joined}
+use Rattle.service.specs.Journal.{Journal, empty, Argument, adds, closes, testsOf, refusalOf, entered, kept, journalAfter}
 use Rattle.service.specs.Run.{Call, argumentOf, journalOf}
-use Rattle.daybook.specs.Claim.{Handed, sealed, wrote, Premises, report, Same, Met}
-use Rattle.daybook.proofs.Demands.{passes}
+use Rattle.daybook.specs.Detection.{Handed, Premises}
+use Rattle.daybook.specs.Claim.{sealed, wrote, SameDays, PremisesMet}
+use Rattle.daybook.proofs.Claim.{unaltered-clean}
 
 -- ---- no entry is over the limit
 
 pub record Limited (j : Journal) : Type 0 where
-  pub entries-limited : (e : List ℕ) → e among j .entries → length e ≤ 16777216
-  pub day-limited : length (j .day) ≤ 16777216
+  pub entries-limited : (e : List ℕ) → e among j .entries → length e ≤ dayLimit
+  pub day-limited : length (j .day) ≤ dayLimit
 
 limited-next : (s n : ℕ) (j : Journal) (a : Argument) → Limited j → Limited (kept s n j a)
 limited-next s n j (adds piece) l = go (refusalOf s n j (adds piece)) refl
   where
-    go : (x : ℕ) → refusalOf s n j (adds piece) ≡ x → Limited (unlessRefused x j (entered j (adds piece)))
+    go : (x : ℕ) → refusalOf s n j (adds piece) ≡ x → Limited (unlessRefused x (entered j (adds piece)) j)
     go zero e =
-        let b = or-else-zero (unless (ltb (length (j .entries)) bookLimit) 5) (unless (leb (length (j .day) + length piece) dayLimit) 4) e .1 in
-        let k = leb-true (length (j .day) + length piece) dayLimit (unless-zero (leb (length (j .day) + length piece) dayLimit) 3 b) in
+        let k = leb-true (length (j .day) + length piece) dayLimit (none-fails (testsOf s n j (adds piece)) refl e .1 .0) in
         record { entries-limited = l .entries-limited; day-limited = rw (length-append (j .day) piece) k }
     go (suc x) e = l
 limited-next s n j (closes size) l = go (refusalOf s n j (closes size))
   where
-    each : (e : List ℕ) → (e among j .entries) ⊎ (e among (j .day ∷ [])) → length e ≤ 16777216
+    each : (e : List ℕ) → (e among j .entries) ⊎ (e among (j .day ∷ [])) → length e ≤ dayLimit
     each e (inl m) = l .entries-limited e m
     each e (inr m) = rw (List·Memᴰ·eq-of-singleton m) (l .day-limited)
 
-    go : (x : ℕ) → Limited (unlessRefused x j (entered j (closes size)))
+    go : (x : ℕ) → Limited (unlessRefused x (entered j (closes size)) j)
     go zero = record { entries-limited = λ e m. each e (List·Memᴰ·append-cases (j .entries) m); day-limited = omega arith }
     go (suc x) = l
 
@@ -54,8 +50,8 @@ limited-after s n (a ∷ args) j l = limited-after s n args (kept s n j a) (limi
 limited : (s n : ℕ) (cs : List Call) → Limited (journalOf s n cs)
 limited s n cs = limited-after s n (map argumentOf cs) empty (record { entries-limited = λ e m. elim m [ ]; day-limited = omega arith })
 
-pub met : Met
-met s n f opens cs a = (x, record { fit = fit; same-days = days-are E; clean = passes s n f opens cs d x fit (λ g m. ap (λ (l : List (List ℕ)). getD l (pred g) []) (sym (days-are E))) .2 })
+pub premises-met : PremisesMet
+premises-met s n f opens cs a = (x, record { premises = fit; same-days = days-joined E; reads-clean = unaltered-clean s n f opens cs d x fit (λ g m. ap (λ (l : List (List ℕ)). getD l (pred g) []) (sym (days-joined E))) })
   where
     E : List (List ℕ)
     E = sealed s n cs
@@ -66,13 +62,13 @@ met s n f opens cs a = (x, record { fit = fit; same-days = days-are E; clean = p
     x : Handed
     x = record { ledger = joined E; ends = endsFrom 0 E; book = wrote s n f cs; work = replicate (32 * d) 0; outcomes = replicate (length (chains s n d)) 0; list = replicate d 0 }
 
-    fit : Premises s n f cs d x
+    fit : Premises s n f (sealed s n cs) (wrote s n f cs) d x
     fit =
         record {
           days-sealed = omega arith;
           allowed = a;
           begins = refl;
-          ends-pass = ends-good E (limited s n cs .entries-limited);
+          ends-pass = ends-joined E (limited s n cs .entries-limited);
           work-long = omega (arith, length-replicate {A = ℕ} (32 * d) 0);
           outcomes-long = omega (arith, length-replicate {A = ℕ} (length (chains s n d)) 0);
           list-long = omega (arith, length-replicate {A = ℕ} d 0);

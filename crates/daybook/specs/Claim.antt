@@ -1,6 +1,6 @@
 -- Demand 3: one claim on every list of calls, on every way of altering the ledger, and on checking and reading after
 -- it; and what stands beside it. The calls stand in it by the functions of their contracts: opened, added, closing
--- (open, add, close), checked (check), readout (read), sealing (seal). docs/CLAIM.md goes through it line by line.
+-- (open, add, close), checked (check), readout (read), sealedBook (seal). docs/CLAIM.md goes through it line by line.
 use mathlib.Core.Path.{_≡_}
 use mathlib.Core.Logic.{_⊎_}
 use mathlib.Core.Bool.{true}
@@ -18,7 +18,7 @@ use Rattle.chains.specs.Book.{bookOf, inputsOf}
 use Rattle.service.specs.Contract.{opened}
 use Rattle.service.specs.Journal.{empty, refusals}
 use Rattle.service.specs.Run.{Call, add, close, argumentOf, answers, bookWritten, journalOf}
-use Rattle.sealing.specs.Contract.{sealing}
+use Rattle.sealing.specs.Contract.{sealedBook}
 use Rattle.daybook.specs.Detection.{Handed, ledgerDays, checking, reading, Premises, SealedApart, Detected}
 
 -- the days sealed by the calls, 01's entries of the diary; and the book that the calls wrote
@@ -104,12 +104,12 @@ sealCalls scheme n d ledger book = flatMap (dayCalls scheme n ledger book) (days
 pub record SealedSo (scheme n f d : ℕ) (ledger ends book : List ℕ) (cs : List Call) : Type 0 where
   -- they seal the ledger's days, and write what seal writes; the book's rest stays
   pub days-sealed : sealed scheme n cs ≡ daysOf ledger ends d
-  pub book-written : sealing scheme n f d ledger ends book .book ≡
+  pub book-written : sealedBook scheme n f d ledger ends book .book ≡
       wrote scheme n f cs ++ drop (length (wrote scheme n f cs)) book
   -- and so all that demand 3 says holds for them
   pub guarantee : Guarantee scheme n f cs
 
 abbrev pub SealClaim : Type 0
 SealClaim =
-    (scheme n f d : ℕ) (ledger ends book : List ℕ) → sealing scheme n f d ledger ends book .answer ≡ Done →
+    (scheme n f d : ℕ) (ledger ends book : List ℕ) → sealedBook scheme n f d ledger ends book .answer ≡ Done →
     SealedSo scheme n f d ledger ends book (sealCalls scheme n d (daysOf ledger ends d) book)

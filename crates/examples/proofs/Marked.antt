@@ -9,7 +9,7 @@ use Rattle.lists.proofs.Laws.{true-or-false}
 use Rattle.evidence.proofs.TableLaws.{listing-ascends, given-iff-accepted, listed-iff}
 use Rattle.layouts.specs.Layouts.{lg, namesThrough, chains}
 use Rattle.reading.specs.Numbers.{lastGood}
-use Rattle.examples.specs.Examples.{Lists, NotGiven, Examples}
+use Rattle.examples.specs.Examples.{Lists, NotGiven, Examples, LastGoods}
 
 lists : (s n d : ℕ) (table list : List ℕ) → accepted (chains s n d) d table ≡ true → listing (chains s n d) d table ≡ list → Lists s n d table list
 lists s n d table list a e =
@@ -37,4 +37,12 @@ examples =
       tile-14 = refused 2 4 4 _ refl;
       tree-2 = lists 3 1 2 _ _ refl refl;
       tree-2-14 = refused 3 1 2 _ refl;
+    }
+
+pub last-goods : LastGoods
+unfolding listing accepted tableOf lg namesThrough flatMap chains lastGood
+last-goods =
+    record {
+      no-black = record { lists = lists 3 4 4 _ _ refl refl; low-is = refl; good-is = refl };
+      stored-once = record { lists = lists 3 4 8 _ _ refl refl; low-is = refl; good-is = refl };
     }

@@ -43,3 +43,9 @@ pub record Examples : Type 0 where
   pub tile-14 : NotGiven 2 4 4 (1 ∷ 1 ∷ 1 ∷ 0 ∷ [])
   pub tree-2 : Lists 3 1 2 (1 ∷ 0 ∷ 0 ∷ []) (2 ∷ [])
   pub tree-2-14 : NotGiven 3 1 2 (1 ∷ 1 ∷ 0 ∷ [])
+
+-- beside them, two that tell last good from wrong ones: a chain over days 1 to 2 that is no black value, as 4 does
+-- not divide 2; and black at day 4, stored once as a tree's chain
+pub record LastGoods : Type 0 where
+  pub no-black : Reads 3 4 1 4 (3 ∷ []) (3 ∷ []) 2 0
+  pub stored-once : Reads 3 4 1 8 (7 ∷ []) (7 ∷ []) 6 4
