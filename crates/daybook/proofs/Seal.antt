@@ -31,9 +31,9 @@ unfolding flatMap
 flat-append f [] ys = refl
 flat-append f (x ∷ xs) ys = ap (λ (r : List _). f x ++ r) (flat-append f xs ys) ∙ sym (append-assoc (f x) (flatMap f xs) (flatMap f ys))
 
-journal-append : (s n : ℕ) (as bs : List Argument) (j : Journal) → journalAfter s n j (as ++ bs) ≡ journalAfter s n (journalAfter s n j as) bs
-journal-append s n [] bs j = refl
-journal-append s n (a ∷ as) bs j = journal-append s n as bs (kept s n j a)
+journal-append : (s n : ℕ) (xs ys : List Argument) (j : Journal) → journalAfter s n j (xs ++ ys) ≡ journalAfter s n (journalAfter s n j xs) ys
+journal-append s n [] ys j = refl
+journal-append s n (a ∷ xs) ys j = journal-append s n xs ys (kept s n j a)
 
 -- a call that the journal takes
 taken : (s n : ℕ) (j : Journal) (a : Argument) → refusalOf s n j a ≡ 0 → kept s n j a ≡ entered j a
