@@ -46,6 +46,10 @@ reportOf d (Changed m) =
     }
 reportOf d (Refused number) = refusedReport number
 
+-- 01's five numbers, in 01's order
+abbrev pub fiveNumbers : Report → List ℕ
+fiveNumbers r = r .listed ∷ r .first ∷ r .low ∷ r .high ∷ r .last-good ∷ []
+
 -- ---- tests
 
 -- the table: the outcomes needed, one for each value; those past them are not read
