@@ -7,8 +7,7 @@ use lib.ListN.{length, getD, take, drop}
 use Rattle.chains.specs.declared.Value.{Value}
 use Rattle.service.specs.declared.Record.{Record}
 
--- where the parts begin after 01's five numbers: the open day's hash, black, the running hashes, the open day's block;
--- and where the last of them ends
+-- where the parts begin after 01's five numbers: the open day's hash, black, the running hashes, the open day's block
 abbrev pub hashAt : ℕ
 hashAt = 20
 
@@ -21,6 +20,7 @@ runningAt = 84
 abbrev pub blockAt : ℕ
 blockAt = 628
 
+-- the record's size in bytes
 abbrev pub recordSize : ℕ
 recordSize = 692
 

@@ -7,15 +7,19 @@ ghost use Prim.Native.Nat.{_+_, _≤_, _<_};
 ghost use lib.ListN.{length, take, drop};
 ghost use Rattle.record_bytes.specs.Bytes.{hashAt, runningAt, blockAt, recordSize, numbersBytes, slotsBytes, recordBytes, numberAt, valueAt, slotsAt, recordOf};
 
-// Where the parts begin after the five numbers, and where the last of them ends.
+// Where the open day's hash begins, after the five numbers.
 const HASH_AT: usize = 20;
 
+// Where black begins.
 const BLACK_AT: usize = 52;
 
+// Where the running hashes begin.
 const RUNNING_AT: usize = 84;
 
+// Where the open day's block begins.
 const BLOCK_AT: usize = 628;
 
+// The record's size.
 pub const RECORD_BYTES: usize = 692;
 
 // ---- from bytes
