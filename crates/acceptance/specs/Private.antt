@@ -7,6 +7,7 @@ use mathlib.Core.List.{List}
 use Prim.Native.Nat.{ℕ, zero, suc, pred, _-_, _*_, _/_, _%_, _^_, _≤_}
 use lib.Dec.{eqb, leb}
 use lib.ListN.{length, getD}
+use Rattle.refusals.specs.Refusals.{bookLimit}
 use Rattle.lists.specs.Lists.{every, upFrom}
 use Rattle.layouts.specs.Layouts.{divides, allowedScheme, allowedN, lg, Name, black, tile, tree, chains, position}
 
@@ -15,7 +16,7 @@ pub record Table (scheme n d : ℕ) (t : List ℕ) : Type 0 where
   pub scheme-ok : allowedScheme scheme ≡ true
   pub n-ok : allowedN n ≡ true
   pub some : 1 ≤ d
-  pub most : d ≤ 65536
+  pub most : d ≤ bookLimit
   pub whole : divides n d ≡ true
   pub size : length t ≡ length (chains scheme n d)
 
@@ -24,7 +25,7 @@ pub record Has (scheme n g : ℕ) (t : List ℕ) : Type 0 where
   pub scheme-ok : allowedScheme scheme ≡ true
   pub n-ok : allowedN n ≡ true
   pub some : 1 ≤ g
-  pub most : g ≤ 65536
+  pub most : g ≤ bookLimit
   pub size : length (chains scheme n g) ≤ length t
 
 -- and g closes an interval, or a chain of the tree's level l

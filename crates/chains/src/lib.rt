@@ -6,9 +6,11 @@ ghost use mathlib.Core.Path.{_≡_};
 ghost use mathlib.Core.Bool.{true};
 ghost use Prim.Native.Nat.{_+_, _≤_, _<_};
 ghost use lib.ListN.{length, take};
+ghost use Rattle.refusals.specs.Refusals.{bookLimit};
 ghost use Rattle.layouts.specs.Layouts.{allowedScheme, allowedN, namesOfDay};
 ghost use Rattle.chains.specs.Step as spec;
-ghost use Rattle.chains.specs.Step.{startValue, linked, linksSlot, storesSlot, storesBlack, linkSlot, restartSlot, linkedSlots, restarted, dayValues};
+ghost use Rattle.chains.specs.Step.{startValue, linked, linksSlot, storesSlot, storesBlack, linkSlot};
+ghost use Rattle.chains.specs.Step.{restartSlot, linkedSlots, restarted, dayValues};
 ghost use Rattle.chains.specs.Private.{Stepped};
 
 pub struct Value {
@@ -68,7 +70,7 @@ fn stores_slot(scheme: u32, n: u32, g: u32, i: u32) -> bool
 }
 
 fn stores_black(scheme: u32, n: u32, g: u32) -> bool
-    requires { ⌜ (allowedScheme scheme ≡ true) × (allowedN n ≡ true) × (1 ≤ g) × (g ≤ 65536) ⌝ }
+    requires { ⌜ (allowedScheme scheme ≡ true) × (allowedN n ≡ true) × (1 ≤ g) × (g ≤ bookLimit) ⌝ }
     ensures { λ r. ⌜ r ≡ storesBlack scheme n g ⌝ }
 {
     if g % n != 0 {
@@ -132,7 +134,7 @@ fn restart_slots(scheme: u32, n: u32, g: u32, start: Value, slots: [Value; 17]) 
 
 // The values of day g, k of them: the slots in their order, then black where it is one of its own.
 fn day_values(scheme: u32, n: u32, g: u32, k: u32, black: Value, slots: [Value; 17]) -> [Value; 17]
-    requires { ⌜ (allowedScheme scheme ≡ true) × (allowedN n ≡ true) × (1 ≤ g) × (g ≤ 65536)
+    requires { ⌜ (allowedScheme scheme ≡ true) × (allowedN n ≡ true) × (1 ≤ g) × (g ≤ bookLimit)
         × (k ≡ length (namesOfDay scheme n g)) ⌝ }
     ensures { λ r. ⌜ take k r ≡ dayValues scheme n g black slots ⌝ }
 {
@@ -154,7 +156,7 @@ pub fn step(
     slots: [Value; 17],
     h: [u32; 8],
 ) -> DayStep
-    requires { ⌜ (allowedScheme scheme ≡ true) × (allowedN n ≡ true) × (1 ≤ g) × (g ≤ 65536) ⌝ }
+    requires { ⌜ (allowedScheme scheme ≡ true) × (allowedN n ≡ true) × (1 ≤ g) × (g ≤ bookLimit) ⌝ }
     ensures { λ r. ⌜ Stepped scheme n g start black slots h r ⌝ }
 {
     let b = link_value(black, h);

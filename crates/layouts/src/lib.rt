@@ -4,7 +4,9 @@ ghost use mathlib.Core.Path.{_≡_};
 ghost use mathlib.Core.Bool.{true};
 ghost use Prim.Native.Nat.{_/_, _^_, _≤_, _<_};
 ghost use lib.ListN.{length};
-ghost use Rattle.layouts.specs.Layouts.{allowedScheme, allowedN, allowedF, allowedD, setupRefusal, layoutRefusal, black, tile, tree, chains, chainsOfDay, position};
+ghost use Rattle.refusals.specs.Refusals.{bookLimit};
+ghost use Rattle.layouts.specs.Layouts.{allowedScheme, allowedN, allowedF, allowedD, setupRefusal};
+ghost use Rattle.layouts.specs.Layouts.{layoutRefusal, black, tile, tree, chains, chainsOfDay, position};
 ghost use Rattle.layouts.specs.Layouts as spec;
 
 fn allowed_scheme(scheme: u32) -> bool
@@ -110,7 +112,7 @@ fn intervals(n: u32, g: u32) -> u32
 // The values of the days 1 to g under scheme 3. Of black those stored once, at the powers of two, are not counted
 // again: as many as b = g / n has binary digits, which is 1 + lg b, and 0 of 0.
 fn tree_through(n: u32, g: u32) -> u32
-    requires { ⌜ (allowedN n ≡ true) × (g ≤ 65536) ⌝ }
+    requires { ⌜ (allowedN n ≡ true) × (g ≤ bookLimit) ⌝ }
     ensures { λ r. ⌜ r ≡ length (chains 3 n g) ⌝ }
 {
     let b = intervals(n, g);
@@ -119,7 +121,7 @@ fn tree_through(n: u32, g: u32) -> u32
 
 // The values of the days 1 to g.
 pub fn values_through(scheme: u32, n: u32, g: u32) -> u32
-    requires { ⌜ (allowedScheme scheme ≡ true) × (allowedN n ≡ true) × (g ≤ 65536) ⌝ }
+    requires { ⌜ (allowedScheme scheme ≡ true) × (allowedN n ≡ true) × (g ≤ bookLimit) ⌝ }
     ensures { λ r. ⌜ r ≡ length (chains scheme n g) ⌝ }
 {
     if scheme == 1 {
@@ -133,7 +135,7 @@ pub fn values_through(scheme: u32, n: u32, g: u32) -> u32
 
 // The values of day g.
 pub fn values_of_day(scheme: u32, n: u32, g: u32) -> u32
-    requires { ⌜ (allowedScheme scheme ≡ true) × (allowedN n ≡ true) × (1 ≤ g) × (g ≤ 65536) ⌝ }
+    requires { ⌜ (allowedScheme scheme ≡ true) × (allowedN n ≡ true) × (1 ≤ g) × (g ≤ bookLimit) ⌝ }
     ensures { λ r. ⌜ r ≡ length (chainsOfDay scheme n g) ⌝ }
 {
     values_through(scheme, n, g) - values_through(scheme, n, g - 1)
@@ -141,7 +143,7 @@ pub fn values_of_day(scheme: u32, n: u32, g: u32) -> u32
 
 // Where black at day g stands in the book.
 pub fn black_at(scheme: u32, n: u32, g: u32) -> u32
-    requires { ⌜ (allowedScheme scheme ≡ true) × (allowedN n ≡ true) × (1 ≤ g) × (g ≤ 65536) × (n ≤ g) ⌝ }
+    requires { ⌜ (allowedScheme scheme ≡ true) × (allowedN n ≡ true) × (1 ≤ g) × (g ≤ bookLimit) × (n ≤ g) ⌝ }
     ensures { λ r. ⌜ r ≡ position scheme n (black g) ⌝ }
 {
     values_through(scheme, n, g) - 1
@@ -149,7 +151,7 @@ pub fn black_at(scheme: u32, n: u32, g: u32) -> u32
 
 // Where c(i) of the tile that ends at g stands.
 pub fn tile_at(n: u32, i: u32, g: u32) -> u32
-    requires { ⌜ (allowedN n ≡ true) × (1 ≤ g) × (g ≤ 65536) × (i ≤ 8) ⌝ }
+    requires { ⌜ (allowedN n ≡ true) × (1 ≤ g) × (g ≤ bookLimit) × (i ≤ 8) ⌝ }
     ensures { λ r. ⌜ r ≡ position 2 n (tile i g) ⌝ }
 {
     values_through(2, n, g - 1) + i
@@ -157,7 +159,7 @@ pub fn tile_at(n: u32, i: u32, g: u32) -> u32
 
 // Where the tree's level l that ends at g stands.
 pub fn tree_at(n: u32, l: u32, g: u32) -> u32
-    requires { ⌜ (allowedN n ≡ true) × (1 ≤ g) × (g ≤ 65536) × (l ≤ 16) ⌝ }
+    requires { ⌜ (allowedN n ≡ true) × (1 ≤ g) × (g ≤ bookLimit) × (l ≤ 16) ⌝ }
     ensures { λ r. ⌜ r ≡ position 3 n (tree l g) ⌝ }
 {
     values_through(3, n, g - 1) + l
