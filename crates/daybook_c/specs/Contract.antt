@@ -1,33 +1,46 @@
--- What the calls of the C interface leave in the arrays that they are lent, in terms of the calls' own definitions: those of
--- `service`, `sealing`, `checking`, `reading` and, for a record, its bytes. Definitions only.
-use mathlib.Core.List.{List, [], _∷_}
-use Prim.Native.Nat.{ℕ, zero, suc}
-use lib.ListN.{length}
+-- What the calls of the C interface return and leave in the arrays that they are lent, by the calls' own definitions; for a
+-- record, by its bytes. A call returns 0, or 01's number of the refusal. Definitions only.
+use mathlib.Core.List.{List}
+use Prim.Native.Nat.{ℕ}
+use Rattle.refusals.specs.Refusals.{numberOf, unlessRefused}
 use Rattle.layouts.specs.Layouts.{layoutRefusal, valueCount}
-use Rattle.reading.specs.Contract.{Report}
+use Rattle.reading.specs.Contract.{Report, fiveNumbers}
 use Rattle.record_bytes.specs.Bytes.{recordBytes, recordOf}
-use Rattle.service.specs.Contract.{countOf, addRefusal, added, closeRefusal, closed}
+use Rattle.service.specs.Contract.{writingNumber, countOf, added, closing}
 
--- what stands in an array after a call: the new contents, or on a refusal x what stood there
-abbrev pub keptIfRefused : {A : Type 0} → ℕ → A → A → A
-keptIfRefused zero new old = new
-keptIfRefused (suc x) new old = old
+-- add, on a record's bytes
+pub record AddedBytes : Type 0 where
+  pub number : ℕ
+  pub state : List ℕ
 
--- the record's bytes after add, and after close with a part of size bytes
-unfoldable pub recordAfterAdd : List ℕ → List ℕ → List ℕ
-recordAfterAdd b piece = keptIfRefused (addRefusal (recordOf b) (length piece)) (recordBytes (added (recordOf b) piece .state)) b
+unfoldable pub addedBytes : List ℕ → List ℕ → AddedBytes
+addedBytes state piece =
+    let call = added (recordOf state) piece in
+    let number = numberOf (call .answer) in
+    record { number = number; state = unlessRefused number (recordBytes (call .state)) state }
 
-unfoldable pub recordAfterClose : List ℕ → ℕ → List ℕ
-recordAfterClose b size = keptIfRefused (closeRefusal (recordOf b) size) (recordBytes (closed (recordOf b) size .state)) b
+-- close, on a record's bytes; values is what the number of values was before
+pub record ClosedBytes : Type 0 where
+  pub number : ℕ
+  pub state : List ℕ
+  pub part : List ℕ
+  pub values : ℕ
 
--- the number of values after close
-unfoldable pub valuesAfterClose : List ℕ → ℕ → ℕ → ℕ
-valuesAfterClose b size old = keptIfRefused (closeRefusal (recordOf b) size) (countOf (closed (recordOf b) size .answer)) old
+unfoldable pub closedBytes : List ℕ → List ℕ → ℕ → ClosedBytes
+closedBytes state part values =
+    let call = closing (recordOf state) part in
+    let number = writingNumber (call .result .answer) in
+    record {
+      number = number;
+      state = unlessRefused number (recordBytes (call .result .state)) state;
+      part = call .part;
+      values = unlessRefused number (countOf (call .result .answer)) values;
+    }
 
--- listed, first listed, low, high, last good
+-- the numbers after read: listed, first listed, low, high, last good
 unfoldable pub numbersAfter : Report → List ℕ → List ℕ
-numbersAfter report old = keptIfRefused (report .refusal) (report .listed ∷ report .first ∷ report .low ∷ report .high ∷ report .last_good ∷ []) old
+numbersAfter report numbers = unlessRefused (report .refusal) (fiveNumbers report) numbers
 
 -- 01's number of values for d days
 unfoldable pub valuesAfter : ℕ → ℕ → ℕ → ℕ → ℕ → ℕ
-valuesAfter scheme n f d old = keptIfRefused (layoutRefusal scheme n f d) (valueCount scheme n d) old
+valuesAfter scheme n f d values = unlessRefused (layoutRefusal scheme n f d) (valueCount scheme n d) values

@@ -46,6 +46,10 @@ reportOf d (Changed m) =
     }
 reportOf d (Refused number) = refusedReport number
 
+-- 01's five numbers, in 01's order
+abbrev pub fiveNumbers : Report → List ℕ
+fiveNumbers r = r .listed ∷ r .first ∷ r .low ∷ r .high ∷ r .last-good ∷ []
+
 -- ---- tests
 
 -- 01's table (SPEC 8.2): the outcomes needed, one for each value; those past them are not read (SPEC 8.1)

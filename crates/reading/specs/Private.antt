@@ -9,7 +9,7 @@ use Rattle.refusals.specs.Refusals.{Test, _orRefuse_}
 use Rattle.layouts.specs.Layouts.{chains}
 use Rattle.acceptance.specs.Private.{Table}
 use Rattle.reading.specs.Numbers.{lowOf}
-use Rattle.reading.specs.Contract.{bits}
+use Rattle.reading.specs.Contract.{Report, bits}
 use Rattle.reading.specs.declared.Numbers.{Numbers}
 
 -- each outcome in turn joins what the ones before it gave
@@ -40,3 +40,11 @@ pub record Given (scheme n f d : ℕ) (t : List ℕ) (places : ℕ) : Type 0 whe
 unfoldable pub numbersOf : ℕ → ℕ → ℕ → ℕ → ℕ → Numbers
 numbersOf n f d count day =
     record { listed = count; first = day; low = lowOf n f d day; high = d; «last_good» = (day - 1) / n * n }
+
+-- the five numbers of a report, as a struct
+pub record NumbersOf (r : Report) (m : Numbers) : Type 0 where
+  pub listed-is : m .listed ≡ r .listed
+  pub first-is : m .first ≡ r .first
+  pub low-is : m .low ≡ r .low
+  pub high-is : m .high ≡ r .high
+  pub last-good-is : m .«last_good» ≡ r .last-good

@@ -1,4 +1,6 @@
 // Reading: from a table of outcomes to the days that may have been changed.
+pub mod answers;
+
 ghost use mathlib.Core.Path.{_≡_};
 ghost use mathlib.Core.List.{_++_};
 ghost use Prim.Native.Nat.{_*_, _≤_, min, max};

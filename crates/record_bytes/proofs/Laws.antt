@@ -2,25 +2,25 @@
 -- Assumes nothing.
 use Prim.Native.Nat.{ℕ, zero, suc, _+_, _*_, _/_, _%_, _^_, _≤_, _<_}
 use mathlib.Core.Path.{_≡_, refl, sym, ap, ap₂, _∙_}
-use mathlib.Core.List.{List, [], _∷_, _++_, append-assoc, append-nil}
+use mathlib.Core.List.{List, [], _∷_, _++_, append-assoc}
 use native.Mathlib.Omega.{arith}
-use native.Mathlib.Numerals.{add-one, towards-suc}
+use native.Mathlib.Numerals.{towards-suc}
 use lib.ListN.{length, getD, take, drop, length-append, length-drop, take-append-drop, replicate}
-use lib.Seq.{take-all, take-at, drop-at, drop-drop, drop-cons, take-add, getD-append-seam, getD-append-add}
+use lib.Seq.{take-all, drop-at, drop-drop, drop-cons, take-add, getD-append-seam, getD-append-add}
 use Rattle.chains.specs.declared.Value.{Value}
 use Rattle.service.specs.Contract.{noValue, zeros}
 use Rattle.service.specs.declared.Record.{Record}
-use Rattle.record_bytes.specs.Bytes.{numbersBytes, slotsBytes, recordBytes, numberAt, numbersAt, valueAt, slotsAt, recordOf, Words, Slots, Fits}
+use Rattle.record_bytes.specs.Bytes.{hashAt, blackAt, runningAt, blockAt, recordSize, numbersBytes, slotsBytes, recordBytes, numberAt, numbersAt, valueAt, slotsAt, recordOf, Words, Slots, Fits}
 
 -- ---- bytes, to a record and back
 
 abbrev Below : List ℕ → Type 0
 Below b = (i : ℕ) → getD b i 0 < 256
 
-digits-back : (p q r s : ℕ) → p < 256 → q < 256 → r < 256 → s < 256
+digits-of-number : (p q r s : ℕ) → p < 256 → q < 256 → r < 256 → s < 256
     → numbersBytes ((p + q * 2 ^ 8 + r * 2 ^ 16 + s * 2 ^ 24) ∷ []) ≡ p ∷ q ∷ r ∷ s ∷ []
 unfolding numbersBytes
-digits-back p q r s a b c d =
+digits-of-number p q r s a b c d =
     let x = p + q * 2 ^ 8 + r * 2 ^ 16 + s * 2 ^ 24 in
     let d₁ : x / 2 ^ 8 ≡ q + r * 2 ^ 8 + s * 2 ^ 16 = omega arith in
     let d₂ : x / 2 ^ 16 ≡ r + s * 2 ^ 8 = omega arith in
@@ -40,49 +40,49 @@ first-four b i l =
     ∙ ap (λ (x : List ℕ). getD b i 0 ∷ getD b (suc i) 0 ∷ getD b (suc (suc i)) 0 ∷ take 1 x) (drop-cons b (suc (suc (suc i))) 0 (omega arith))))
 
 -- a run that goes on where the one before ended
-join : (b x : List ℕ) (i m k : ℕ) → x ≡ take m (drop i b) → (y : List ℕ) → y ≡ take k (drop (i + m) b) → x ++ y ≡ take (m + k) (drop i b)
-join b x i m k e y q = ap₂ (λ (s t : List ℕ). s ++ t) e (q ∙ ap (take k) (sym (drop-drop m i b))) ∙ sym (take-add m k (drop i b))
+runs-join : (b x : List ℕ) (i m k : ℕ) → x ≡ take m (drop i b) → (y : List ℕ) → y ≡ take k (drop (i + m) b) → x ++ y ≡ take (m + k) (drop i b)
+runs-join b x i m k e y q = ap₂ (λ (s t : List ℕ). s ++ t) e (q ∙ ap (take k) (sym (drop-drop m i b))) ∙ sym (take-add m k (drop i b))
 
 module _ (b : List ℕ) (below : Below b) where
-  one : (i : ℕ) → i + 4 ≤ length b → numbersBytes (numberAt b i ∷ []) ≡ take 4 (drop i b)
+  number-run : (i : ℕ) → i + 4 ≤ length b → numbersBytes (numberAt b i ∷ []) ≡ take 4 (drop i b)
   unfolding numberAt
-  one i l = digits-back (getD b i 0) (getD b (i + 1) 0) (getD b (i + 2) 0) (getD b (i + 3) 0) (below i) (below (i + 1)) (below (i + 2)) (below (i + 3)) ∙ first-four b i l
+  number-run i l = digits-of-number (getD b i 0) (getD b (i + 1) 0) (getD b (i + 2) 0) (getD b (i + 3) 0) (below i) (below (i + 1)) (below (i + 2)) (below (i + 3)) ∙ first-four b i l
 
   numbers-run : (k i : ℕ) → i + k * 4 ≤ length b → numbersBytes (numbersAt k b i) ≡ take (k * 4) (drop i b)
   unfolding numbersAt numbersBytes
   numbers-run zero i l = refl
   numbers-run (suc k) i l =
       let e : 4 + k * 4 ≡ suc k * 4 = omega arith in
-      join b (numbersBytes (numberAt b i ∷ [])) i 4 (k * 4) (one i (omega arith)) (numbersBytes (numbersAt k b (i + 4))) (numbers-run k (i + 4) (omega arith)) ∙ ap (λ (x : ℕ). take x (drop i b)) e
+      runs-join b (numbersBytes (numberAt b i ∷ [])) i 4 (k * 4) (number-run i (omega arith)) (numbersBytes (numbersAt k b (i + 4))) (numbers-run k (i + 4) (omega arith)) ∙ ap (λ (x : ℕ). take x (drop i b)) e
 
   slots-run : (k i : ℕ) → i + k * 32 ≤ length b → slotsBytes (slotsAt k b i) ≡ take (k * 32) (drop i b)
   unfolding slotsAt slotsBytes valueAt
   slots-run zero i l = refl
   slots-run (suc k) i l =
       let e : 32 + k * 32 ≡ suc k * 32 = omega arith in
-      join b (numbersBytes (numbersAt 8 b i)) i 32 (k * 32) (numbers-run 8 i (omega arith)) (slotsBytes (slotsAt k b (i + 32))) (slots-run k (i + 32) (omega arith)) ∙ ap (λ (x : ℕ). take x (drop i b)) e
+      runs-join b (numbersBytes (numbersAt 8 b i)) i 32 (k * 32) (numbers-run 8 i (omega arith)) (slotsBytes (slotsAt k b (i + 32))) (slots-run k (i + 32) (omega arith)) ∙ ap (λ (x : ℕ). take x (drop i b)) e
 
-  rest : (i m : ℕ) {x y : List ℕ} → x ≡ take m (drop i b) → y ≡ drop (i + m) b → x ++ y ≡ drop i b
-  rest i m e q = ap₂ (λ (s t : List ℕ). s ++ t) e (q ∙ sym (drop-drop m i b)) ∙ take-append-drop m (drop i b)
+  run-and-rest : (i m : ℕ) {x y : List ℕ} → x ≡ take m (drop i b) → y ≡ drop (i + m) b → x ++ y ≡ drop i b
+  run-and-rest i m e q = ap₂ (λ (s t : List ℕ). s ++ t) e (q ∙ sym (drop-drop m i b)) ∙ take-append-drop m (drop i b)
 
-  five : length b ≡ 692 → numbersBytes (numberAt b 0 ∷ numberAt b 4 ∷ numberAt b 8 ∷ numberAt b 12 ∷ numberAt b 16 ∷ []) ≡ take 20 b
+  counts-run : length b ≡ recordSize → numbersBytes (numberAt b 0 ∷ numberAt b 4 ∷ numberAt b 8 ∷ numberAt b 12 ∷ numberAt b 16 ∷ []) ≡ take hashAt b
   unfolding numbersAt
-  five l = numbers-run 5 0 (omega arith)
+  counts-run l = numbers-run 5 0 (omega arith)
 
   -- the bytes of the record that 692 bytes say are those bytes
-  pub bytes-back : length b ≡ 692 → recordBytes (recordOf b) ≡ b
+  pub bytes-round-trip : length b ≡ recordSize → recordBytes (recordOf b) ≡ b
   unfolding recordBytes recordOf valueAt
-  bytes-back l =
-      let e₅ : take 64 (drop 628 b) ≡ drop 628 b = take-all 64 (drop 628 b) (omega (arith, length-drop 628 b)) in
-      let e₄ = rest 84 544 (slots-run 17 84 (omega arith)) e₅ in
-      let e₃ = rest 52 32 (numbers-run 8 52 (omega arith)) e₄ in
-      let e₂ = rest 20 32 (numbers-run 8 20 (omega arith)) e₃ in
-      rest 0 20 (five l) e₂
+  bytes-round-trip l =
+      let e₅ : take 64 (drop blockAt b) ≡ drop blockAt b = take-all 64 (drop blockAt b) (omega (arith, length-drop blockAt b)) in
+      let e₄ = run-and-rest runningAt 544 (slots-run 17 runningAt (omega arith)) e₅ in
+      let e₃ = run-and-rest blackAt 32 (numbers-run 8 blackAt (omega arith)) e₄ in
+      let e₂ = run-and-rest hashAt 32 (numbers-run 8 hashAt (omega arith)) e₃ in
+      run-and-rest 0 hashAt (counts-run l) e₂
 
 -- ---- a record, to bytes and back
 
-word-back : (x : ℕ) → x < 2 ^ 32 → x % 256 + x / 2 ^ 8 % 256 * 2 ^ 8 + x / 2 ^ 16 % 256 * 2 ^ 16 + x / 2 ^ 24 % 256 * 2 ^ 24 ≡ x
-word-back x l =
+word-of-digits : (x : ℕ) → x < 2 ^ 32 → x % 256 + x / 2 ^ 8 % 256 * 2 ^ 8 + x / 2 ^ 16 % 256 * 2 ^ 16 + x / 2 ^ 24 % 256 * 2 ^ 24 ≡ x
+word-of-digits x l =
     let d₁ : x / 2 ^ 8 ≡ x / 2 ^ 8 % 256 + x / 2 ^ 16 * 256 = omega arith in
     let d₂ : x / 2 ^ 16 ≡ x / 2 ^ 16 % 256 + x / 2 ^ 24 * 256 = omega arith in
     let d₃ : x / 2 ^ 24 % 256 ≡ x / 2 ^ 24 = omega arith in
@@ -93,48 +93,48 @@ unfolding numbersBytes
 length-numbers [] = refl
 length-numbers (x ∷ xs) = let e = length-numbers xs in omega arith
 
-number-back : (pre post : List ℕ) (x : ℕ) → x < 2 ^ 32 → numberAt (pre ++ (numbersBytes (x ∷ []) ++ post)) (length pre) ≡ x
+number-read : (pre post : List ℕ) (x : ℕ) → x < 2 ^ 32 → numberAt (pre ++ (numbersBytes (x ∷ []) ++ post)) (length pre) ≡ x
 unfolding numberAt numbersBytes
-number-back pre post x l =
+number-read pre post x l =
     let ys = numbersBytes (x ∷ []) ++ post in
     let e₀ : getD (pre ++ ys) (length pre) 0 ≡ x % 256 = getD-append-seam pre (x % 256) (x / 2 ^ 8 % 256 ∷ x / 2 ^ 16 % 256 ∷ x / 2 ^ 24 % 256 ∷ post) 0 in
     let e₁ : getD (pre ++ ys) (length pre + 1) 0 ≡ x / 2 ^ 8 % 256 = getD-append-add pre ys 1 0 in
     let e₂ : getD (pre ++ ys) (length pre + 2) 0 ≡ x / 2 ^ 16 % 256 = getD-append-add pre ys 2 0 in
     let e₃ : getD (pre ++ ys) (length pre + 3) 0 ≡ x / 2 ^ 24 % 256 = getD-append-add pre ys 3 0 in
-    rw (e₀, e₁, e₂, e₃) (word-back x l)
+    rw (e₀, e₁, e₂, e₃) (word-of-digits x l)
 
-numbers-back : (xs pre post : List ℕ) → ((i : ℕ) → getD xs i 0 < 2 ^ 32) → numbersAt (length xs) (pre ++ (numbersBytes xs ++ post)) (length pre) ≡ xs
+numbers-read : (xs pre post : List ℕ) → ((i : ℕ) → getD xs i 0 < 2 ^ 32) → numbersAt (length xs) (pre ++ (numbersBytes xs ++ post)) (length pre) ≡ xs
 unfolding numbersAt numbersBytes
-numbers-back [] pre post h = refl
-numbers-back (x ∷ xs) pre post h =
+numbers-read [] pre post h = refl
+numbers-read (x ∷ xs) pre post h =
     let front = pre ++ numbersBytes (x ∷ []) in
     let at : length front ≡ length pre + 4 = length-append pre (numbersBytes (x ∷ [])) in
     let on : front ++ (numbersBytes xs ++ post) ≡ pre ++ (numbersBytes (x ∷ xs) ++ post) = append-assoc pre (numbersBytes (x ∷ [])) (numbersBytes xs ++ post) in
-    ap₂ (λ (y : ℕ) (ys : List ℕ). y ∷ ys) (number-back pre (numbersBytes xs ++ post) x (h 0))
-    (sym (ap₂ (λ (l : List ℕ) (i : ℕ). numbersAt (length xs) l i) on at) ∙ numbers-back xs front post (λ i. h (suc i)))
+    ap₂ (λ (y : ℕ) (ys : List ℕ). y ∷ ys) (number-read pre (numbersBytes xs ++ post) x (h 0))
+    (sym (ap₂ (λ (l : List ℕ) (i : ℕ). numbersAt (length xs) l i) on at) ∙ numbers-read xs front post (λ i. h (suc i)))
 
-value-back : (pre post : List ℕ) (v : Value) → Words (v .words) → valueAt (pre ++ (numbersBytes (v .words) ++ post)) (length pre) ≡ v
+value-read : (pre post : List ℕ) (v : Value) → Words (v .words) → valueAt (pre ++ (numbersBytes (v .words) ++ post)) (length pre) ≡ v
 unfolding valueAt
-value-back pre post v w =
+value-read pre post v w =
     let e : numbersAt 8 (pre ++ (numbersBytes (v .words) ++ post)) (length pre) ≡ v .words =
-    ap (λ (k : ℕ). numbersAt k (pre ++ (numbersBytes (v .words) ++ post)) (length pre)) (sym (w .0)) ∙ numbers-back (v .words) pre post (w .1) in
+    ap (λ (k : ℕ). numbersAt k (pre ++ (numbersBytes (v .words) ++ post)) (length pre)) (sym (w .0)) ∙ numbers-read (v .words) pre post (w .1) in
     ap {B = Value} (λ l. record { words = l }) e
 
-slots-back : (vs : List Value) (pre post : List ℕ) → Slots vs → slotsAt (length vs) (pre ++ (slotsBytes vs ++ post)) (length pre) ≡ vs
+slots-read : (vs : List Value) (pre post : List ℕ) → Slots vs → slotsAt (length vs) (pre ++ (slotsBytes vs ++ post)) (length pre) ≡ vs
 unfolding slotsAt slotsBytes
-slots-back [] pre post h = refl
-slots-back (v ∷ vs) pre post h =
+slots-read [] pre post h = refl
+slots-read (v ∷ vs) pre post h =
     let bytes = numbersBytes (v .words) in
     let front = pre ++ bytes in
     let rest = slotsBytes vs ++ post in
     let at : length front ≡ length pre + 32 = length-append pre bytes ∙ (let e = length-numbers (v .words) in let n = h .0 .0 in omega arith) in
-    let whole : pre ++ ((bytes ++ slotsBytes vs) ++ post) ≡ pre ++ (bytes ++ rest) = ap (λ (l : List ℕ). pre ++ l) (append-assoc bytes (slotsBytes vs) post) in
-    let on : front ++ rest ≡ pre ++ ((bytes ++ slotsBytes vs) ++ post) = append-assoc pre bytes rest ∙ sym whole in
-    ap₂ (λ (y : Value) (ys : List Value). y ∷ ys) (ap (λ (l : List ℕ). valueAt l (length pre)) whole ∙ value-back pre rest v (h .0))
-    (sym (ap₂ (λ (l : List ℕ) (i : ℕ). slotsAt (length vs) l i) on at) ∙ slots-back vs front post (h .1))
+    let regrouped : pre ++ ((bytes ++ slotsBytes vs) ++ post) ≡ pre ++ (bytes ++ rest) = ap (λ (l : List ℕ). pre ++ l) (append-assoc bytes (slotsBytes vs) post) in
+    let on : front ++ rest ≡ pre ++ ((bytes ++ slotsBytes vs) ++ post) = append-assoc pre bytes rest ∙ sym regrouped in
+    ap₂ (λ (y : Value) (ys : List Value). y ∷ ys) (ap (λ (l : List ℕ). valueAt l (length pre)) regrouped ∙ value-read pre rest v (h .0))
+    (sym (ap₂ (λ (l : List ℕ) (i : ℕ). slotsAt (length vs) l i) on at) ∙ slots-read vs front post (h .1))
 
 same-record : (b : List ℕ) (r : Record) → numberAt b 0 ≡ r .scheme → numberAt b 4 ≡ r .n → numberAt b 8 ≡ r .f → numberAt b 12 ≡ r .days → numberAt b 16 ≡ r .bytes
-    → numbersAt 8 b 20 ≡ r .hash → take 64 (drop 628 b) ≡ r .block → valueAt b 52 ≡ r .black → slotsAt 17 b 84 ≡ r .running → recordOf b ≡ r
+    → numbersAt 8 b hashAt ≡ r .hash → take 64 (drop blockAt b) ≡ r .block → valueAt b blackAt ≡ r .black → slotsAt 17 b runningAt ≡ r .running → recordOf b ≡ r
 unfolding recordOf
 same-record b r e₁ e₂ e₃ e₄ e₅ e₆ e₇ e₈ e₉ = rw (e₁, e₂, e₃, e₄, e₅, e₆, e₇, e₈, e₉)
 
@@ -145,21 +145,21 @@ length-slots (v ∷ vs) h =
     length-append (numbersBytes (v .words)) (slotsBytes vs) ∙ (let a = length-numbers (v .words) in let n = h .0 .0 in let e = length-slots vs (h .1) in omega arith)
 
 -- five numbers, and what follows them
-counts-back : (v w x y z : ℕ) (post : List ℕ) → v < 2 ^ 32 → w < 2 ^ 32 → x < 2 ^ 32 → y < 2 ^ 32 → z < 2 ^ 32 → let b = numbersBytes (v ∷ w ∷ x ∷ y ∷ z ∷ []) ++ post in
+counts-read : (v w x y z : ℕ) (post : List ℕ) → v < 2 ^ 32 → w < 2 ^ 32 → x < 2 ^ 32 → y < 2 ^ 32 → z < 2 ^ 32 → let b = numbersBytes (v ∷ w ∷ x ∷ y ∷ z ∷ []) ++ post in
     (numberAt b 0 ≡ v) × (numberAt b 4 ≡ w) × (numberAt b 8 ≡ x) × (numberAt b 12 ≡ y) × (numberAt b 16 ≡ z)
 unfolding numbersBytes
-counts-back v w x y z post a b c d e = (
-  number-back [] (numbersBytes (w ∷ x ∷ y ∷ z ∷ []) ++ post) v a,
-  number-back (numbersBytes (v ∷ [])) (numbersBytes (x ∷ y ∷ z ∷ []) ++ post) w b,
-  number-back (numbersBytes (v ∷ w ∷ [])) (numbersBytes (y ∷ z ∷ []) ++ post) x c,
-  number-back (numbersBytes (v ∷ w ∷ x ∷ [])) (numbersBytes (z ∷ []) ++ post) y d,
-  number-back (numbersBytes (v ∷ w ∷ x ∷ y ∷ [])) post z e,
+counts-read v w x y z post a b c d e = (
+  number-read [] (numbersBytes (w ∷ x ∷ y ∷ z ∷ []) ++ post) v a,
+  number-read (numbersBytes (v ∷ [])) (numbersBytes (x ∷ y ∷ z ∷ []) ++ post) w b,
+  number-read (numbersBytes (v ∷ w ∷ [])) (numbersBytes (y ∷ z ∷ []) ++ post) x c,
+  number-read (numbersBytes (v ∷ w ∷ x ∷ [])) (numbersBytes (z ∷ []) ++ post) y d,
+  number-read (numbersBytes (v ∷ w ∷ x ∷ y ∷ [])) post z e,
 )
 
 -- the record that a record's bytes say is that record
-pub record-back : (r : Record) → Fits r → recordOf (recordBytes r) ≡ r
+pub record-round-trip : (r : Record) → Fits r → recordOf (recordBytes r) ≡ r
 unfolding recordBytes
-record-back r fits =
+record-round-trip r fits =
     let five = r .scheme ∷ r .n ∷ r .f ∷ r .days ∷ r .bytes ∷ [] in
     let cs = numbersBytes five in
     let hs = numbersBytes (r .hash) in
@@ -167,28 +167,28 @@ record-back r fits =
     let ss = slotsBytes (r .running) in
     let b = recordBytes r in
     let c = fits .counts in
-    let n = counts-back (r .scheme) (r .n) (r .f) (r .days) (r .bytes) (hs ++ (ks ++ (ss ++ r .block))) (c .0) (c .1) (c .2) (c .3) (c .4) in
-    let lc : length cs ≡ 20 = length-numbers five in
+    let n = counts-read (r .scheme) (r .n) (r .f) (r .days) (r .bytes) (hs ++ (ks ++ (ss ++ r .block))) (c .0) (c .1) (c .2) (c .3) (c .4) in
+    let lc : length cs ≡ hashAt = length-numbers five in
     let lh : length hs ≡ 32 = length-numbers (r .hash) ∙ ap (λ (k : ℕ). k * 4) (fits .hash-fits .0) in
     let lk : length ks ≡ 32 = length-numbers (r .black .words) ∙ ap (λ (k : ℕ). k * 4) (fits .black-fits .0) in
     let ls : length ss ≡ 544 = length-slots (r .running) (fits .running-fit) ∙ ap (λ (k : ℕ). k * 32) (fits .running-many) in
-    let p₂ : length (cs ++ hs) ≡ 52 = length-append cs hs ∙ omega arith in
-    let p₃ : length ((cs ++ hs) ++ ks) ≡ 84 = length-append (cs ++ hs) ks ∙ omega arith in
-    let p₄ : length (((cs ++ hs) ++ ks) ++ ss) ≡ 628 = length-append ((cs ++ hs) ++ ks) ss ∙ omega arith in
+    let p₂ : length (cs ++ hs) ≡ blackAt = length-append cs hs ∙ omega arith in
+    let p₃ : length ((cs ++ hs) ++ ks) ≡ runningAt = length-append (cs ++ hs) ks ∙ omega arith in
+    let p₄ : length (((cs ++ hs) ++ ks) ++ ss) ≡ blockAt = length-append ((cs ++ hs) ++ ks) ss ∙ omega arith in
     let b₂ : (cs ++ hs) ++ (ks ++ (ss ++ r .block)) ≡ b = append-assoc cs hs (ks ++ (ss ++ r .block)) in
     let b₃ : ((cs ++ hs) ++ ks) ++ (ss ++ r .block) ≡ b = append-assoc (cs ++ hs) ks (ss ++ r .block) ∙ b₂ in
     let b₄ : (((cs ++ hs) ++ ks) ++ ss) ++ r .block ≡ b = append-assoc ((cs ++ hs) ++ ks) ss (r .block) ∙ b₃ in
-    let hash : numbersAt 8 b 20 ≡ r .hash =
-    sym (ap₂ (λ (k i : ℕ). numbersAt k b i) (fits .hash-fits .0) lc) ∙ numbers-back (r .hash) cs (ks ++ (ss ++ r .block)) (fits .hash-fits .1) in
-    let black : valueAt b 52 ≡ r .black = sym (ap₂ (λ (l : List ℕ) (i : ℕ). valueAt l i) b₂ p₂) ∙ value-back (cs ++ hs) (ss ++ r .block) (r .black) (fits .black-fits) in
-    let running : slotsAt 17 b 84 ≡ r .running =
-    ap (λ (k : ℕ). slotsAt k b 84) (sym (fits .running-many)) ∙ sym (ap₂ (λ (l : List ℕ) (i : ℕ). slotsAt (length (r .running)) l i) b₃ p₃)
-    ∙ slots-back (r .running) ((cs ++ hs) ++ ks) (r .block) (fits .running-fit) in
-    let block : take 64 (drop 628 b) ≡ r .block =
-    ap (λ (l : List ℕ). take 64 (drop 628 l)) (sym b₄) ∙ ap (take 64) (drop-at (((cs ++ hs) ++ ks) ++ ss) (r .block) 628 p₄) ∙ take-all 64 (r .block) (let e = fits .block-many in omega arith) in
+    let hash : numbersAt 8 b hashAt ≡ r .hash =
+    sym (ap₂ (λ (k i : ℕ). numbersAt k b i) (fits .hash-fits .0) lc) ∙ numbers-read (r .hash) cs (ks ++ (ss ++ r .block)) (fits .hash-fits .1) in
+    let black : valueAt b blackAt ≡ r .black = sym (ap₂ (λ (l : List ℕ) (i : ℕ). valueAt l i) b₂ p₂) ∙ value-read (cs ++ hs) (ss ++ r .block) (r .black) (fits .black-fits) in
+    let running : slotsAt 17 b runningAt ≡ r .running =
+    ap (λ (k : ℕ). slotsAt k b runningAt) (sym (fits .running-many)) ∙ sym (ap₂ (λ (l : List ℕ) (i : ℕ). slotsAt (length (r .running)) l i) b₃ p₃)
+    ∙ slots-read (r .running) ((cs ++ hs) ++ ks) (r .block) (fits .running-fit) in
+    let block : take 64 (drop blockAt b) ≡ r .block =
+    ap (λ (l : List ℕ). take 64 (drop blockAt l)) (sym b₄) ∙ ap (take 64) (drop-at (((cs ++ hs) ++ ks) ++ ss) (r .block) blockAt p₄) ∙ take-all 64 (r .block) (let e = fits .block-many in omega arith) in
     same-record b r (n .0) (n .1) (n .2) (n .3) (n .4) hash block black running
 
 -- a refused open's record, as bytes
-pub zeros-bytes : recordBytes zeros ≡ replicate 692 0
+pub zeros-bytes : recordBytes zeros ≡ replicate recordSize 0
 unfolding recordBytes numbersBytes slotsBytes zeros noValue
 zeros-bytes = refl

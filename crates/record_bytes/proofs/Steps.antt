@@ -9,7 +9,7 @@ use lib.ListN.{length, getD, take, drop, set, length-append, length-drop, drop-o
 use lib.Seq.{lt-length-set, take-suc, take-suc-set, take-all, take-at, sets, sets-eq, length-take-le, getD-drop, paste}
 use Rattle.chains.specs.declared.Value.{Value}
 use Rattle.service.specs.declared.Record.{Record}
-use Rattle.record_bytes.specs.Bytes.{numbersBytes, slotsBytes, numberAt, numbersAt, valueAt, slotsAt, recordOf, recordBytes}
+use Rattle.record_bytes.specs.Bytes.{hashAt, blackAt, runningAt, blockAt, numbersBytes, slotsBytes, numberAt, numbersAt, valueAt, slotsAt, recordOf, recordBytes}
 
 -- ---- reading
 
@@ -59,23 +59,23 @@ put-four r i x l =
     ap (λ (m : List ℕ). take (i + 4) m) (s₁ ∙ s₂) ∙ take-at p (drop (i + 4) r) (i + 4) n
 
 -- one more after a front that is written
-pub then : (p q s x y : List ℕ) → q ≡ p ++ x → s ≡ q ++ y → s ≡ p ++ (x ++ y)
-then p q s x y e f = f ∙ ap (λ (l : List ℕ). l ++ y) e ∙ append-assoc p x y
+pub front-grows : (p q s x y : List ℕ) → q ≡ p ++ x → s ≡ q ++ y → s ≡ p ++ (x ++ y)
+front-grows p q s x y e f = f ∙ ap (λ (l : List ℕ). l ++ y) e ∙ append-assoc p x y
 
 pub words-next : (p q s w : List ℕ) (k : ℕ) → k < length w → q ≡ p ++ numbersBytes (take k w) → s ≡ q ++ numbersBytes (getD w k 0 ∷ []) → s ≡ p ++ numbersBytes (take (k + 1) w)
 words-next p q s w k l e f =
-    then p q s (numbersBytes (take k w)) (numbersBytes (getD w k 0 ∷ [])) e f
+    front-grows p q s (numbersBytes (take k w)) (numbersBytes (getD w k 0 ∷ [])) e f
     ∙ ap (λ (x : List ℕ). p ++ x) (sym (numbers-append (take k w) (getD w k 0 ∷ [])) ∙ rw (add-one) (ap numbersBytes (sym (take-suc w k 0 l))))
 
 pub slots-put-next : (p q s : List ℕ) (w : List Value) (k : ℕ) (d : Value) → k < length w → q ≡ p ++ slotsBytes (take k w) → s ≡ q ++ numbersBytes (getD w k d .words) → s ≡ p ++ slotsBytes (take (k + 1) w)
 unfolding slotsBytes
 slots-put-next p q s w k d l e f =
-    then p q s (slotsBytes (take k w)) (numbersBytes (getD w k d .words)) e f
+    front-grows p q s (slotsBytes (take k w)) (numbersBytes (getD w k d .words)) e f
     ∙ ap (λ (x : List ℕ). p ++ x) (ap (λ (x : List ℕ). slotsBytes (take k w) ++ x) (sym (append-nil (numbersBytes (getD w k d .words)))) ∙ sym (slots-append (take k w) (getD w k d ∷ [])) ∙ rw (add-one) (ap slotsBytes (sym (take-suc w k d l))))
 
 -- all of an array, once k has reached its length
-pub whole : {A : Type 0} (r : List A) (f : ℕ → List A) (n k : ℕ) → k ≤ n → n ≤ k → length r ≡ n → take k r ≡ f k → r ≡ f n
-whole r f n k l h e q =
+pub array-filled : {A : Type 0} (r : List A) (f : ℕ → List A) (n k : ℕ) → k ≤ n → n ≤ k → length r ≡ n → take k r ≡ f k → r ≡ f n
+array-filled r f n k l h e q =
     let w : k ≡ n = omega arith in
     sym (take-all n r (omega arith)) ∙ (rw w at q)
 
@@ -92,8 +92,8 @@ value-of b i e₁ e₂ e₃ e₄ e₅ e₆ e₇ e₈ =
     let p₈ : i + 24 + 4 ≡ i + 28 = omega arith in
     rw (e₁, e₂, e₃, e₄, e₅, e₆, e₇, e₈, p₃, p₄, p₅, p₆, p₇, p₈)
 
-pub words-whole : (p b w : List ℕ) (i k : ℕ) → k ≤ 8 → 8 ≤ k → length w ≡ 8 → take (i + k * 4) b ≡ p ++ numbersBytes (take k w) → take (i + 32) b ≡ p ++ numbersBytes w
-words-whole p b w i k l h e q =
+pub words-filled : (p b w : List ℕ) (i k : ℕ) → k ≤ 8 → 8 ≤ k → length w ≡ 8 → take (i + k * 4) b ≡ p ++ numbersBytes (take k w) → take (i + 32) b ≡ p ++ numbersBytes w
+words-filled p b w i k l h e q =
     let n : k ≡ 8 = omega arith in
     (rw (n, take-all 8 w (omega arith)) at q)
 
@@ -101,23 +101,24 @@ pub words-none : (r : List ℕ) (i : ℕ) → take (i + 0) r ≡ take i r ++ num
 unfolding numbersBytes
 words-none r i = ap (λ (x : ℕ). take x r) (let e : i + 0 ≡ i = omega arith in e) ∙ sym (append-nil (take i r))
 
-pub block-put : (b old block : List ℕ) (k : ℕ) → b ≡ paste old 628 block k → k ≤ 64 → 64 ≤ k → length block ≡ 64 → length old ≡ 692 → b ≡ take 628 old ++ block
-block-put b old block k e l h lb lo =
+-- a block written to the end
+pub block-put : (b old block : List ℕ) (at k : ℕ) → b ≡ paste old at block k → k ≤ 64 → 64 ≤ k → length block ≡ 64 → length old ≡ at + 64 → b ≡ take at old ++ block
+block-put b old block at k e l h lb lo =
     let w : k ≡ 64 = omega arith in
-    e ∙ rw (w, take-all 64 block (omega arith), drop-of-length-le old {i = 628 + 64} (omega arith), append-nil)
+    e ∙ rw (w, take-all 64 block (omega arith), drop-of-length-le old {i = at + 64} (omega arith), append-nil)
 
-pub slots-none : (r : List ℕ) → take 84 r ≡ take 84 r ++ slotsBytes []
+pub slots-none : (r : List ℕ) → take runningAt r ≡ take runningAt r ++ slotsBytes []
 unfolding slotsBytes
-slots-none r = sym (append-nil (take 84 r))
+slots-none r = sym (append-nil (take runningAt r))
 
-pub slots-whole : (p b : List ℕ) (w : List Value) (k : ℕ) → k ≤ 17 → 17 ≤ k → length w ≡ 17 → take (84 + k * 32) b ≡ p ++ slotsBytes (take k w) → take 628 b ≡ p ++ slotsBytes w
-slots-whole p b w k l h e q =
+pub slots-filled : (p b : List ℕ) (w : List Value) (k : ℕ) → k ≤ 17 → 17 ≤ k → length w ≡ 17 → take (runningAt + k * 32) b ≡ p ++ slotsBytes (take k w) → take blockAt b ≡ p ++ slotsBytes w
+slots-filled p b w k l h e q =
     let n : k ≡ 17 = omega arith in
     (rw (n, take-all 17 w (omega arith)) at q)
 
 pub record-of : (b : List ℕ) (v : Value) {scheme n f days bytes : ℕ} {block : List ℕ} {black : Value} {running : List Value}
-    → v ≡ valueAt b 20 → scheme ≡ numberAt b 0 → n ≡ numberAt b 4 → f ≡ numberAt b 8 → days ≡ numberAt b 12 → bytes ≡ numberAt b 16
-    → block ≡ take 64 (drop 628 b) → black ≡ valueAt b 52 → running ≡ slotsAt 17 b 84
+    → v ≡ valueAt b hashAt → scheme ≡ numberAt b 0 → n ≡ numberAt b 4 → f ≡ numberAt b 8 → days ≡ numberAt b 12 → bytes ≡ numberAt b 16
+    → block ≡ take 64 (drop blockAt b) → black ≡ valueAt b blackAt → running ≡ slotsAt 17 b runningAt
     → _≡_ {A = Record} record { scheme = scheme; n = n; f = f; days = days; bytes = bytes; hash = v .words; block = block; black = black; running = running } (recordOf b)
 unfolding recordOf valueAt
 record-of b v e₁ e₂ e₃ e₄ e₅ e₆ e₇ e₈ e₉ = rw (e₁, e₂, e₃, e₄, e₅, e₆, e₇, e₈, e₉)
@@ -130,4 +131,4 @@ counts-of b t e₁ e₂ e₃ e₄ e₅ = rw (e₅, e₄, e₃, e₂, e₁)
 pub record-put : {p q r s : List ℕ} (b : List ℕ) (t : Record) → p ≡ numbersBytes (t .scheme ∷ t .n ∷ t .f ∷ t .days ∷ t .bytes ∷ []) → q ≡ p ++ numbersBytes (t .hash)
     → r ≡ q ++ numbersBytes (t .black .words) → s ≡ r ++ slotsBytes (t .running) → b ≡ s ++ t .block → b ≡ recordBytes t
 unfolding recordBytes
-record-put b t e₁ e₂ e₃ e₄ e₅ = rw (e₅, e₄, e₃, e₂, e₁, append-assoc, append-assoc, append-assoc)
+record-put b t e₁ e₂ e₃ e₄ e₅ = rw (e₅, e₄, e₃, e₂, e₁) (simp append-assoc)

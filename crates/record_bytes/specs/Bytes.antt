@@ -1,10 +1,28 @@
--- The record as 692 bytes, as the C interface keeps it: each number in 4 bytes, little-endian, no padding. Definitions only.
+-- The record as bytes, as the C interface keeps it: each number in 4 bytes, little-endian, no padding.
+-- Definitions only.
 use mathlib.Core.Path.{_≡_}
 use mathlib.Core.List.{List, [], _∷_, _++_}
 use Prim.Native.Nat.{ℕ, zero, suc, _+_, _*_, _/_, _%_, _^_, _<_}
 use lib.ListN.{length, getD, take, drop}
 use Rattle.chains.specs.declared.Value.{Value}
 use Rattle.service.specs.declared.Record.{Record}
+
+-- where the parts begin after 01's five numbers: the open day's hash, black, the running hashes, the open day's block
+abbrev pub hashAt : ℕ
+hashAt = 20
+
+abbrev pub blackAt : ℕ
+blackAt = 52
+
+abbrev pub runningAt : ℕ
+runningAt = 84
+
+abbrev pub blockAt : ℕ
+blockAt = 628
+
+-- the record's size in bytes
+abbrev pub recordSize : ℕ
+recordSize = 692
 
 -- numbers as bytes, end to end
 unfoldable pub numbersBytes : List ℕ → List ℕ
@@ -15,7 +33,7 @@ unfoldable pub slotsBytes : List Value → List ℕ
 slotsBytes [] = []
 slotsBytes (v ∷ vs) = numbersBytes (v .words) ++ slotsBytes vs
 
--- 01's five numbers; the open day's hash; black; the running hashes; the open day's block
+-- the record's parts, end to end
 unfoldable pub recordBytes : Record → List ℕ
 recordBytes r =
     numbersBytes (r .scheme ∷ r .n ∷ r .f ∷ r .days ∷ r .bytes ∷ [])
@@ -38,7 +56,8 @@ unfoldable pub slotsAt : ℕ → List ℕ → ℕ → List Value
 slotsAt zero b i = []
 slotsAt (suc k) b i = valueAt b i ∷ slotsAt k b (i + 32)
 
--- the record that 692 bytes say, whatever they are; the laws `bytes-back` and `record-back`: the two undo each other
+-- the record that recordSize bytes say, whatever they are; the laws `bytes-round-trip` and `record-round-trip`: the two
+-- undo each other
 unfoldable pub recordOf : List ℕ → Record
 recordOf b =
     record {
@@ -47,13 +66,14 @@ recordOf b =
       f = numberAt b 8;
       days = numberAt b 12;
       bytes = numberAt b 16;
-      hash = numbersAt 8 b 20;
-      block = take 64 (drop 628 b);
-      black = valueAt b 52;
-      running = slotsAt 17 b 84;
+      hash = numbersAt 8 b hashAt;
+      block = take 64 (drop blockAt b);
+      black = valueAt b blackAt;
+      running = slotsAt 17 b runningAt;
     }
 
--- a record of the sizes and numbers that its type has: 32-bit numbers, 8 to a hash, 17 running hashes, 64 bytes of block
+-- a record of the sizes and numbers that its type has: 32-bit numbers, 8 to a hash, 17 running hashes, 64 bytes of
+-- block
 abbrev pub Words : List ℕ → Type 0
 Words l = (length l ≡ 8) × ((i : ℕ) → getD l i 0 < 2 ^ 32)
 

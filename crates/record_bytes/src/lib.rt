@@ -1,11 +1,26 @@
-// A service's record as 692 bytes, to be kept on disk and handed to other languages.
+// A service's record as bytes, to be kept on disk and handed to other languages.
 use chains::Value;
 use service::Record;
 ghost use mathlib.Core.Path.{_≡_};
 ghost use mathlib.Core.List.{[], _∷_, _++_};
 ghost use Prim.Native.Nat.{_+_, _≤_, _<_};
 ghost use lib.ListN.{length, take, drop};
-ghost use Rattle.record_bytes.specs.Bytes.{numbersBytes, slotsBytes, recordBytes, numberAt, valueAt, slotsAt, recordOf};
+ghost use Rattle.record_bytes.specs.Bytes.{hashAt, runningAt, blockAt, recordSize, numbersBytes, slotsBytes, recordBytes, numberAt, valueAt, slotsAt, recordOf};
+
+// Where the open day's hash begins, after the five numbers.
+const HASH_AT: usize = 20;
+
+// Where black begins.
+const BLACK_AT: usize = 52;
+
+// Where the running hashes begin.
+const RUNNING_AT: usize = 84;
+
+// Where the open day's block begins.
+const BLOCK_AT: usize = 628;
+
+// The record's size.
+pub const RECORD_BYTES: usize = 692;
 
 // ---- from bytes
 
@@ -45,13 +60,13 @@ fn value_at(b: &[u8], i: usize) -> Value
 }
 
 fn slots_at(b: &[u8]) -> [Value; 17]
-    requires { ⌜ 628 ≤ length (now b) ⌝ }
-    ensures { λ r. ⌜ r ≡ slotsAt 17 (now (b .entry)) 84 ⌝ }
+    requires { ⌜ blockAt ≤ length (now b) ⌝ }
+    ensures { λ r. ⌜ r ≡ slotsAt 17 (now (b .entry)) runningAt ⌝ }
 {
-    let mut r = [value_at(b, 84); 17];
+    let mut r = [value_at(b, RUNNING_AT); 17];
     let mut k = 0usize;
     while k < 17 {
-        let v = value_at(b, 84 + k * 32);
+        let v = value_at(b, RUNNING_AT + k * 32);
         r[k] = v;
         k += 1;
     }
@@ -59,23 +74,23 @@ fn slots_at(b: &[u8]) -> [Value; 17]
 }
 
 fn block_at(b: &[u8]) -> [u8; 64]
-    requires { ⌜ 692 ≤ length (now b) ⌝ }
-    ensures { λ r. ⌜ r ≡ take 64 (drop 628 (now (b .entry))) ⌝ }
+    requires { ⌜ recordSize ≤ length (now b) ⌝ }
+    ensures { λ r. ⌜ r ≡ take 64 (drop blockAt (now (b .entry))) ⌝ }
 {
     let mut r = [0u8; 64];
     let mut k = 0usize;
     while k < 64 {
-        r[k] = b[628 + k];
+        r[k] = b[BLOCK_AT + k];
         k += 1;
     }
     r
 }
 
 // The record that the bytes say.
-pub fn decode(b: [u8; 692]) -> Record
+pub fn decode(b: [u8; RECORD_BYTES]) -> Record
     ensures { λ r. ⌜ r ≡ recordOf b ⌝ }
 {
-    let day = value_at(&b, 20);
+    let day = value_at(&b, HASH_AT);
     let hash = day.words;
     Record {
         scheme: number_at(&b, 0),
@@ -85,7 +100,7 @@ pub fn decode(b: [u8; 692]) -> Record
         bytes: number_at(&b, 16),
         hash,
         block: block_at(&b),
-        black: value_at(&b, 52),
+        black: value_at(&b, BLACK_AT),
         running: slots_at(&b),
     }
 }
@@ -114,32 +129,33 @@ fn put_words(b: &mut [u8], i: usize, words: [u32; 8])
 }
 
 fn put_slots(b: &mut [u8], slots: [Value; 17])
-    requires { ⌜ 628 ≤ length (now b) ⌝ }
-    ensures { λ r. ⌜ take 628 (now (b .exit)) ≡ take 84 (now (b .entry)) ++ slotsBytes slots ⌝ }
+    requires { ⌜ blockAt ≤ length (now b) ⌝ }
+    ensures { λ r. ⌜ take blockAt (now (b .exit)) ≡ take runningAt (now (b .entry)) ++ slotsBytes slots ⌝ }
 {
     let mut k = 0usize;
     while k < 17 {
         let v = slots[k];
         let w = v.words;
-        put_words(b, 84 + k * 32, w);
+        put_words(b, RUNNING_AT + k * 32, w);
         k += 1;
     }
 }
 
 fn put_block(b: &mut [u8], block: [u8; 64])
-    requires { ⌜ length (now b) ≡ 692 ⌝ }
-    ensures { λ r. ⌜ now (b .exit) ≡ take 628 (now (b .entry)) ++ block ⌝ }
+    requires { ⌜ length (now b) ≡ recordSize ⌝ }
+    ensures { λ r. ⌜ now (b .exit) ≡ take blockAt (now (b .entry)) ++ block ⌝ }
 {
     let mut k = 0usize;
     while k < 64 {
-        b[628 + k] = block[k];
+        b[BLOCK_AT + k] = block[k];
         k += 1;
     }
 }
 
 fn put_counts(b: &mut [u8], state: Record)
-    requires { ⌜ 20 ≤ length (now b) ⌝ }
-    ensures { λ r. ⌜ take 20 (now (b .exit)) ≡ numbersBytes (state .scheme ∷ state .n ∷ state .f ∷ state .days ∷ state .bytes ∷ []) ⌝ }
+    requires { ⌜ hashAt ≤ length (now b) ⌝ }
+    ensures { λ r. ⌜ take hashAt (now (b .exit)) ≡
+        numbersBytes (state .scheme ∷ state .n ∷ state .f ∷ state .days ∷ state .bytes ∷ []) ⌝ }
 {
     put_number(b, 0, state.scheme);
     put_number(b, 4, state.n);
@@ -149,16 +165,16 @@ fn put_counts(b: &mut [u8], state: Record)
 }
 
 // The record's bytes.
-pub fn encode(state: Record) -> [u8; 692]
+pub fn encode(state: Record) -> [u8; RECORD_BYTES]
     ensures { λ r. ⌜ r ≡ recordBytes state ⌝ }
 {
-    let mut b = [0u8; 692];
+    let mut b = [0u8; RECORD_BYTES];
     put_counts(&mut b, state);
     let hash = state.hash;
-    put_words(&mut b, 20, hash);
+    put_words(&mut b, HASH_AT, hash);
     let black = state.black;
     let words = black.words;
-    put_words(&mut b, 52, words);
+    put_words(&mut b, BLACK_AT, words);
     let slots = state.running;
     put_slots(&mut b, slots);
     let block = state.block;

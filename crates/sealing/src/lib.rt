@@ -1,5 +1,5 @@
-// Sealing a whole ledger in one call: open, then add and close for each of its days. Each close is lent the unwritten rest
-// of the book.
+// Sealing a whole ledger in one call: open, then add and close for each of its days. Each close is lent the unwritten
+// rest of the book.
 use refusals::Answer;
 use service::Closed;
 use service::Record;
@@ -73,7 +73,8 @@ pub fn seal(
     ends: &[u32],
     book: &mut [u8],
 ) -> Answer
-    ensures { λ r. ⌜ r ≡ sealedBook scheme n f d (now (ledger .entry)) (now (ends .entry)) (now (book .entry)) .answer ⌝ }
+    ensures { λ r. ⌜ r ≡
+        sealedBook scheme n f d (now (ledger .entry)) (now (ends .entry)) (now (book .entry)) .answer ⌝ }
     ensures { λ r. ⌜ now (book .exit) ≡
         sealedBook scheme n f d (now (ledger .entry)) (now (ends .entry)) (now (book .entry)) .book ⌝ }
 {

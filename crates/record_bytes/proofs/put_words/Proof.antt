@@ -1,11 +1,10 @@
 use Prim.Native.Nat.{_+_, _-_, _*_, _≤_}
 use mathlib.Core.Path.{_≡_, refl}
 use mathlib.Core.List.{_++_}
-use lib.ListN.{length, take, drop}
-use lib.Seq.{paste, paste-zero}
+use lib.ListN.{length, take}
 use native.Mathlib.Omega.{arith}
 use Rattle.record_bytes.specs.Bytes.{numbersBytes}
-use Rattle.record_bytes.proofs.Steps.{words-none, words-next, words-whole}
+use Rattle.record_bytes.proofs.Steps.{words-none, words-next, words-filled}
 use borrow.Author.Needs.{needs}
 use Rattle.record_bytes.proofs.put_words.Statement.{statement}
 use Rattle.record_bytes.proofs.put_words.Tie as tie
@@ -19,27 +18,6 @@ abbrev μ-loop : tie.MeasureT-loop
 loop-holds : tie.Need-loop-holds Inv-loop μ-loop
 loop-holds c = (search needs, refl, words-none (c .before .args .b .now) (c .before .args .i))
 
-mul-put-number : tie.Need-mul-put-number Inv-loop μ-loop
-mul-put-number c = search needs
-
-add-put-number : tie.Need-add-put-number Inv-loop μ-loop
-add-put-number c = search needs
-
-mul-put-number-2 : tie.Need-mul-put-number-2 Inv-loop μ-loop
-mul-put-number-2 c = search needs
-
-array-read-put-number : tie.Need-array-read-put-number Inv-loop μ-loop
-array-read-put-number c = search needs
-
-put-number-requires : tie.Need-put-number-requires Inv-loop μ-loop
-put-number-requires c κs = search needs
-
-add-k : tie.Need-add-k Inv-loop μ-loop
-add-k c = search needs
-
-loop-less : tie.Need-loop-less Inv-loop μ-loop
-loop-less c = search needs
-
 loop-again : tie.Need-loop-again Inv-loop μ-loop
 loop-again c =
     let args = c .before .before .before .before .before .before .before .args in
@@ -47,11 +25,8 @@ loop-again c =
     let e : args .i + (loop .k + 1) * 4 ≡ args .i + loop .k * 4 + 4 = omega arith in
     (search needs, search needs, words-next (take (args .i) (args .b .now)) (take (args .i + loop .k * 4) (loop .b)) _ (args .t3) (loop .k) (search needs) (loop .inv .2) (rw e (c .before .before .put-number .ensures)))
 
-same-length : tie.Need-same-length Inv-loop μ-loop
-same-length c = search needs
-
 returns : tie.Need-returns Inv-loop μ-loop
-returns c = words-whole (take (c .before .before .before .args .i) (c .before .before .before .args .b .now)) (c .before .loop .b) (c .before .before .before .args .t3) (c .before .before .before .args .i) (c .before .loop .k) (search needs) (omega arith) (search needs) (c .before .loop .inv .2)
+returns c = words-filled (take (c .before .before .before .args .i) (c .before .before .before .args .b .now)) (c .before .loop .b) (c .before .before .before .args .t3) (c .before .before .before .args .i) (c .before .loop .k) (search needs) (omega arith) (search needs) (c .before .loop .inv .2)
 
 pub put-words-spec : {M : Type 1} → statement M
 put-words-spec =
@@ -60,13 +35,13 @@ put-words-spec =
     Inv-loop
     μ-loop
     loop-holds
-    mul-put-number
-    add-put-number
-    mul-put-number-2
-    array-read-put-number
-    put-number-requires
-    add-k
-    loop-less
+    (λ c. search needs)
+    (λ c. search needs)
+    (λ c. search needs)
+    (λ c. search needs)
+    (λ c κs. search needs)
+    (λ c. search needs)
+    (λ c. search needs)
     loop-again
-    same-length
+    (λ c. search needs)
     returns)

@@ -19,8 +19,9 @@ abbrev μ-loop : tie.MeasureT-loop
 
 loop-holds : tie.Need-loop-holds Inv-loop μ-loop
 loop-holds c =
+    let none : 0 ≤ c .before .before .before .before .before .before .args .d = omega arith in
     let ok = sealable _ _ _ _ _ _ _ (c .before .before .before .before .before .before .pre) in
-    (search needs, c .wide .ensures, ok, no-day-sealed ok _ (ap (λ (x : Opened). x .state) (c .before .before .«open» .ensures)))
+    (none, c .wide .ensures, ok, no-day-sealed ok _ (ap (λ (x : Opened). x .state) (c .before .before .«open» .ensures)))
 
 -- a turn's day is one of the first d
 turn : (c : tie.In-loop Inv-loop μ-loop) → c .before .loop .i < c .before .before .before .before .before .before .before .before .args .d
