@@ -46,7 +46,7 @@ reportOf d (Changed m) =
     }
 reportOf d (Refused number) = refusedReport number
 
--- 01's five numbers, in 01's order
+-- 01's five numbers (SPEC 8.6), in 01's order
 abbrev pub fiveNumbers : Report → List ℕ
 fiveNumbers r = r .listed ∷ r .first ∷ r .low ∷ r .high ∷ r .last-good ∷ []
 
