@@ -1,7 +1,6 @@
--- Demand 3 (SPEC 9.3): one claim on every list of calls, on every way of altering the ledger, and on checking and
--- reading after it; and what stands beside it. The calls stand in it by the functions of their contracts: opened,
--- added, closing (open, add, close), checked (check), readout (read), sealedBook (seal). docs/CLAIM.md goes through it
--- line by line.
+-- Demand 3 (SPEC 9.3): one claim on every list of calls, every way of altering the ledger, and checking and reading
+-- after it; and what stands beside it. The calls stand in it by the functions of their contracts: opened, added,
+-- closing (open, add, close), checked (check), readout (read), sealedBook (seal). docs/CLAIM.md goes through it.
 use mathlib.Core.Path.{_≡_}
 use mathlib.Core.Logic.{_⊎_}
 use mathlib.Core.Bool.{true}
@@ -81,8 +80,7 @@ Unaltered =
     Premises scheme n f (sealed scheme n cs) (wrote scheme n f cs) d x →
     ((g : ℕ) → g among days d → dayOf (sealed scheme n cs) g ≡ dayOf (ledgerDays d x) g) → ReadsClean scheme n f d x
 
--- ---- the premises can be met: whatever was sealed, if 01 allows the number of days, there is a ledger of the same
--- days, with its ends, a book and buffers
+-- ---- the premises can be met: for whatever was sealed, if 01 allows the number of days, by a ledger of the same days
 
 pub record SameDays (scheme n f : ℕ) (cs : List Call) (x : Handed) : Type 0 where
   pub premises : Premises scheme n f (sealed scheme n cs) (wrote scheme n f cs) (length (sealed scheme n cs)) x
@@ -96,8 +94,7 @@ PremisesMet =
 
 -- ---- a book written by seal
 
--- the calls that seal stands for (SPEC 15.2): for each day, its bytes in one piece, and a close that is lent the rest
--- of the book
+-- the calls that seal stands for (SPEC 15.2): for each day, its bytes in one piece, and a close lent the book's rest
 abbrev pub dayCalls : ℕ → ℕ → List (List ℕ) → List ℕ → ℕ → List Call
 dayCalls scheme n ledger book g = add (dayOf ledger g) ∷ close (drop (32 * length (chains scheme n (pred g))) book) ∷ []
 

@@ -105,6 +105,5 @@ pub record Detected (scheme n f : ℕ) (sealed : List (List ℕ)) (d : ℕ) (x :
   pub clean : (reading scheme n f d x .report .clean ≡ true) ↔ (changedDays sealed d x ≡ [])
   pub numbers : reading scheme n f d x .report ≡
       found n f d (listedDays scheme n f d x) (lastGood scheme n d (tableOfChanges scheme n sealed d x))
-  -- last good, the last day whose black value passes (SPEC 8.7), is the last that n divides with no changed day up to
-  -- it
+  -- last good, the last day whose black value passes, is the last that n divides with no changed day up to it
   pub last-good : lastGood scheme n d (tableOfChanges scheme n sealed d x) ≡ lastUnchanged n d (changedDays sealed d x)

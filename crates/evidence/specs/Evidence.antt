@@ -41,8 +41,7 @@ module _ (H : List ℕ → List ℕ) where
   linkInputs v ledger [] = []
   linkInputs v ledger (g ∷ c) = linkInput ledger v g ∷ linkInputs (H (linkInput ledger v g)) ledger c
 
-  -- 01's inputs hashed (SPEC 3.7) for some chains over the days 1 to d: one for each day, one for each link of each
-  -- chain
+  -- 01's inputs hashed (SPEC 3.7) for some chains over the days 1 to d: one a day, one for each link of each chain
   unfoldable pub inputs : List ℕ → List (List ℕ) → ℕ → List (List ℕ) → List (List ℕ)
   inputs start chains d ledger = map (λ g. 0 ∷ dayOf ledger g) (days d) ++ flatMap (linkInputs start ledger) chains
 
@@ -59,8 +58,7 @@ module _ (H : List ℕ → List ℕ) where
     pub different : one ≡ other → ⊥
     pub same-hash : H one ≡ H other
 
-  -- 01's outcomes of a check (SPEC 7.5): 1 for each chain whose value stands in the book at its place, 32 bytes a
-  -- value, else 0
+  -- 01's outcomes of a check (SPEC 7.5): 1 for each chain whose value stands in the book at its place, else 0
   abbrev pub checkOutcomes : List ℕ → List (List ℕ) → List (List ℕ) → List ℕ → List ℕ
   checkOutcomes start ledger [] book = []
   checkOutcomes start ledger (c ∷ cs) book =

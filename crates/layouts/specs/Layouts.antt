@@ -106,8 +106,7 @@ valueCount (suc (suc zero)) n d = d / n * (2 + lg n)
 valueCount (suc (suc (suc zero))) n d = 2 * d - ones d + d / n - (1 + lg (d / n))
 valueCount (suc (suc (suc (suc s)))) n d = 0
 
--- the place of a value in the book (SPEC 4.11), counted from 0: after the values of the days before, by index or level;
--- black last
+-- a value's place in the book (SPEC 4.11), from 0: after the values of the days before, by index or level; black last
 abbrev pub position : ℕ → ℕ → Name → ℕ
 position scheme n (black g) = pred (length (namesThrough scheme n g))
 position scheme n (tile i g) = length (namesThrough scheme n (pred g)) + i

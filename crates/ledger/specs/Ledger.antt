@@ -34,8 +34,7 @@ abbrev pub endsFrom : ℕ → List (List ℕ) → List ℕ
 endsFrom a [] = []
 endsFrom a (day ∷ days) = (a + length day) ∷ endsFrom (a + length day) days
 
--- 01's cause 10 (SPEC 10.10) is not there: an end is not below the one before, not beyond the ledger's size, and does
--- not make a day over its limit
+-- an end (SPEC 10.10) not below the one before, not beyond the ledger's size, and making no day over its limit
 abbrev pub goodEnd : ℕ → ℕ → ℕ → Bool
 goodEnd start end size = leb start end && leb end size && leb (end - start) dayLimit
 

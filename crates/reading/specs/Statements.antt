@@ -41,8 +41,7 @@ SaysNoSet =
 
 -- ---- the days listed
 
--- the first places hold, ascending, the days that belong to some set that gives the table; the rest of the list stays
--- (SPEC 8.5)
+-- the first places hold, ascending, the days of the sets that give the table (SPEC 8.5); the rest of the list stays
 pub record ListsDays (scheme n d : ℕ) (outcomes list : List ℕ) (r : Readout) : Type 0 where
   pub counted : length (take (r .report .listed) (r .list)) ≡ r .report .listed
   pub ascending : Ascends 1 (take (r .report .listed) (r .list))

@@ -38,7 +38,6 @@ abbrev pub unlessRefused : {A : Type 0} → ℕ → A → A → A
 unlessRefused zero new old = new
 unlessRefused (suc x) new old = old
 
--- a lent buffer after a call (SPEC 2.8, 9.1): what was written at its front, then what stood there; a refusal writes
--- nothing
+-- a lent buffer after a call (SPEC 2.8): what was written at its front, then what stood there; a refusal leaves it
 abbrev pub frontWritten : ℕ → List ℕ → List ℕ → List ℕ
 frontWritten refusal new buffer = unlessRefused refusal (new ++ drop (length new) buffer) buffer

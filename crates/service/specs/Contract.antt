@@ -20,8 +20,7 @@ use Rattle.service.specs.declared.Closed.{Closed}
 
 -- ---- open (SPEC 5.2): 01's tests 1 2 3 (SPEC 11.1)
 
--- 01's fresh service, the record of an accepted open (SPEC 5.2): scheme, n and f, no day closed, no byte in the open
--- day, each chain at its start
+-- 01's fresh service (SPEC 5.2): scheme, n and f, no day closed, no byte in the open day, each chain at its start
 unfoldable pub fresh : ℕ → ℕ → ℕ → Record
 fresh scheme n f =
     record {

@@ -1,5 +1,4 @@
--- 01's list of add and close calls on a service (SPEC 5.6), by what the calls' contracts say; and the claim on every
--- such list.
+-- 01's lists of add and close calls (SPEC 5.6), by what the calls' contracts say; and the claim on every such list.
 use mathlib.Core.Path.{_≡_}
 use mathlib.Core.List.{List, [], _∷_, _++_, map}
 use Prim.Native.Nat.{ℕ, _*_}
