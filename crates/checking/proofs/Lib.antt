@@ -1,4 +1,6 @@
-pub mod Compares
-pub mod Tests
+pub mod RefusalLaws
+pub mod ValueLaws
 pub mod Through
+pub mod CallLaws
 pub mod CheckLaws
+pub mod Statements

@@ -1,20 +1,20 @@
 -- Checking day by day: what the buffers hold after i days.
 use mathlib.Core.Path.{_≡_, refl, sym, ap, ap₂, subst₂, _∙_}
-use mathlib.Core.Bool.{Bool, true, false, cond}
-use mathlib.Core.List.{List, [], _∷_, _++_, map, flatMap, append-assoc, append-nil, List·Memᴰ, List·Memᴰ·head, List·Memᴰ·tail}
-use Prim.Native.Nat.{ℕ, zero, suc, pred, _+_, _-_, _*_, _≤_, _<_}
+use mathlib.Core.Bool.{true, cond}
+use mathlib.Core.List.{List, [], _∷_, _++_, map, flatMap, append-assoc, append-nil, List·Memᴰ·head, List·Memᴰ·tail}
+use Prim.Native.Nat.{ℕ, suc, pred, _+_, _-_, _*_, _≤_, _<_}
 use native.Mathlib.Numerals.{add-one}
 use native.Mathlib.Omega.{arith}
 use lib.ListN.{length, getD, take, drop, replicate, length-append, length-drop, List·getD-append}
 use lib.Seq.{drop-drop, getD-at, length-take-le}
 use borrow.Rule.Slice.PartMut.{midOf, putMid}
-use Rattle.lists.specs.Lists.{_among_, same, upFrom}
-use Rattle.evidence.specs.Evidence.{days, Within, dayOf, digest, value, checkOutcomes}
+use Rattle.lists.specs.Lists.{_among_, same}
+use Rattle.evidence.specs.Evidence.{days, dayOf, digest, value, checkOutcomes}
 use Rattle.lists.proofs.Laws.{upFrom-bounds, length-upFrom, upFrom-snoc}
 use Rattle.evidence.proofs.ValueLaws.{value-same}
-use Rattle.layouts.specs.Layouts.{allowedScheme, allowedN, Name, coveredDays, namesOfDay, namesThrough, chainsOfDay, chains}
+use Rattle.layouts.specs.Layouts.{allowedN, Name, coveredDays, namesOfDay, namesThrough, chainsOfDay, chains}
 use Rattle.layouts.proofs.Coverage.{chains-within, chains-front, chains-suc}
-use Rattle.ledger.specs.Ledger.{startOf, endOf, dayAt, daysOf, EndsHold}
+use Rattle.ledger.specs.Ledger.{dayAt, daysOf}
 use Rattle.ledger.proofs.DayLaws.{days-none, days-snoc, days-length}
 use Rattle.sha256.specs.Sha256.{sha256, hashed}
 use Rattle.sha256_words.specs.Words.{bytesOf}
@@ -27,8 +27,9 @@ use Rattle.chains.specs.Private.{Stepped}
 use Rattle.chains.proofs.Values.{chainsOfDay-length}
 use Rattle.chains.proofs.Running.{Holds, holds-fresh, holds-next, namesOfDay-right}
 use Rattle.buffers.proofs.Lent.{lent-put, lent-length}
-use Rattle.checking.proofs.Compares.{to-end}
-use Rattle.checking.specs.Contract.{digestsOf, outcomesOf, outcomeOf, compared, Ready}
+use Rattle.checking.proofs.ValueLaws.{to-end}
+use Rattle.checking.specs.Contract.{digestsOf, outcomesOf}
+use Rattle.checking.specs.Private.{compared, DayReady, Ready}
 
 -- ---- digests and outcomes of one more day
 
@@ -45,10 +46,10 @@ unfolding flatMap
 digests-same A B [] f = refl
 digests-same A B (x ∷ xs) f = ap₂ (λ (p q : List ℕ). digest sha256 p ++ q) (f x (List·Memᴰ·head refl)) (digests-same A B xs (λ g m. f g (List·Memᴰ·tail m)))
 
-digests-length : (L : List (List ℕ)) (xs : List ℕ) → length (digestsIn L xs) ≡ 32 * length xs
+digestsIn-length : (L : List (List ℕ)) (xs : List ℕ) → length (digestsIn L xs) ≡ 32 * length xs
 unfolding flatMap
-digests-length L [] = refl
-digests-length L (x ∷ xs) = omega (arith, length-append (digest sha256 (dayOf L x)) (digestsIn L xs), sha256-length (0 ∷ dayOf L x), digests-length L xs)
+digestsIn-length L [] = refl
+digestsIn-length L (x ∷ xs) = omega (arith, length-append (digest sha256 (dayOf L x)) (digestsIn L xs), sha256-length (0 ∷ dayOf L x), digestsIn-length L xs)
 
 outcomes-append : (first : List ℕ) (L cs ds : List (List ℕ)) (book : List ℕ) →
     checkOutcomes sha256 first L (cs ++ ds) book ≡ checkOutcomes sha256 first L cs book ++ checkOutcomes sha256 first L ds (drop (32 * length cs) book)
@@ -64,9 +65,9 @@ outcomes-same first A B [] book f = refl
 outcomes-same first A B (c ∷ cs) book f =
     ap₂ (λ (v r : List ℕ). cond (same (take 32 book) v) 1 0 ∷ r) (f c (List·Memᴰ·head refl)) (outcomes-same first A B cs (drop 32 book) (λ d m. f d (List·Memᴰ·tail m)))
 
-pub outcomes-length : (first : List ℕ) (L cs : List (List ℕ)) (book : List ℕ) → length (checkOutcomes sha256 first L cs book) ≡ length cs
-outcomes-length first L [] book = refl
-outcomes-length first L (c ∷ cs) book = ap suc (outcomes-length first L cs (drop 32 book))
+pub checkOutcomes-length : (first : List ℕ) (L cs : List (List ℕ)) (book : List ℕ) → length (checkOutcomes sha256 first L cs book) ≡ length cs
+checkOutcomes-length first L [] book = refl
+checkOutcomes-length first L (c ∷ cs) book = ap suc (checkOutcomes-length first L cs (drop 32 book))
 
 -- values of named chains, compared
 compared-names : (n : ℕ) (first : List ℕ) (F : List (List ℕ)) (b : Value) (l : List Value) (xs : List Name) (book : List ℕ) →
@@ -83,6 +84,16 @@ unfolding dayValues chainsOfDay
 compared-day s n E day a b slots h held hash few book =
     compared-names n (start s n) (E ++ (day ∷ [])) (linked b h) (linkedSlots s n (suc (length E)) h slots) (namesOfDay s n (suc (length E))) book (namesOfDay-right s n E day a b slots h held hash few)
 
+-- ---- the lengths of what a check writes
+
+pub digests-length : (ledger ends : List ℕ) (d : ℕ) → length (digestsOf ledger ends d) ≡ 32 * d
+unfolding digestsOf
+digests-length ledger ends d = digestsIn-length (daysOf ledger ends d) (days d) ∙ ap (λ (x : ℕ). 32 * x) (length-upFrom 1 d)
+
+pub outcomes-length : (s n d : ℕ) (ledger ends book : List ℕ) → length (outcomesOf s n d ledger ends book) ≡ length (chains s n d)
+unfolding outcomesOf
+outcomes-length s n d ledger ends book = checkOutcomes-length (start s n) (daysOf ledger ends d) (chains s n d) book
+
 -- ---- after i days
 
 pub record Through (s n : ℕ) (ledger ends book oldWork oldOutcomes : List ℕ) (i at : ℕ) (b : Value) (slots : List Value) (work outs : List ℕ) : Type 0 where
@@ -93,9 +104,9 @@ pub record Through (s n : ℕ) (ledger ends book oldWork oldOutcomes : List ℕ)
   pub work-length : length work ≡ length oldWork
   pub outcomes-length-is : length outs ≡ length oldOutcomes
 
-pub none : (s n : ℕ) (ledger ends book work outs : List ℕ) (v : Value) → allowedN n ≡ true → v ≡ startValue s n → Through s n ledger ends book work outs 0 0 v (replicate 17 v) work outs
+pub through-none : (s n : ℕ) (ledger ends book work outs : List ℕ) (v : Value) → allowedN n ≡ true → v ≡ startValue s n → Through s n ledger ends book work outs 0 0 v (replicate 17 v) work outs
 unfolding digestsOf outcomesOf chains namesThrough flatMap
-none s n ledger ends book work outs v a e =
+through-none s n ledger ends book work outs v a e =
     record {
       holds = rw (days-none ledger ends, e) (holds-fresh s n a);
       at-is = refl;
@@ -105,16 +116,31 @@ none s n ledger ends book work outs v a e =
       outcomes-length-is = refl;
     }
 
-module _ (s n d : ℕ) (ledger ends book oldWork oldOutcomes : List ℕ) (ok : Ready s n d ends (length ledger) (length book) (length oldWork) (length oldOutcomes)) where
-  abbrev E : ℕ → List (List ℕ)
-  E i = daysOf ledger ends i
+-- there are no more values over fewer days
+chains-most : (s n i d : ℕ) → i ≤ d → length (chains s n i) ≤ length (chains s n d)
+chains-most s n i d h =
+    let r = chains-front s n i d h in
+    omega (arith, ap length (r .1), length-append (chains s n i) (r .0))
 
-  few-chains : (i : ℕ) → i ≤ d → length (chains s n i) ≤ length (chains s n d)
-  few-chains i h =
-      let r = chains-front s n i d h in
-      omega (arith, ap length (r .1), length-append (chains s n i) (r .0))
+module _ {s n d : ℕ} {ledger ends book oldWork oldOutcomes : List ℕ} {i at : ℕ} {b : Value} {slots : List Value} {work outs : List ℕ}
+    (ok : Ready s n d ends (length ledger) (length book) (length oldWork) (length oldOutcomes)) (t : Through s n ledger ends book oldWork oldOutcomes i at b slots work outs) where
+  -- where the parts that a turn lends begin
+  pub parts-within : i ≤ d → (32 * at ≤ length book) × (32 * i ≤ length work) × (at ≤ length outs)
+  parts-within h =
+      let f = chains-most s n i d h in (
+        omega (arith, t .at-is, ok .book-long),
+        omega (arith, t .work-length, ok .work-long),
+        omega (arith, t .at-is, ok .outcomes-long, t .outcomes-length-is),
+      )
 
-  module _ (i at : ℕ) (b : Value) (slots : List Value) (work outs : List ℕ) (t : Through s n ledger ends book oldWork oldOutcomes i at b slots work outs) (h : i < d) where
+  pub through-all : i ≡ d → (work ≡ digestsOf ledger ends d ++ drop (32 * d) oldWork) × (outs ≡ outcomesOf s n d ledger ends book ++ drop (length (chains s n d)) oldOutcomes)
+  through-all e =
+      (t .work-is ∙ rw e, t .outcomes-are ∙ ap₂ (λ (x y : ℕ). outcomesOf s n x ledger ends book ++ drop y oldOutcomes) e (t .at-is ∙ ap (λ (x : ℕ). length (chains s n x)) e))
+
+  module _ (h : i < d) where
+    abbrev E : ℕ → List (List ℕ)
+    E x = daysOf ledger ends x
+
     days-are : length (E i) ≡ i
     days-are = days-length ledger ends i
 
@@ -122,18 +148,19 @@ module _ (s n d : ℕ) (ledger ends book oldWork oldOutcomes : List ℕ) (ok : R
     next-count = ap length (chains-suc s n i) ∙ length-append (chains s n i) (chainsOfDay s n (suc i)) ∙ ap (λ (x : ℕ). length (chains s n i) + x) (chainsOfDay-length s n (suc i))
 
     -- what the day's call asks
-    pub asks : (1 ≤ i + 1) × (i + 1 ≤ 65536) × (32 ≤ length (midOf (32 * i) (length work - 32 * i) work)) ×
-        (32 * length (namesOfDay s n (i + 1)) ≤ length (take (length book - 32 * at) (drop (32 * at) book))) × (length (namesOfDay s n (i + 1)) ≤ length (midOf at (length outs - at) outs))
-    asks =
-        let f = few-chains (suc i) h in
+    pub day-needs : {g : ℕ} → g ≡ i + 1 → DayReady s n g (length (take (length book - 32 * at) (drop (32 * at) book))) (length (midOf (32 * i) (length work - 32 * i) work)) (length (midOf at (length outs - at) outs))
+    day-needs e =
+        let f = chains-most s n (suc i) d h in
         let c = next-count in
-        let e : length (namesOfDay s n (i + 1)) ≡ length (namesOfDay s n (suc i)) = ap (λ (x : ℕ). length (namesOfDay s n x)) (add-one i) in (
-          omega arith,
-          omega (arith, ok .days-most),
-          rw (length-part work (32 * i)) (omega (arith, t .work-length, ok .work-long)),
-          rw (length-part book (32 * at)) (omega (arith, t .at-is, ok .book-long)),
-          rw (length-part outs at) (omega (arith, t .at-is, ok .outcomes-long, t .outcomes-length-is)),
-        )
+        rw (e ∙ add-one i) (record {
+          scheme-ok = ok .scheme-ok;
+          n-ok = ok .n-ok;
+          some = omega arith;
+          most = omega (arith, ok .days-most);
+          work-long = rw (length-part work (32 * i)) (omega (arith, t .work-length, ok .work-long));
+          book-long = rw (length-part book (32 * at)) (omega (arith, t .at-is, ok .book-long));
+          outcomes-long = rw (length-part outs at) (omega (arith, t .at-is, ok .outcomes-long, t .outcomes-length-is));
+        })
       where
         length-part : (xs : List ℕ) (k : ℕ) → length (take (length xs - k) (drop k xs)) ≡ length xs - k
         length-part xs k = length-take-le (length xs - k) (drop k xs) (rw length-drop (omega arith))
@@ -162,8 +189,7 @@ module _ (s n d : ℕ) (ledger ends book oldWork oldOutcomes : List ℕ) (ok : R
         one-more = omega arith
 
     digests-size : length (digestsOf ledger ends i) ≡ 32 * i
-    unfolding digestsOf
-    digests-size = digests-length (E i) (days i) ∙ ap (λ (x : ℕ). 32 * x) (length-upFrom 1 i)
+    digests-size = digests-length ledger ends i
 
     outcomes-next : outcomesOf s n (suc i) ledger ends book ≡ outcomesOf s n i ledger ends book ++ checkOutcomes sha256 (start s n) (E i ++ (day ∷ [])) (chainsOfDay s n (suc (length (E i)))) (drop (32 * at) book)
     unfolding outcomesOf
@@ -175,11 +201,10 @@ module _ (s n d : ℕ) (ledger ends book oldWork oldOutcomes : List ℕ) (ok : R
         ap (λ (k : ℕ). checkOutcomes sha256 (start s n) (E i ++ (day ∷ [])) (chainsOfDay s n (suc (length (E i)))) (drop (32 * k) book)) (sym (t .at-is)))
 
     outcomes-size : length (outcomesOf s n i ledger ends book) ≡ at
-    unfolding outcomesOf
-    outcomes-size = outcomes-length (start s n) (E i) (chains s n i) book ∙ sym (t .at-is)
+    outcomes-size = outcomes-length s n i ledger ends book ∙ sym (t .at-is)
 
     -- the day's call
-    module _ (bytes : List ℕ) (g : ℕ) (first : Value) (r : DayStep) (w o : List ℕ) (is-day : bytes ≡ day) (is-next : g ≡ i + 1) (is-first : first ≡ startValue s n)
+    module _ {bytes : List ℕ} {g : ℕ} {first : Value} {r : DayStep} {w o : List ℕ} (is-day : bytes ≡ day) (is-next : g ≡ i + 1) (is-first : first ≡ startValue s n)
         (stepped : Stepped s n g first b slots (hashed (0 ∷ bytes)) r) (worked : w ≡ bytesOf (hashed (0 ∷ bytes)) ++ drop 32 (midOf (32 * i) (length work - 32 * i) work))
         (found : o ≡ compared (take (r .count) (r .values)) (take (length book - 32 * at) (drop (32 * at) book)) ++ drop (r .count) (midOf at (length outs - at) outs)) where
       hash : bytesOf (hashed (0 ∷ bytes)) ≡ digest sha256 day
@@ -216,12 +241,14 @@ module _ (s n d : ℕ) (ledger ends book oldWork oldOutcomes : List ℕ) (ok : R
 
       values-length : length (compared (take (r .count) (r .values)) (take (length book - 32 * at) (drop (32 * at) book))) ≡ r .count
       values-length =
-          ap length found-is ∙ outcomes-length (start s n) (E i ++ (day ∷ [])) (chainsOfDay s n (suc (length (E i)))) (drop (32 * at) book) ∙
+          ap length found-is ∙ checkOutcomes-length (start s n) (E i ++ (day ∷ [])) (chainsOfDay s n (suc (length (E i)))) (drop (32 * at) book) ∙
           chainsOfDay-length s n (suc (length (E i))) ∙ sym (stepped′ .count-is)
 
-      pub next : Through s n ledger ends book oldWork oldOutcomes (i + 1) (at + r .count) (r .black) (r .slots) (putMid (32 * i) (length work - 32 * i) work w) (putMid at (length outs - at) outs o)
-      next =
-          let f = few-chains (suc i) h in
+      pub outcomes-fit : at + r .count ≤ length oldOutcomes
+      outcomes-fit = let f = chains-most s n (suc i) d h in omega (arith, count-is, ok .outcomes-long)
+
+      pub through-next : Through s n ledger ends book oldWork oldOutcomes (i + 1) (at + r .count) (r .black) (r .slots) (putMid (32 * i) (length work - 32 * i) work w) (putMid at (length outs - at) outs o)
+      through-next =
           rw (add-one i) (record {
             holds = rw snoc (holds-next s n (E i) day (ok .n-ok) b slots (hashed (0 ∷ bytes)) (t .holds) hash (stepped′ .black-is) (stepped′ .slots-are));
             at-is = count-is;
@@ -232,32 +259,5 @@ module _ (s n d : ℕ) (ledger ends book oldWork oldOutcomes : List ℕ) (ok : R
                 (ap length hash ∙ sha256-length (0 ∷ day)) (omega (arith, ok .work-long));
             outcomes-length-is =
                 lent-length (outcomesOf s n i ledger ends book) oldOutcomes outs at (t .outcomes-are) outcomes-size (t .outcomes-length-is) o
-                (compared (take (r .count) (r .values)) (take (length book - 32 * at) (drop (32 * at) book))) (r .count) found values-length (omega (arith, count-is, ok .outcomes-long));
+                (compared (take (r .count) (r .values)) (take (length book - 32 * at) (drop (32 * at) book))) (r .count) found values-length outcomes-fit;
           })
-
-      pub at-fits : at + r .count ≤ length oldOutcomes
-      at-fits = let f = few-chains (suc i) h in omega (arith, count-is, ok .outcomes-long)
-
-  -- where the parts that a turn lends begin
-  pub begins : (i at : ℕ) (b : Value) (slots : List Value) (work outs : List ℕ) → Through s n ledger ends book oldWork oldOutcomes i at b slots work outs → i ≤ d →
-      (32 * at ≤ length book) × (32 * i ≤ length work) × (at ≤ length outs)
-  begins i at b slots work outs t h =
-      let f = few-chains i h in (
-        omega (arith, t .at-is, ok .book-long),
-        omega (arith, t .work-length, ok .work-long),
-        omega (arith, t .at-is, ok .outcomes-long, t .outcomes-length-is),
-      )
-
-  pub done : (i at : ℕ) (b : Value) (slots : List Value) (work outs : List ℕ) → Through s n ledger ends book oldWork oldOutcomes i at b slots work outs → i ≡ d →
-      (work ≡ digestsOf ledger ends d ++ drop (32 * d) oldWork) × (outs ≡ outcomesOf s n d ledger ends book ++ drop (length (chains s n d)) oldOutcomes)
-  done i at b slots work outs t e =
-      (t .work-is ∙ rw e, t .outcomes-are ∙ ap₂ (λ (x y : ℕ). outcomesOf s n x ledger ends book ++ drop y oldOutcomes) e (t .at-is ∙ ap (λ (x : ℕ). length (chains s n x)) e))
-
--- the lengths of what a whole check writes
-pub digests-whole : (ledger ends : List ℕ) (d : ℕ) → length (digestsOf ledger ends d) ≡ 32 * d
-unfolding digestsOf
-digests-whole ledger ends d = digests-length (daysOf ledger ends d) (days d) ∙ ap (λ (x : ℕ). 32 * x) (length-upFrom 1 d)
-
-pub outcomes-whole : (s n d : ℕ) (ledger ends book : List ℕ) → length (outcomesOf s n d ledger ends book) ≡ length (chains s n d)
-unfolding outcomesOf
-outcomes-whole s n d ledger ends book = outcomes-length (start s n) (daysOf ledger ends d) (chains s n d) book

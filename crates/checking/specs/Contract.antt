@@ -1,36 +1,32 @@
--- What checking answers, and what it leaves in the work and outcome buffers. Definitions only.
-use mathlib.Core.Path.{_≡_}
-use mathlib.Core.Bool.{Bool, true, _&&_, cond}
+-- 01's checking: its tests, what it answers, and the work and outcome buffers after it. Definitions only.
+use mathlib.Core.Bool.{_&&_}
 use mathlib.Core.List.{List, [], _∷_, _++_, flatMap}
-use Prim.Native.Nat.{ℕ, zero, suc, _*_, _≤_}
+use Prim.Native.Nat.{ℕ, _*_}
 use lib.Dec.{leb}
-use lib.ListN.{length, take, drop}
-use Rattle.chains.specs.Book.{start}
-use Rattle.chains.specs.declared.Value.{Value}
-use Rattle.lists.specs.Lists.{same}
+use lib.ListN.{length}
 use Rattle.evidence.specs.Evidence.{days, dayOf, digest, checkOutcomes}
-use Rattle.layouts.specs.Layouts.{allowedScheme, allowedN, unless, orElse, layoutRefusal, chains}
-use Rattle.ledger.specs.Ledger.{daysOf, endsRefusal, EndsHold}
+use Rattle.refusals.specs.declared.Answer.{Answer}
+use Rattle.refusals.specs.Refusals.{Test, _orRefuse_, firstRefusal, answerOf, frontWritten}
+use Rattle.layouts.specs.Layouts.{layoutTests, chains}
+use Rattle.ledger.specs.Ledger.{daysOf, endsTests}
 use Rattle.sha256.specs.Sha256.{sha256}
-use Rattle.sha256_words.specs.Words.{bytesOf}
-use Rattle.checking.specs.declared.Checked.{Checked}
-use Rattle.checking.specs.declared.Checked.the-variants.{Done, Refused}
+use Rattle.chains.specs.Book.{start}
 
--- 01's number for each answer
-abbrev pub numberOf : Checked → ℕ
-numberOf Done = 0
-numberOf (Refused number) = number
+-- 01's tests 11 8; bookSize, workSize and places are the lengths of book, work and outcomes
+abbrev pub roomTests : ℕ → ℕ → ℕ → ℕ → ℕ → ℕ → List Test
+roomTests scheme n d bookSize workSize places =
+    leb (32 * length (chains scheme n d)) bookSize orRefuse 11 ∷
+    (leb (32 * d) workSize && leb (length (chains scheme n d)) places) orRefuse 8 ∷
+    []
 
-abbrev pub checkedBy : ℕ → Checked
-checkedBy zero = Done
-checkedBy (suc x) = Refused (suc x)
+-- 01's tests 1 2 3 7 9 10 11 8; size is the ledger's length
+abbrev pub checkTests : ℕ → ℕ → ℕ → ℕ → List ℕ → ℕ → ℕ → ℕ → ℕ → List Test
+checkTests scheme n f d ends size bookSize workSize places =
+    layoutTests scheme n f d ++ (endsTests d ends size ++ roomTests scheme n d bookSize workSize places)
 
--- 01's tests 1 2 3 7 9 10 11 8; size, bookSize, workSize and places are the lengths of ledger, book, work and outcomes
 unfoldable pub checkRefusal : ℕ → ℕ → ℕ → ℕ → List ℕ → ℕ → ℕ → ℕ → ℕ → ℕ
 checkRefusal scheme n f d ends size bookSize workSize places =
-    orElse (layoutRefusal scheme n f d)
-    (orElse (endsRefusal d ends size)
-    (orElse (unless (leb (32 * length (chains scheme n d)) bookSize) 11) (unless (leb (32 * d) workSize && leb (length (chains scheme n d)) places) 8)))
+    firstRefusal (checkTests scheme n f d ends size bookSize workSize places)
 
 -- the digests of the ledger's days, end to end
 unfoldable pub digestsOf : List ℕ → List ℕ → ℕ → List ℕ
@@ -38,33 +34,23 @@ digestsOf ledger ends d = flatMap (λ g. digest sha256 (dayOf (daysOf ledger end
 
 -- an outcome for each value in book order: 1 exactly if the book has the value that rehashing the ledger's days gives
 unfoldable pub outcomesOf : ℕ → ℕ → ℕ → List ℕ → List ℕ → List ℕ → List ℕ
-outcomesOf scheme n d ledger ends book = checkOutcomes sha256 (start scheme n) (daysOf ledger ends d) (chains scheme n d) book
+outcomesOf scheme n d ledger ends book =
+    checkOutcomes sha256 (start scheme n) (daysOf ledger ends d) (chains scheme n d) book
 
-abbrev pub front : ℕ → List ℕ → List ℕ → List ℕ
-front zero new buffer = new ++ drop (length new) buffer
-front (suc x) new buffer = buffer
+-- all that a call leaves: its answer, the work buffer and the outcome buffer
+pub record Checked : Type 0 where
+  pub answer : Answer
+  pub work : List ℕ
+  pub outcomes : List ℕ
 
--- the buffers after the call: digests and outcomes, then what stood there; a refusal changes nothing. x is the refusal
-unfoldable pub workAfter : ℕ → ℕ → List ℕ → List ℕ → List ℕ → List ℕ
-workAfter x d ledger ends work = front x (digestsOf ledger ends d) work
-
-unfoldable pub outcomesAfter : ℕ → ℕ → ℕ → ℕ → List ℕ → List ℕ → List ℕ → List ℕ → List ℕ
-outcomesAfter x scheme n d ledger ends book buffer = front x (outcomesOf scheme n d ledger ends book) buffer
-
--- the outcome of a value against the first 32 bytes of a book, and of some values against its front
-abbrev pub outcomeOf : Value → List ℕ → ℕ
-outcomeOf v book = cond (same (take 32 book) (bytesOf (v .words))) 1 0
-
-unfoldable pub compared : List Value → List ℕ → List ℕ
-compared [] book = []
-compared (v ∷ vs) book = outcomeOf v book ∷ compared vs (drop 32 book)
-
--- what a check that is not refused finds
-pub record Ready (scheme n d : ℕ) (ends : List ℕ) (size bookSize workSize places : ℕ) : Type 0 where
-  pub scheme-ok : allowedScheme scheme ≡ true
-  pub n-ok : allowedN n ≡ true
-  pub days-most : d ≤ 65536
-  pub ends-hold : EndsHold d ends size
-  pub book-long : 32 * length (chains scheme n d) ≤ bookSize
-  pub work-long : 32 * d ≤ workSize
-  pub outcomes-long : length (chains scheme n d) ≤ places
+-- digests and outcomes stand before what stood in the buffers; a refusal changes nothing
+unfoldable pub checked : ℕ → ℕ → ℕ → ℕ → List ℕ → List ℕ → List ℕ → List ℕ → List ℕ → Checked
+checked scheme n f d ledger ends book work outcomes =
+    let refusal =
+    checkRefusal scheme n f d ends (length ledger) (length book) (length work) (length outcomes)
+    in
+    record {
+      answer = answerOf refusal;
+      work = frontWritten refusal (digestsOf ledger ends d) work;
+      outcomes = frontWritten refusal (outcomesOf scheme n d ledger ends book) outcomes;
+    }

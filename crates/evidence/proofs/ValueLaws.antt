@@ -10,9 +10,9 @@ use native.Mathlib.Omega.{arith}
 use lib.ListN.{length, length-append}
 use lib.Seq.{take-at, drop-at}
 use borrow.Author.Tests.{not-true}
-use Rattle.lists.specs.Lists.{_among_, same, keep}
+use Rattle.lists.specs.Lists.{_among_, same}
 use Rattle.evidence.specs.Evidence.{days, Within, meets, setOutcome, tableOf, listing, dayOf, changed, digest, linkInput, value, values, checkOutcomes, linkInputs, inputs, NoCollision}
-use Rattle.lists.proofs.Laws.{split, true-or-false, same-eq, eq-same, no-mem, upFrom-mem, upFrom-bounds, keep-mem, mem-keep, map-same}
+use Rattle.lists.proofs.Laws.{split, true-or-false, same-eq, eq-same, upFrom-mem, upFrom-bounds, keep-mem, mem-keep, map-same}
 use Rattle.evidence.proofs.TableLaws.{meets-of, meets-day, lists-all, lists-exactly, lists-none}
 
 -- the inputs of the days' digests
@@ -46,16 +46,6 @@ pub none-listed : (chains : List (List ℕ)) (d : ℕ) (A B : List (List ℕ)) �
     ((g : ℕ) → g among days d → (c : List ℕ) × (c among chains) × (g among c)) →
     (listing chains d (tableOf chains (changed d A B)) ≡ []) ↔ (changed d A B ≡ [])
 none-listed chains d A B covered = lists-none chains d covered (changed d A B) (changed-within d A B)
-
--- of days that agree none is changed
-pub none-changed : (d : ℕ) (A B : List (List ℕ)) → ((g : ℕ) → g among days d → dayOf A g ≡ dayOf B g) → changed d A B ≡ []
-unfolding changed
-none-changed d A B f = no-mem (keep (λ g. not (same (dayOf A g) (dayOf B g))) (days d)) none
-  where
-    none : (g : ℕ) → g among keep (λ x. not (same (dayOf A x) (dayOf B x))) (days d) → ⊥
-    none g m =
-        let k = keep-mem (λ x. not (same (dayOf A x) (dayOf B x))) (days d) g m in
-        true-or-false (eq-same (dayOf A g) (dayOf B g) (f g (k .0))) (not-true (same (dayOf A g) (dayOf B g)) (k .1))
 
 halves : (n : ℕ) (v w d e : List ℕ) → length v ≡ n → length w ≡ n → v ++ d ≡ w ++ e → (v ≡ w) × (d ≡ e)
 halves n v w d e hv hw q = (cc (take-at v d n hv, take-at w e n hw), cc (drop-at v d n hv, drop-at w e n hw))

@@ -5,13 +5,13 @@ use mathlib.Core.Path.{_≡_, refl, sym, ap, ap₂, _∙_}
 use mathlib.Core.List.{List, [], _∷_, _++_, append-assoc, append-nil}
 use native.Mathlib.Omega.{arith}
 use lib.ListN.{length, take, drop, replicate, length-append, length-drop, drop-of-length-le, length-replicate}
-use lib.Seq.{drop-append-le, drop-drop, take-at, length-take-le}
+use lib.Seq.{drop-append-le, drop-drop, take-at}
 use Rattle.sha256_words.specs.Words.{initial}
 use Rattle.sha256.specs.Sha256.{chunks, blocks, padding, hashed}
-use Rattle.sha256.proofs.Laws.{chunks-append, chunks-add, length-blocks}
+use Rattle.sha256.proofs.Laws.{chunks-append, chunks-add}
 use Rattle.hasher.specs.declared.Hasher.{Hasher}
 use Rattle.hasher.specs.Statements.{AnyCutting}
-use Rattle.hasher.specs.Hasher.{rest, filled, onward, begun, held, absorbed, finished, absorbedAll}
+use Rattle.hasher.specs.Hasher.{rest, filled, onward, begun, absorbed, finished, absorbedAll}
 use Rattle.lists.specs.Lists.{joined}
 
 -- ---- the bytes after the last whole block
@@ -98,25 +98,6 @@ pieces-hashed m ps =
     ap₂ finished (absorbedAll-begun m ps) (sym (length-append m (joined ps))) ∙ finished-begun (m ++ joined ps)
 
 -- ---- sizes
-
-pub length-onward-words : (h l : List ℕ) → length h ≡ 8 → length (onward h l .words) ≡ 8
-unfolding onward
-length-onward-words h l e = length-blocks h l e
-
-pub length-onward-block : (h l : List ℕ) → length (onward h l .block) ≡ 64
-unfolding onward
-length-onward-block h l = length-filled (rest l) (omega (arith, length-rest l))
-
-pub length-absorbed-words : (st : Hasher) (n : ℕ) (y : List ℕ) → length (st .words) ≡ 8 → length (absorbed st n y .words) ≡ 8
-unfolding absorbed
-length-absorbed-words st n y e = length-onward-words (st .words) (held st n ++ y) e
-
-pub length-absorbed-block : (st : Hasher) (n : ℕ) (y : List ℕ) → length (absorbed st n y .block) ≡ 64
-unfolding absorbed
-length-absorbed-block st n y = length-onward-block (st .words) (held st n ++ y)
-
-pub length-held : (st : Hasher) (n : ℕ) → length (st .block) ≡ 64 → length (held st n) ≡ n % 64
-length-held st n e = length-take-le (n % 64) (st .block) (omega arith)
 
 -- ---- as stated
 

@@ -125,11 +125,6 @@ start-ascends (suc d) ends a i l = go (λ m. start-ascends d ends (λ k n. a k (
         let q = a d (omega arith) in
         omega arith
 
--- none is beyond the ledger, the end of the last day included
-pub start-within : (d : ℕ) (ends : List ℕ) (size i : ℕ) → EndsHold d ends size → i ≤ d → startOf ends i ≤ size
-start-within d ends size zero h l = omega arith
-start-within d ends size (suc i) h l = h .within i (omega arith)
-
 -- ---- what is read
 
 pub start-front : (d : ℕ) (ends : List ℕ) (i : ℕ) → i ≤ d → startOf (take d ends) i ≡ startOf ends i

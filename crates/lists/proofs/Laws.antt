@@ -7,9 +7,9 @@ use Prim.Native.Nat.{ℕ, zero, suc, _+_, _≤_, _<_}
 use native.Mathlib.Nat.{eq-or-lt-of-le}
 use native.Mathlib.Nat.{add-zero}
 use native.Mathlib.Omega.{arith}
-use lib.Dec.{eqb, leb, ltb}
+use lib.Dec.{eqb}
 use lib.ListN.{length}
-use borrow.Author.Tests.{eqb-true, eq-eqb, leb-true, le-leb, ltb-true, lt-ltb}
+use borrow.Author.Tests.{eqb-true, eq-eqb}
 use Rattle.lists.specs.Lists.{_among_, has, same, every, upFrom, keep, Ascends, joined}
 
 -- ---- Booleans
@@ -160,19 +160,6 @@ map-same f g (x ∷ xs) h = cc (h x (List·Memᴰ·head refl), map-same f g xs (
 
 pub and-of : (a b : Bool) → a ≡ true → b ≡ true → a && b ≡ true
 and-of a b p q = rw (p, q)
-
-pub has-upFrom : (i n x : ℕ) → has x (upFrom i n) ≡ leb i x && ltb x (i + n)
-has-upFrom i n x = bool-ext (has x (upFrom i n)) (leb i x && ltb x (i + n)) forth back
-  where
-    forth : has x (upFrom i n) ≡ true → leb i x && ltb x (i + n) ≡ true
-    forth e =
-        let b = upFrom-bounds i n x (has-mem x (upFrom i n) e) in
-        and-of (leb i x) (ltb x (i + n)) (le-leb i x (b .0)) (lt-ltb x (i + n) (b .1))
-
-    back : leb i x && ltb x (i + n) ≡ true → has x (upFrom i n) ≡ true
-    back e =
-        let b = and-both (leb i x) (ltb x (i + n)) e in
-        mem-has (upFrom-mem i n x (leb-true i x (b .0)) (ltb-true x (i + n) (b .1)))
 
 pub has-keep : (p : ℕ → Bool) (xs : List ℕ) (x : ℕ) → has x (keep p xs) ≡ has x xs && p x
 has-keep p xs x = bool-ext (has x (keep p xs)) (has x xs && p x) forth back

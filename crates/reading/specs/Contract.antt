@@ -113,9 +113,10 @@ pub record Readout : Type 0 where
   pub report : Report
   pub list : List ℕ
 
--- by the refusal of the call: what was found, and the listed days before what stood in the list; or the refusal alone
-abbrev pub readoutBy : ℕ → ℕ → ℕ → ℕ → ℕ → List ℕ → List ℕ → Readout
-readoutBy refusal scheme n f d outcomes list =
+-- what was found, and the listed days before what stood in the list; a refusal says its number and changes nothing
+unfoldable pub readout : ℕ → ℕ → ℕ → ℕ → List ℕ → List ℕ → Readout
+readout scheme n f d outcomes list =
+    let refusal = readRefusal scheme n f d outcomes (length list) in
     record {
       report =
           unlessRefused refusal
@@ -123,7 +124,3 @@ readoutBy refusal scheme n f d outcomes list =
           (refusedReport refusal);
       list = frontWritten refusal (listedIn scheme n d outcomes) list;
     }
-
-unfoldable pub readout : ℕ → ℕ → ℕ → ℕ → List ℕ → List ℕ → Readout
-readout scheme n f d outcomes list =
-    readoutBy (readRefusal scheme n f d outcomes (length list)) scheme n f d outcomes list

@@ -1,5 +1,5 @@
--- What the private contracts say: outcomes taken in turn, a table that is read, the numbers of a changed one as they are
--- worked out. Definitions only; the laws `bits-by`, `given-passes` and `report-changed` lead them back to 01's.
+-- What the private contracts say: outcomes taken in turn, a table that is read, the numbers of a changed one as they
+-- are worked out. Definitions only; the laws `bits-by`, `given-passes` and `report-changed` lead them back to 01's.
 use mathlib.Core.Path.{_≡_}
 use mathlib.Core.Bool.{true}
 use mathlib.Core.List.{List, [], _∷_}

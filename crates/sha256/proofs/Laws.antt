@@ -5,10 +5,10 @@ use mathlib.Core.Path.{_≡_, refl, ap, ap₂, _∙_}
 use mathlib.Core.List.{List, _++_}
 use native.Mathlib.Omega.{arith}
 use native.Mathlib.Nat.{suc-mul, zero-add, suc-add}
-use lib.ListN.{length, getD, take, drop, length-append, length-drop}
+use lib.ListN.{length, take, drop, length-append, length-drop}
 use lib.Seq.{take-append-le, drop-append-le, drop-drop, take-all, take-at, drop-at}
 use Rattle.sha256_words.specs.Words.{initial, words}
-use Rattle.sha256_words.proofs.Laws.{length-initial, length-bytes, bytes-below}
+use Rattle.sha256_words.proofs.Laws.{length-initial, length-bytes}
 use Rattle.sha256.specs.Sha256.{summed, compress, chunks, blocks, padding, hashed, sha256}
 
 -- ---- blocks
@@ -82,8 +82,3 @@ length-hashed m = length-blocks initial (m ++ padding (length m)) length-initial
 pub sha256-length : (m : List ℕ) → length (sha256 m) ≡ 32
 unfolding sha256
 sha256-length m = omega (arith, length-bytes (hashed m), length-hashed m)
-
--- each element of a digest is a byte
-pub sha256-below : (m : List ℕ) (i : ℕ) → getD (sha256 m) i 0 < 256
-unfolding sha256
-sha256-below m i = bytes-below (hashed m) i

@@ -1,5 +1,5 @@
 -- Laws of words as bytes: sizes, bounds, one word more.
-use Prim.Native.Nat.{ℕ, zero, suc, _+_, _*_, _/_, _%_, _^_, _≤_, _<_}
+use Prim.Native.Nat.{ℕ, _+_, _*_, _/_, _%_, _^_, _≤_, _<_}
 use mathlib.Core.Path.{_≡_, refl, sym, ap, ap₂, _∙_}
 use mathlib.Core.List.{List, [], _∷_, _++_}
 use native.Mathlib.Omega.{arith}
@@ -16,15 +16,6 @@ pub length-bytes : (l : List ℕ) → length (bytesOf l) ≡ length l * 4
 unfolding bytesOf
 length-bytes [] = refl
 length-bytes (x ∷ xs) = omega (arith, length-bytes xs)
-
-pub bytes-below : (l : List ℕ) (i : ℕ) → getD (bytesOf l) i 0 < 256
-unfolding bytesOf
-bytes-below [] i = omega arith
-bytes-below (x ∷ xs) zero = omega arith
-bytes-below (x ∷ xs) (suc zero) = omega arith
-bytes-below (x ∷ xs) (suc (suc zero)) = omega arith
-bytes-below (x ∷ xs) (suc (suc (suc zero))) = omega arith
-bytes-below (x ∷ xs) (suc (suc (suc (suc i)))) = bytes-below xs i
 
 pub bytes-append : (xs ys : List ℕ) → bytesOf (xs ++ ys) ≡ bytesOf xs ++ bytesOf ys
 unfolding bytesOf

@@ -16,8 +16,13 @@ put-requires c κs = search needs
 step-requires : tie.Need-step-requires
 step-requires c κs = search needs
 
-compare-requires : tie.Need-compare-requires
-compare-requires c κs = let p = c .before .before .before .before .before .before .before .before .before .before .before .before .before .pre in let k = c .before .before .step .ensures .count-is in let w = day-few (c .before .before .before .before .before .before .before .before .before .before .before .before .before .args .scheme) (c .before .before .before .before .before .before .before .before .before .before .before .before .before .args .n) (c .before .before .before .before .before .before .before .before .before .before .before .before .before .args .g) (p .0) (p .1) (p .2) (p .3) in (omega (arith, k, w), omega (arith, k, p .5), omega (arith, k, p .6))
+all-requires : tie.Need-all-requires
+all-requires c κs =
+    let p = c .before .before .before .before .before .before .before .before .before .before .before .before .before .pre in
+    let k = c .before .before .step .ensures .count-is in
+    let a = c .before .before .before .before .before .before .before .before .before .before .before .before .before .args in
+    let w = day-few (a .scheme) (a .n) (a .g) (p .scheme-ok) (p .n-ok) (p .some) (p .most) in
+    (omega (arith, k, w), omega (arith, k, p .book-long), omega (arith, k, p .outcomes-long))
 
 same-length : tie.Need-same-length
 same-length c = search needs
@@ -26,7 +31,9 @@ same-length-2 : tie.Need-same-length-2
 same-length-2 c = search needs
 
 returns : tie.Need-returns
-returns c = (rw (← (c .before .before .before .before .before .before .before .before .before .before .before .digest .ensures)) (c .before .before .before .before .before .step .ensures), (rw (← (c .before .before .before .before .before .before .before .before .before .before .before .digest .ensures), ← (c .before .before .before .before .before .before .before .before .before .bytes .ensures)) (c .before .before .before .before .before .before .before .before .put .ensures), c .before .before .compare .ensures))
+returns c =
+    let digest = c .before .before .before .before .before .before .before .before .before .before .before .digest .ensures in
+    (rw (← digest) (c .before .before .before .before .before .step .ensures), (rw (← digest, ← (c .before .before .before .before .before .before .before .before .before .bytes .ensures)) (c .before .before .before .before .before .before .before .before .put .ensures), c .before .before .all .ensures))
 
 pub check-day-spec : {M : Type 1} → statement M
 check-day-spec =
@@ -36,7 +43,7 @@ check-day-spec =
     bytes-requires
     put-requires
     step-requires
-    compare-requires
+    all-requires
     same-length
     same-length-2
     returns)

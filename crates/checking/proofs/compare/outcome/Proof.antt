@@ -1,7 +1,6 @@
-use mathlib.Core.Path.{sym, _∙_}
 use borrow.Author.Needs.{needs}
-use Rattle.checking.proofs.outcome.Statement.{statement}
-use Rattle.checking.proofs.outcome.Tie as tie
+use Rattle.checking.proofs.compare.outcome.Statement.{statement}
+use Rattle.checking.proofs.compare.outcome.Tie as tie
 
 bytes-requires : tie.Need-bytes-requires
 bytes-requires c κs = search needs

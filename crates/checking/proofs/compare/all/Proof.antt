@@ -1,14 +1,10 @@
-use Prim.Native.Nat.{ℕ, _-_, _*_, _≤_}
-use mathlib.Core.List.{List}
-use Rattle.checking.specs.Contract.{outcomeOf}
-use Rattle.checking.proofs.Compares.{to-end, Written, written-none, written-next, written-done}
-use mathlib.Core.Path.{_≡_, refl, ap, _∙_}
-use lib.ListN.{length, drop, length-set}
-use lib.Seq.{take-all}
-use native.Mathlib.Omega.{arith}
+use Prim.Native.Nat.{_-_, _≤_}
+use Rattle.checking.proofs.ValueLaws.{Written, written-none, written-next, written-done}
+use mathlib.Core.Path.{_≡_, refl}
+use lib.ListN.{length, length-set}
 use borrow.Author.Needs.{needs}
-use Rattle.checking.proofs.compare.Statement.{statement}
-use Rattle.checking.proofs.compare.Tie as tie
+use Rattle.checking.proofs.compare.all.Statement.{statement}
+use Rattle.checking.proofs.compare.all.Tie as tie
 
 abbrev Inv-loop : tie.InvT-loop
 Inv-loop book k outcomes₀ values count j₀ outcomes j = (j ≤ k) × (count ≡ k) × (length outcomes ≡ length outcomes₀) × Written values book outcomes₀ outcomes j
@@ -16,8 +12,11 @@ Inv-loop book k outcomes₀ values count j₀ outcomes j = (j ≤ k) × (count �
 abbrev μ-loop : tie.MeasureT-loop
 μ-loop book k outcomes₀ values count j₀ outcomes j = k - j
 
+wide-requires : tie.Need-wide-requires Inv-loop μ-loop
+wide-requires c κs = search needs
+
 loop-holds : tie.Need-loop-holds Inv-loop μ-loop
-loop-holds c = (search needs, refl, refl, written-none _ _ _)
+loop-holds c = (search needs, c .wide .ensures, refl, written-none _ _ _)
 
 mul-v : tie.Need-mul-v Inv-loop μ-loop
 mul-v c = search needs
@@ -50,21 +49,22 @@ loop-less : tie.Need-loop-less Inv-loop μ-loop
 loop-less c = search needs
 
 loop-again : tie.Need-loop-again Inv-loop μ-loop
-loop-again c = let l = c .before .before .before .before .loop in let a = c .before .before .before .before .before .before .before .args in
+loop-again c = let l = c .before .before .before .before .loop in let a = c .before .before .before .before .before .before .before .before .args in
     (search needs, search needs, search needs, written-next (a .t2) (a .book .now) (a .outcomes .now) (l .outcomes) (l .j) (c .outcome .result) _ (l .inv .3) (search needs) (search needs) (c .outcome .ensures) (length-set (l .outcomes) (l .j) (c .outcome .result)))
 
 same-length : tie.Need-same-length Inv-loop μ-loop
 same-length c = search needs
 
 returns : tie.Need-returns Inv-loop μ-loop
-returns c = let a = c .before .before .before .before .args in written-done (a .t2) (a .book .now) (a .outcomes .now) _ (c .before .loop .j) (a .k) (c .before .loop .inv .3) (search needs)
+returns c = let a = c .before .before .before .before .before .args in written-done (a .t2) (a .book .now) (a .outcomes .now) _ (c .before .loop .j) (a .k) (c .before .loop .inv .3) (search needs)
 
-pub compare-spec : {M : Type 1} → statement M
-compare-spec =
+pub all-spec : {M : Type 1} → statement M
+all-spec =
     tie.close
     (tie.spec
     Inv-loop
     μ-loop
+    wide-requires
     loop-holds
     mul-v
     array-copy-out-v

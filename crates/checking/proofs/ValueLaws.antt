@@ -1,18 +1,17 @@
 -- Comparing values with the book.
-use mathlib.Core.Path.{_≡_, refl, sym, ap, ap₂, _∙_}
-use mathlib.Core.Bool.{Bool, true, false, cond}
+use mathlib.Core.Path.{_≡_, refl, sym, ap, _∙_}
+use mathlib.Core.Bool.{true, false}
 use mathlib.Core.Logic.{_⊎_, inl, inr}
 use mathlib.Core.List.{List, [], _∷_, _++_, append-assoc}
-use Prim.Native.Nat.{ℕ, zero, suc, _+_, _-_, _*_, _≤_, _<_}
+use Prim.Native.Nat.{ℕ, suc, _+_, _-_, _*_, _≤_, _<_}
 use native.Mathlib.Numerals.{add-one}
 use native.Mathlib.Omega.{arith}
-use lib.ListN.{length, getD, set, take, drop, length-append, length-drop}
-use lib.Seq.{take-all, ext-getD, getD-take, length-take-le, take-suc, set-at, drop-cons, drop-drop, length-front}
+use lib.ListN.{length, getD, set, take, drop, length-drop}
+use lib.Seq.{take-all, ext-getD, getD-take, length-take-le, take-suc, set-at, drop-cons, drop-drop}
 use Rattle.lists.specs.Lists.{same}
-use Rattle.lists.proofs.Laws.{split, same-eq, eq-same, same-refl}
+use Rattle.lists.proofs.Laws.{split, same-eq, eq-same}
 use Rattle.chains.specs.declared.Value.{Value}
-use Rattle.sha256_words.specs.Words.{bytesOf}
-use Rattle.checking.specs.Contract.{outcomeOf, compared}
+use Rattle.checking.specs.Private.{outcomeOf, compared}
 
 -- two lists that differ somewhere are not the same
 pub differs : (book b : List ℕ) (j : ℕ) → length b ≡ 32 → 32 ≤ length book → j < 32 → (getD book j 0 ≡ getD b j 0 → ⊥) → false ≡ same (take 32 book) b

@@ -1,0 +1,41 @@
+-- What the private contracts say: values compared with the book, and what no refusal leaves. Definitions only; the laws
+-- `compared-day` and `check-ready` lead them back to 01's.
+use mathlib.Core.Path.{_≡_}
+use mathlib.Core.Bool.{true, cond}
+use mathlib.Core.List.{List, [], _∷_}
+use Prim.Native.Nat.{ℕ, _*_, _≤_}
+use lib.ListN.{length, take, drop}
+use Rattle.lists.specs.Lists.{same}
+use Rattle.refusals.specs.Refusals.{bookLimit}
+use Rattle.layouts.specs.Layouts.{allowedScheme, allowedN, namesOfDay, chains}
+use Rattle.ledger.specs.Ledger.{EndsHold}
+use Rattle.sha256_words.specs.Words.{bytesOf}
+use Rattle.chains.specs.declared.Value.{Value}
+
+-- the outcome of a value against the first 32 bytes of a book, and of some values against its front
+abbrev pub outcomeOf : Value → List ℕ → ℕ
+outcomeOf v book = cond (same (take 32 book) (bytesOf (v .words))) 1 0
+
+unfoldable pub compared : List Value → List ℕ → List ℕ
+compared [] book = []
+compared (v ∷ vs) book = outcomeOf v book ∷ compared vs (drop 32 book)
+
+-- what a day asks: it is one of a book's days, and there is room for its digest, its values and their outcomes
+pub record DayReady (scheme n g bookSize workSize places : ℕ) : Type 0 where
+  pub scheme-ok : allowedScheme scheme ≡ true
+  pub n-ok : allowedN n ≡ true
+  pub some : 1 ≤ g
+  pub most : g ≤ bookLimit
+  pub work-long : 32 ≤ workSize
+  pub book-long : 32 * length (namesOfDay scheme n g) ≤ bookSize
+  pub outcomes-long : length (namesOfDay scheme n g) ≤ places
+
+-- what no refusal leaves
+pub record Ready (scheme n d : ℕ) (ends : List ℕ) (size bookSize workSize places : ℕ) : Type 0 where
+  pub scheme-ok : allowedScheme scheme ≡ true
+  pub n-ok : allowedN n ≡ true
+  pub days-most : d ≤ bookLimit
+  pub ends-hold : EndsHold d ends size
+  pub book-long : 32 * length (chains scheme n d) ≤ bookSize
+  pub work-long : 32 * d ≤ workSize
+  pub outcomes-long : length (chains scheme n d) ≤ places
