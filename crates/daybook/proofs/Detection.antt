@@ -26,7 +26,7 @@ use Rattle.sha256.specs.Sha256.{sha256}
 use Rattle.chains.specs.Book.{start, bookOf, inputsOf}
 use Rattle.chains.proofs.BookLaws.{book-front, values-of-length, check-finds, check-passes}
 use Rattle.checking.specs.Contract.{roomTests, checkTests, checkRefusal, digestsOf, outcomesOf, checked}
-use Rattle.checking.proofs.Through.{digests-whole, outcomes-whole}
+use Rattle.checking.proofs.Through.{digests-length, outcomes-length}
 use Rattle.reading.specs.Numbers.{lastGood}
 use Rattle.reading.specs.Contract.{Report, Readout, tableIn, readRefusal, listedIn, found}
 use Rattle.reading.proofs.LastGood.{good-given}
@@ -112,11 +112,11 @@ module _ (s n f : ℕ) (opens : setupRefusal s n f ≡ 0) (E : List (List ℕ)) 
 
   digests-left : checking s n f d x .work ≡ digestsOf (x .ledger) (x .ends) d ++ drop (32 * d) (x .work)
   unfolding checked
-  digests-left = rw (not-refused, digests-whole (x .ledger) (x .ends) d)
+  digests-left = rw (not-refused, digests-length (x .ledger) (x .ends) d)
 
   outcomes-left : checking s n f d x .outcomes ≡ outcomesOf s n d (x .ledger) (x .ends) (x .book) ++ drop (length C) (x .outcomes)
   unfolding checked
-  outcomes-left = rw (not-refused, outcomes-whole s n d (x .ledger) (x .ends) (x .book))
+  outcomes-left = rw (not-refused, outcomes-length s n d (x .ledger) (x .ends) (x .book))
 
   -- the outcomes against the book, over the values at its front
   against : (rest : List ℕ) → x .book ≡ values sha256 (start s n) E C ++ rest →

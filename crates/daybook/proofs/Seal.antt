@@ -66,7 +66,7 @@ module _ (s n f d : ℕ) (ledger ends book : List ℕ) (ok : Sealable s n f d le
     count-is = days-length ledger ends i
 
     add-taken : refusalOf s n (sealedTo i) (adds day) ≡ 0
-    add-taken = all-pass (testsOf s n (sealedTo i) (adds day)) (lt-ltb (length (daysOf ledger ends i)) bookLimit (omega (arith, count-is, ok .days-most)), le-leb (length day) dayLimit day-fits, tt)
+    add-taken = all-pass (testsOf s n (sealedTo i) (adds day)) (lt-ltb (length (daysOf ledger ends i)) bookLimit (omega (arith, count-is, ok .days-most)), (le-leb (0 + length day) dayLimit (let w = day-fits in omega arith), tt))
 
     room : 32 * length (chainsOfDay s n (suc (length (daysOf ledger ends i)))) ≤ length (rest i)
     room =
@@ -81,7 +81,7 @@ module _ (s n f d : ℕ) (ledger ends book : List ℕ) (ok : Sealable s n f d le
     close-taken : refusalOf s n grown (closes (length (rest i))) ≡ 0
     close-taken =
         all-pass (testsOf s n grown (closes (length (rest i))))
-        (lt-ltb (length (daysOf ledger ends i)) bookLimit (omega (arith, count-is, ok .days-most)), le-leb (32 * length (chainsOfDay s n (suc (length (daysOf ledger ends i))))) (length (rest i)) room, tt)
+        (lt-ltb (length (daysOf ledger ends i)) bookLimit (omega (arith, count-is, ok .days-most)), (le-leb (32 * length (chainsOfDay s n (suc (length (daysOf ledger ends i))))) (length (rest i)) room, tt))
 
     day-more : journalAfter s n (sealedTo i) (map argumentOf (dayCalls s n D book (suc i))) ≡ sealedTo (suc i)
     day-more =

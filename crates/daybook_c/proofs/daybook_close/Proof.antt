@@ -12,9 +12,13 @@ returns c =
     let number = c .before .before .before .before .writing-number .ensures in
     let test = c .before .before .before .if1 .taken in (
       close-number (args .state .now) (args .part .now) (args .values .now) _ _ _ _ decoded (call .0) (call .1) number,
-      close-done (args .state .now) (args .part .now) (args .values .now) _ _ _ _ decoded (call .0) (call .1) number _ test (c .before .encode .ensures),
-      close-part (args .state .now) (args .part .now) (args .values .now) _ _ _ _ decoded (call .0) (call .1) number,
-      close-count (args .state .now) (args .part .now) (args .values .now) _ _ _ _ decoded (call .0) (call .1) number _ test (c .count-of .ensures),
+      (
+        close-done (args .state .now) (args .part .now) (args .values .now) _ _ _ _ decoded (call .0) (call .1) number _ test (c .before .encode .ensures),
+        (
+          close-part (args .state .now) (args .part .now) (args .values .now) _ _ _ _ decoded (call .0) (call .1) number,
+          close-count (args .state .now) (args .part .now) (args .values .now) _ _ _ _ decoded (call .0) (call .1) number _ test (c .count-of .ensures),
+        ),
+      ),
     )
 
 returns-2 : tie.Need-returns-2
@@ -25,9 +29,13 @@ returns-2 c =
     let number = c .before .writing-number .ensures in
     let kept = close-kept (args .state .now) (args .part .now) (args .values .now) _ _ _ _ decoded (call .0) (call .1) number (c .if1 .left) in (
       close-number (args .state .now) (args .part .now) (args .values .now) _ _ _ _ decoded (call .0) (call .1) number,
-      kept .0,
-      close-part (args .state .now) (args .part .now) (args .values .now) _ _ _ _ decoded (call .0) (call .1) number,
-      kept .1,
+      (
+        kept .0,
+        (
+          close-part (args .state .now) (args .part .now) (args .values .now) _ _ _ _ decoded (call .0) (call .1) number,
+          kept .1,
+        ),
+      ),
     )
 
 pub daybook-close-spec : {M : Type 1} → statement M

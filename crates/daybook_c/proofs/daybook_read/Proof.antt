@@ -10,8 +10,10 @@ returns c =
     let call = c .before .before .before .before .before .before .read .ensures in
     let number = c .before .before .before .number-of .ensures in (
       read-number (args .d) _ _ _ (call .0) number,
-      call .1,
-      read-done (args .d) _ _ _ (call .0) number _ (args .numbers .now) (c .before .before .if1 .taken) (c .before .numbers-of .ensures),
+      (
+        call .1,
+        read-done (args .d) _ _ _ (call .0) number _ (args .numbers .now) (c .before .before .if1 .taken) (c .before .numbers-of .ensures),
+      ),
     )
 
 returns-2 : tie.Need-returns-2
@@ -20,8 +22,10 @@ returns-2 c =
     let call = c .before .before .before .before .read .ensures in
     let number = c .before .number-of .ensures in (
       read-number (args .d) _ _ _ (call .0) number,
-      call .1,
-      read-kept (args .d) _ _ _ (call .0) number (args .numbers .now) (c .if1 .left),
+      (
+        call .1,
+        read-kept (args .d) _ _ _ (call .0) number (args .numbers .now) (c .if1 .left),
+      ),
     )
 
 pub daybook-read-spec : {M : Type 1} → statement M
