@@ -85,7 +85,7 @@ namesOfDay (suc (suc (suc (suc s)))) n g = []
 unfoldable pub namesThrough : ℕ → ℕ → ℕ → List Name
 namesThrough scheme n d = flatMap (namesOfDay scheme n) (days d)
 
--- the days covered by each chain that closes at day g, and by each over d days
+-- the days covered by each chain that closes at day g (SPEC 4.5), and by each over d days
 unfoldable pub chainsOfDay : ℕ → ℕ → ℕ → List (List ℕ)
 chainsOfDay scheme n g = map (coveredDays n) (namesOfDay scheme n g)
 

@@ -67,11 +67,11 @@ allowedRecord r =
     allowedScheme (r .scheme) && allowedN (r .n) && allowedF (r .scheme) (r .f)
     && leb (r .days) bookLimit && leb (r .bytes) dayLimit
 
--- 01's tests 6 5, with which add and close begin
+-- 01's tests 6 5 (SPEC 10.5), with which add and close begin
 abbrev pub recordTests : Record → List Test
 recordTests r = allowedRecord r orRefuse 6 ∷ ltb (r .days) bookLimit orRefuse 5 ∷ []
 
--- for a piece of size bytes
+-- then test 4 (SPEC 10.4), for a piece of size bytes
 abbrev pub addTests : Record → ℕ → List Test
 addTests r size = recordTests r ++ (leb (r .bytes + size) dayLimit orRefuse 4 ∷ [])
 
@@ -109,7 +109,7 @@ added r piece =
 abbrev pub dayCount : Record → ℕ
 dayCount r = length (chainsOfDay (r .scheme) (r .n) (suc (r .days)))
 
--- for a part of size bytes
+-- then test 8 (SPEC 10.8), for a part of size bytes
 abbrev pub closeTests : Record → ℕ → List Test
 closeTests r size = recordTests r ++ (leb (32 * dayCount r) size orRefuse 8 ∷ [])
 
