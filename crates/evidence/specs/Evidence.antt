@@ -32,7 +32,7 @@ module _ (H : List ℕ → List ℕ) where
   value v ledger [] = v
   value v ledger (g ∷ c) = value (H (linkInput ledger v g)) ledger c
 
-  abbrev pub values : List ℕ → List (List ℕ) → List (List ℕ) → List ℕ  -- 01's book of some chains (SPEC 2.6)
+  abbrev pub values : List ℕ → List (List ℕ) → List (List ℕ) → List ℕ  -- the values of chains, end to end (SPEC 2.6)
   values start ledger [] = []
   values start ledger (c ∷ cs) = value start ledger c ++ values start ledger cs
 
