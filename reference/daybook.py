@@ -1,10 +1,10 @@
 """Settlement day books: sealing, checking, reading.
 
-Reference implementation of the paper "Settlement day books: sealing,
-checking, reading" (01-scope).  Written for clearness, not for speed: the
-layouts, the book and the reading follow the definitions of the paper.
+Reference implementation of the request (01), "Settlement day books:
+sealing, checking, reading".  Written for clearness, not for speed: the
+layouts, the book and the reading follow the request's definitions.
 
-Days count from 1.  Refusals are the paper's numbers, 0 stands for none.
+Days count from 1.  Refusals are the request's numbers, 0 stands for none.
 """
 
 import hashlib
@@ -86,7 +86,7 @@ def chains(scheme, n, d):
 
 
 def values(scheme, n, d):
-    """Number of values for d days, by the paper's formula."""
+    """Number of values for d days, by the request's formula."""
     if scheme == 1:
         return d // n
     if scheme == 2:

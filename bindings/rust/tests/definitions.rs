@@ -1,4 +1,4 @@
-//! Books, checks and readings against the definitions, the papers' examples and the reference.
+//! Books, checks and readings against the definitions, the request's examples and the reference.
 
 mod common;
 

@@ -1,4 +1,4 @@
--- Acceptance and listing by local rules: the laws `accepted-rules` and `listing-local` say that they are 01's.
+-- Acceptance and listing by local rules: the laws `accepted-rules` and `listing-isListed` say that they are 01's.
 -- Definitions only. A value is looked up by name.
 use mathlib.Core.Path.{_≡_}
 use mathlib.Core.Logic.{_⊎_}

@@ -43,5 +43,3 @@ pub fn tile_bit(n: u32, j: u32, g: u32, t: &[u8]) -> bool
 {
     tile_passes(n, layouts::lg(n) - j, g, t)
 }
-
-// ---- the rules of acceptance

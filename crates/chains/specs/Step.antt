@@ -1,4 +1,4 @@
--- The running hashes, and what one more day does to them. Definitions only.
+-- The running hashes (SPEC 5.1), and what one more day does to them (SPEC 5.4). Definitions only.
 -- There is one for black and seventeen slots: tile chain c(i) in slot i, or the tree's level l in slot l.
 use mathlib.Core.Bool.{Bool, true, false, _&&_, cond}
 use mathlib.Core.List.{List, [], _∷_, _++_, map}
@@ -10,11 +10,11 @@ use Rattle.sha256.specs.Sha256.{hashed}
 use Rattle.sha256_words.specs.Words.{bytesOf}
 use Rattle.chains.specs.declared.Value.{Value}
 
--- the start of a chain, as words
+-- 01's start of a chain (SPEC 3.4), as words
 unfoldable pub startValue : ℕ → ℕ → Value
 startValue scheme n = record { words = replicate 8 0 }
 
--- a value linked with a digest, both as words
+-- 01's link of a value and a digest (SPEC 3.5), as words
 unfoldable pub linked : Value → List ℕ → Value
 linked v h = record { words = hashed (1 ∷ (bytesOf (v .words) ++ bytesOf h)) }
 
@@ -34,7 +34,7 @@ storesSlot (suc (suc zero)) n g i = leb i (lg n) && divides n g
 storesSlot (suc (suc (suc zero))) n g i = divides (2 ^ i) g
 storesSlot (suc (suc (suc (suc s)))) n g i = false
 
--- whether black is a value of its own of day g
+-- whether black is a value of its own of day g (SPEC 4.9)
 abbrev pub storesBlack : ℕ → ℕ → ℕ → Bool
 storesBlack zero n g = false
 storesBlack (suc zero) n g = divides n g
@@ -60,7 +60,7 @@ linkedSlots scheme n g h slots = each (linkSlot scheme n g h) 0 slots
 unfoldable pub restarted : ℕ → ℕ → ℕ → Value → List Value → List Value
 restarted scheme n g start slots = each (restartSlot scheme n g start) 0 slots
 
--- the value of a named chain, from the running hashes that have day g linked
+-- the value of a named chain (SPEC 5.4), from the running hashes that have day g linked
 abbrev pub current : Value → List Value → Name → Value
 current b slots (black g) = b
 current b slots (tile i g) = getD slots i b

@@ -1,6 +1,6 @@
--- Demand 3: one claim on every list of calls, on every way of altering the ledger, and on checking and reading after
--- it; and what stands beside it. The calls stand in it by the functions of their contracts: opened, added, closing
--- (open, add, close), checked (check), readout (read), sealedBook (seal). docs/CLAIM.md goes through it line by line.
+-- Demand 3 (SPEC 9.3): one claim on every list of calls, every way of altering the ledger, and checking and reading
+-- after it; and what stands beside it. The calls stand in it by the functions of their contracts: opened, added,
+-- closing (open, add, close), checked (check), readout (read), sealedBook (seal). docs/CLAIM.md goes through it.
 use mathlib.Core.Path.{_≡_}
 use mathlib.Core.Logic.{_⊎_}
 use mathlib.Core.Bool.{true}
@@ -21,7 +21,7 @@ use Rattle.service.specs.Run.{Call, add, close, argumentOf, answers, bookWritte
 use Rattle.sealing.specs.Contract.{sealedBook}
 use Rattle.daybook.specs.Detection.{Handed, ledgerDays, checking, reading, Premises, SealedApart, Detected}
 
--- the days sealed by the calls, 01's entries of the diary; and the book that the calls wrote
+-- the days sealed by the calls, 01's entries of the diary (SPEC 6.2); and the book that the calls wrote (SPEC 5.7)
 abbrev pub sealed : ℕ → ℕ → List Call → List (List ℕ)
 sealed scheme n cs = journalOf scheme n cs .entries
 
@@ -31,7 +31,7 @@ wrote scheme n f cs = bookWritten (opened scheme n f .state) cs
 -- ---- the claim
 
 module _ (scheme n f : ℕ) (cs : List Call) where
-  -- the premises for all days sealed, in the mission's words: the book begins with the one that the calls wrote
+  -- the premises p to s for all days sealed, in the request's words: the book begins with the one that the calls wrote
   pub record AllPremises (x : Handed) : Type 0 where
     pub allowed : allowedD n f (length (sealed scheme n cs)) ≡ true
     pub begins : take (length (wrote scheme n f cs)) (x .book) ≡ wrote scheme n f cs
@@ -41,9 +41,9 @@ module _ (scheme n f : ℕ) (cs : List Call) where
     pub list-long : length (sealed scheme n cs) ≤ length (x .list)
 
   pub record Guarantee : Type 0 where
-    -- the service refuses exactly the calls that the diary refuses, with the same number
+    -- a: the service refuses exactly the calls that the diary refuses, with the same number
     pub refused : answers (opened scheme n f .state) cs ≡ refusals scheme n empty (map argumentOf cs)
-    -- the book that the calls wrote is 01's values over the diary's entries, in book order
+    -- b: the book that the calls wrote is 01's values over the diary's entries, in book order
     pub book : wrote scheme n f cs ≡ bookOf scheme n (sealed scheme n cs)
     -- for every number of days that 01 allows, up to all days sealed
     pub every : (d : ℕ) (x : Handed) → Premises scheme n f (sealed scheme n cs) (wrote scheme n f cs) d x →
@@ -53,7 +53,7 @@ module _ (scheme n f : ℕ) (cs : List Call) where
         SealedApart scheme n (sealed scheme n cs) (length (sealed scheme n cs)) x →
         Detected scheme n f (sealed scheme n cs) (length (sealed scheme n cs)) x
 
--- from the record of an accepted open, for every list of calls
+-- the customer's third demand: from the record of an accepted open, for every list of calls
 abbrev pub Claim : Type 0
 Claim = (scheme n f : ℕ) → numberOf (opened scheme n f .answer) ≡ 0 → (cs : List Call) → Guarantee scheme n f cs
 
@@ -80,7 +80,7 @@ Unaltered =
     Premises scheme n f (sealed scheme n cs) (wrote scheme n f cs) d x →
     ((g : ℕ) → g among days d → dayOf (sealed scheme n cs) g ≡ dayOf (ledgerDays d x) g) → ReadsClean scheme n f d x
 
--- ---- the premises can be met: whatever was sealed, if 01 allows the number of days, there is a ledger of the same days
+-- ---- the premises can be met: for whatever was sealed, if 01 allows the number of days, by a ledger of the same days
 
 pub record SameDays (scheme n f : ℕ) (cs : List Call) (x : Handed) : Type 0 where
   pub premises : Premises scheme n f (sealed scheme n cs) (wrote scheme n f cs) (length (sealed scheme n cs)) x
@@ -94,7 +94,7 @@ PremisesMet =
 
 -- ---- a book written by seal
 
--- the calls that seal stands for: for each day, its bytes in one piece, and a close that is lent the rest of the book
+-- the calls that seal stands for (SPEC 15.2): for each day, its bytes in one piece, and a close lent the book's rest
 abbrev pub dayCalls : ℕ → ℕ → List (List ℕ) → List ℕ → ℕ → List Call
 dayCalls scheme n ledger book g = add (dayOf ledger g) ∷ close (drop (32 * length (chains scheme n (pred g))) book) ∷ []
 

@@ -1,5 +1,5 @@
 -- What checking and reading find out about a ledger, over the days that were sealed and the book that was written for
--- them, whoever sealed them: the premises, and what then holds. Definitions only.
+-- them, whoever sealed them: the premises (SPEC 9.3 p to t), and what then holds (SPEC 9.3 c to f). Definitions only.
 use mathlib.Core.Path.{_≡_}
 use mathlib.Core.Logic.{_↔_}
 use mathlib.Core.Bool.{Bool, true, not, _&&_}
@@ -27,11 +27,11 @@ pub record Handed : Type 0 where
   pub outcomes : List ℕ
   pub list : List ℕ
 
--- 01's days of the ledger handed in
+-- 01's days of the ledger handed in (SPEC 7.2)
 abbrev pub ledgerDays : ℕ → Handed → List (List ℕ)
 ledgerDays d x = daysOf (x .ledger) (x .ends) d
 
--- 01's changed days of 1 to d: those whose bytes by ledger and ends differ from the sealed day's
+-- 01's changed days of 1 to d (SPEC 8.9): those whose bytes by ledger and ends differ from the sealed day's
 abbrev pub changedDays : List (List ℕ) → ℕ → Handed → List ℕ
 changedDays sealed d x = changed d sealed (ledgerDays d x)
 
@@ -61,21 +61,21 @@ module _ (scheme n : ℕ) (sealed : List (List ℕ)) (d : ℕ) (x : Handed) wher
   abbrev pub tableOfChanges : List ℕ
   tableOfChanges = tableOf (chains scheme n d) (changedDays sealed d x)
 
-  -- no two different inputs, one hashed at sealing and one at checking, share a SHA-256 value
+  -- premise t: no two different inputs, one hashed at sealing and one at checking, share a SHA-256 value
   abbrev pub SealedApart : Type 0
   SealedApart = NoCollision sha256 (inputsOf scheme n d sealed) (inputsOf scheme n d (ledgerDays d x))
 
 -- ---- the other premises, for the first d of the sealed days; written is the book that was written for all of them
 
 pub record Premises (scheme n f : ℕ) (sealed : List (List ℕ)) (written : List ℕ) (d : ℕ) (x : Handed) : Type 0 where
-  -- all are sealed, and 01 allows their number
+  -- p: all are sealed, and 01 allows their number
   pub days-sealed : d ≤ length sealed
   pub allowed : allowedD n f d ≡ true
-  -- the book begins with the values of these days as they were written
+  -- q: the book begins with the values of these days as they were written
   pub begins : take (32 * length (chains scheme n d)) (x .book) ≡ take (32 * length (chains scheme n d)) written
-  -- there is an end for each day, passing tests 9 and 10
+  -- r: there is an end for each day, passing tests 9 and 10
   pub ends-pass : endsRefusal d (x .ends) (length (x .ledger)) ≡ 0
-  -- the buffers are long enough
+  -- s: the buffers are long enough
   pub work-long : 32 * d ≤ length (x .work)
   pub outcomes-long : length (chains scheme n d) ≤ length (x .outcomes)
   pub list-long : d ≤ length (x .list)
@@ -83,14 +83,14 @@ pub record Premises (scheme n f : ℕ) (sealed : List (List ℕ)) (written : Lis
 -- ---- what checking and reading do then
 
 pub record Detected (scheme n f : ℕ) (sealed : List (List ℕ)) (d : ℕ) (x : Handed) : Type 0 where
-  -- check is done, and writes the digests of the ledger's days and exactly the table that the changed days give
+  -- c: check is done, and writes the digests of the ledger's days and exactly the table that the changed days give
   pub check-done : checking scheme n f d x .answer ≡ Done
   pub digests-written : checking scheme n f d x .work ≡
       digestsOf (x .ledger) (x .ends) d ++ drop (32 * d) (x .work)
   pub table-written : checking scheme n f d x .outcomes ≡
       tableOfChanges scheme n sealed d x ++ drop (length (chains scheme n d)) (x .outcomes)
-  -- read is not refused; it lists, ascending and once each, exactly the days that belong to some set giving the table,
-  -- and leaves the rest of the list
+  -- d: read is not refused; it lists, ascending and once each, exactly the days that belong to some set giving the
+  -- table, and leaves the rest of the list
   pub read-done : reading scheme n f d x .report .refusal ≡ 0
   pub counted : length (listedDays scheme n f d x) ≡ reading scheme n f d x .report .listed
   pub ascending : Ascends 1 (listedDays scheme n f d x)
@@ -98,10 +98,10 @@ pub record Detected (scheme n f : ℕ) (sealed : List (List ℕ)) (d : ℕ) (x :
       ((S : List ℕ) × Gives (chains scheme n d) d S (tableOfChanges scheme n sealed d x) × (g among S))
   pub rest-left : drop (reading scheme n f d x .report .listed) (reading scheme n f d x .list) ≡
       drop (reading scheme n f d x .report .listed) (x .list)
-  -- every changed day is there, and under the tree layout no other
+  -- e: every changed day is there, and under the tree layout no other
   pub complete : (g : ℕ) → g among changedDays sealed d x → g among listedDays scheme n f d x
   pub exact : scheme ≡ 3 → (g : ℕ) → g among listedDays scheme n f d x → g among changedDays sealed d x
-  -- the result says clean exactly when no day is changed, and its numbers are those of 01
+  -- f: the result says clean exactly when no day is changed, and its numbers are those of 01 (SPEC 8.6)
   pub clean : (reading scheme n f d x .report .clean ≡ true) ↔ (changedDays sealed d x ≡ [])
   pub numbers : reading scheme n f d x .report ≡
       found n f d (listedDays scheme n f d x) (lastGood scheme n d (tableOfChanges scheme n sealed d x))

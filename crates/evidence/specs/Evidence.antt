@@ -1,6 +1,6 @@
 -- 01's digests, links, values and tables, over any hash H of 32 bytes and any layout. Definitions only. A layout is a
--- list of chains, a chain the ascending list of the days that it covers, a ledger the list of its days' bytes, day 1
--- first.
+-- list of chains, a chain the ascending list of the days that it covers (SPEC 2.5), a ledger the list of its days'
+-- bytes, day 1 first.
 use mathlib.Core.Path.{_≡_}
 use mathlib.Core.Bool.{Bool, false, not, _&&_, _||_, cond}
 use mathlib.Core.List.{List, [], _∷_, _++_, map, flatMap}
@@ -11,7 +11,7 @@ use Rattle.lists.specs.Lists.{_among_, has, same, upFrom, keep}
 
 -- ---- hashing and checking
 
--- 01's days, 1 to d
+-- 01's days (SPEC 2.2), 1 to d
 abbrev pub days : ℕ → List ℕ
 days d = upFrom 1 d
 
@@ -19,33 +19,33 @@ abbrev pub dayOf : List (List ℕ) → ℕ → List ℕ  -- the bytes of day g
 dayOf ledger g = getD ledger (pred g) []
 
 module _ (H : List ℕ → List ℕ) where
-  -- 01's digest of a day's bytes
+  -- 01's digest of a day's bytes (SPEC 3.3)
   abbrev pub digest : List ℕ → List ℕ
   digest b = H (0 ∷ b)
 
-  -- 01's link, what is hashed: day g linked to the value v
+  -- 01's link (SPEC 3.5), what is hashed: day g linked to the value v
   abbrev pub linkInput : List (List ℕ) → List ℕ → ℕ → List ℕ
   linkInput ledger v g = 1 ∷ (v ++ digest (dayOf ledger g))
 
-  -- 01's value of a chain, here going on from v: each covered day in turn replaces it by the link's hash
+  -- 01's value of a chain (SPEC 3.6), here going on from v: each covered day in turn replaces it by the link's hash
   abbrev pub value : List ℕ → List (List ℕ) → List ℕ → List ℕ
   value v ledger [] = v
   value v ledger (g ∷ c) = value (H (linkInput ledger v g)) ledger c
 
-  abbrev pub values : List ℕ → List (List ℕ) → List (List ℕ) → List ℕ  -- the values of some chains, end to end
+  abbrev pub values : List ℕ → List (List ℕ) → List (List ℕ) → List ℕ  -- the values of chains, end to end (SPEC 2.6)
   values start ledger [] = []
   values start ledger (c ∷ cs) = value start ledger c ++ values start ledger cs
 
-  -- what is hashed for a chain that goes on from v
+  -- what is hashed for the links of a chain that goes on from v
   abbrev pub linkInputs : List ℕ → List (List ℕ) → List ℕ → List (List ℕ)
   linkInputs v ledger [] = []
   linkInputs v ledger (g ∷ c) = linkInput ledger v g ∷ linkInputs (H (linkInput ledger v g)) ledger c
 
-  -- 01's inputs hashed for some chains over the days 1 to d: one for each day, one for each link of each chain
+  -- 01's inputs hashed (SPEC 3.7) for some chains over the days 1 to d: one a day, one for each link of each chain
   unfoldable pub inputs : List ℕ → List (List ℕ) → ℕ → List (List ℕ) → List (List ℕ)
   inputs start chains d ledger = map (λ g. 0 ∷ dayOf ledger g) (days d) ++ flatMap (linkInputs start ledger) chains
 
-  -- no two different inputs, one of xs and one of ys, share a hash value
+  -- 01's premise on collisions (SPEC 9.3 t): no two different inputs, one of xs and one of ys, share a hash value
   abbrev pub NoCollision : List (List ℕ) → List (List ℕ) → Type 0
   NoCollision xs ys = (x y : List ℕ) → x among xs → y among ys → H x ≡ H y → x ≡ y
 
@@ -58,7 +58,7 @@ module _ (H : List ℕ → List ℕ) where
     pub different : one ≡ other → ⊥
     pub same-hash : H one ≡ H other
 
-  -- 01's outcomes of a check: 1 for each chain whose value stands in the book at its place, 32 bytes a value, else 0
+  -- 01's outcomes of a check (SPEC 7.5): 1 for each chain whose value stands in the book at its place, else 0
   abbrev pub checkOutcomes : List ℕ → List (List ℕ) → List (List ℕ) → List ℕ → List ℕ
   checkOutcomes start ledger [] book = []
   checkOutcomes start ledger (c ∷ cs) book =
@@ -66,7 +66,7 @@ module _ (H : List ℕ → List ℕ) where
 
 -- ---- reading
 
--- 01's changed days: those of 1 to d whose bytes differ
+-- 01's changed days (SPEC 8.9): those of 1 to d whose bytes differ
 unfoldable pub changed : ℕ → List (List ℕ) → List (List ℕ) → List ℕ
 changed d A B = keep (λ g. not (same (dayOf A g) (dayOf B g))) (days d)
 
@@ -74,18 +74,18 @@ abbrev pub meets : List ℕ → List ℕ → Bool  -- the chain covers a day of 
 meets S [] = false
 meets S (g ∷ c) = has g S || meets S c
 
--- 01's outcome: 0 (fail) exactly if the chain covers a day of S, else 1 (pass)
+-- 01's outcome (SPEC 2.7): 0 (fail) exactly if the chain covers a day of S, else 1 (pass)
 abbrev pub setOutcome : List ℕ → List ℕ → ℕ
 setOutcome S c = cond (meets S c) 0 1
 
--- 01's table, as the set S gives it: an outcome for each value, in book order
+-- 01's table (SPEC 8.2), as the set S gives it: an outcome for each value, in book order
 unfoldable pub tableOf : List (List ℕ) → List ℕ → List ℕ
 tableOf chains S = map (setOutcome S) chains
 
 abbrev pub Within : ℕ → List ℕ → Type 0  -- each day of S is from 1 to d
 Within d S = (g : ℕ) → g among S → (1 ≤ g) × (g ≤ d)
 
--- 01's "gives": S lies within 1 to d, and each value is 0 exactly if its chain covers a day of S
+-- 01's "gives" (SPEC 8.3): S lies within 1 to d, and each value is 0 exactly if its chain covers a day of S
 pub record Gives (chains : List (List ℕ)) (d : ℕ) (S table : List ℕ) : Type 0 where
   pub within : Within d S
   pub gives : tableOf chains S ≡ table
@@ -95,11 +95,11 @@ cleared g [] table = false
 cleared g (c ∷ chains) [] = false
 cleared g (c ∷ chains) (o ∷ table) = (eqb o 1 && has g c) || cleared g chains table
 
--- 01's listed days, those not cleared; the law `listed-iff`: those that belong to some set that gives the table, if
--- one does
+-- 01's listed days (SPEC 8.5), those not cleared; the law `listed-iff`: those that belong to some set that gives the
+-- table, if one does
 unfoldable pub listing : List (List ℕ) → ℕ → List ℕ → List ℕ
 listing chains d table = keep (λ g. not (cleared g chains table)) (days d)
 
--- 01's test 14: those days give the table; the law `given-iff-accepted`: exactly if some set gives it
+-- 01's test 14 (SPEC 8.4): those days give the table; the law `given-iff-accepted`: exactly if some set gives it
 unfoldable pub accepted : List (List ℕ) → ℕ → List ℕ → Bool
 accepted chains d table = same (tableOf chains (listing chains d table)) table

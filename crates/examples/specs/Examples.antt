@@ -1,4 +1,4 @@
--- The examples that 01 marks, as statements about tables, the sets that give them, counts, low and last good.
+-- The examples that 01 marks (SPEC 13), as statements about tables, the sets that give them, counts, low and last good.
 use mathlib.Core.Path.{_≡_}
 use mathlib.Core.Logic.{_↔_}
 use mathlib.Core.List.{List, [], _∷_}
@@ -9,17 +9,17 @@ use Rattle.evidence.specs.Evidence.{tableOf, Gives}
 use Rattle.layouts.specs.Layouts.{chains, valueCount}
 use Rattle.reading.specs.Numbers.{lowOf, lastGood}
 
--- some set gives the table, and the list is that of the days of such sets, ascending, each once
+-- some set gives the table, and the list is that of the days of such sets (SPEC 8.5), ascending, each once
 pub record Lists (scheme n d : ℕ) (table list : List ℕ) : Type 0 where
   pub given : (S : List ℕ) × Gives (chains scheme n d) d S table
   pub listed : (g : ℕ) → (g among list) ↔ ((S : List ℕ) × Gives (chains scheme n d) d S table × (g among S))
   pub ascending : Ascends 1 list
 
--- 01's cause 14: no set gives the table
+-- 01's cause 14 (SPEC 10.14): no set gives the table
 abbrev pub NotGiven : ℕ → ℕ → ℕ → List ℕ → Type 0
 NotGiven scheme n d table = (S : List ℕ) → Gives (chains scheme n d) d S table → ⊥
 
--- a number of values, by the formula and by the chains
+-- a number of values, by the formula (SPEC 4.12) and by the chains
 pub record Counts (scheme n d count : ℕ) : Type 0 where
   pub formula : valueCount scheme n d ≡ count
   pub chains-are : length (chains scheme n d) ≡ count
@@ -30,8 +30,8 @@ pub record Reads (scheme n f d : ℕ) (S list : List ℕ) (low good : ℕ) : Typ
   pub low-is : lowOf n f d (firstOf list) ≡ low
   pub good-is : lastGood scheme n d (tableOf (chains scheme n d) S) ≡ good
 
+-- in the order of SPEC 13.1 to 13.11; the first is 001's figure
 pub record Examples : Type 0 where
-  -- 001's figure
   pub figure : Reads 2 16 2 64 (19 ∷ 20 ∷ 27 ∷ []) (19 ∷ 20 ∷ 23 ∷ 24 ∷ 27 ∷ 28 ∷ 31 ∷ 32 ∷ []) 32 16
   pub tree-16 : Counts 3 2 16 35
   pub tree-14 : Counts 3 2 14 29

@@ -1,6 +1,6 @@
--- SHA-256 of a message that comes in pieces. A hasher holds the hash value of the message's whole blocks, and a block
--- that starts with the bytes since. How many bytes came is not in it: each definition that needs the number, n, takes
--- it. Assumes nothing.
+-- SHA-256 of a message that comes in pieces (SPEC 3.2). A hasher holds the hash value of the message's whole blocks,
+-- and a block that starts with the bytes since. How many bytes came is not in it: each definition that needs the
+-- number, n, takes it. Assumes nothing.
 use Prim.Native.Nat.{ℕ, _+_, _-_, _*_, _/_, _%_}
 use mathlib.Core.List.{List, [], _∷_, _++_}
 use lib.ListN.{length, take, drop, replicate}
@@ -28,7 +28,7 @@ begun m = onward initial m
 abbrev pub held : Hasher → ℕ → List ℕ
 held st n = take (n % 64) (st .block)
 
--- the bytes y more, after n bytes
+-- the bytes y more, after n bytes: a block that they fill is compressed (SPEC 3.2)
 unfoldable pub absorbed : Hasher → ℕ → List ℕ → Hasher
 absorbed st n y = onward (st .words) (held st n ++ y)
 

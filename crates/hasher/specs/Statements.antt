@@ -7,7 +7,7 @@ use Rattle.lists.specs.Lists.{joined}
 use Rattle.sha256.specs.Sha256.{hashed}
 use Rattle.hasher.specs.Hasher.{begun, absorbedAll, finished}
 
--- however a message is cut into pieces, its hash value is the standard's for the whole
+-- however a message is cut into pieces (SPEC 3.2), its hash value is the standard's for the whole
 abbrev pub AnyCutting : Type 0
 AnyCutting =
     (m : List ℕ) (pieces : List (List ℕ)) →

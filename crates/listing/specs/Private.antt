@@ -1,5 +1,5 @@
 -- What the walks list, and what is written of it. Definitions only; private contracts cite them, and the laws
--- `tile-days`, `tree-days` and `listing-local` lead them back to 01's listing.
+-- `tile-days`, `tree-days` and `listing-isListed` lead them back to 01's listing.
 use mathlib.Core.Path.{_≡_}
 use mathlib.Core.Bool.{Bool, cond}
 use mathlib.Core.List.{List, [], _∷_, _++_}
@@ -25,7 +25,8 @@ unfoldable pub tileDays : (ℕ → Bool) → ℕ → ℕ → List ℕ
 tileDays p zero day = day ∷ []
 tileDays p (suc l) day = cond (p l) [] (tileDays p l day) ++ tileDays p l (day + 2 ^ l)
 
--- the walk of the tree's chain of level l that ends at g: none if it passes; its day; its left half, then its right
+-- the walk of the tree's chain of level l that ends at g (SPEC 8.8): none if it passes; its day; its left half, then
+-- its right
 unfoldable pub treeDays : ℕ → List ℕ → ℕ → ℕ → List ℕ
 treeDays n t zero g = cond (passes 3 n t (tree 0 g)) [] (g ∷ [])
 treeDays n t (suc l) g = cond (passes 3 n t (tree (suc l) g)) [] (treeDays n t l (g - 2 ^ l) ++ treeDays n t l g)

@@ -1,4 +1,4 @@
--- Lists of numbers: membership, tests over a list, runs of numbers. Definitions only.
+-- Lists of numbers (SPEC 2.3): membership, tests over a list, runs of numbers. Definitions only.
 use mathlib.Core.Bool.{Bool, true, false, _&&_, _||_, cond}
 use mathlib.Core.List.{List, [], _∷_, _++_, List·Memᴰ}
 use Prim.Native.Nat.{ℕ, zero, suc, _≤_}

@@ -1,4 +1,4 @@
--- 01's reading: its tests, what it says, and the list after it. Definitions only.
+-- 01's reading (SPEC 8): its tests, what it says, and the list after it. Definitions only.
 use mathlib.Core.Path.{_≡_}
 use mathlib.Core.Bool.{Bool, true, false, _&&_, _||_}
 use mathlib.Core.List.{List, [], _∷_, _++_}
@@ -14,7 +14,7 @@ use Rattle.reading.specs.declared.Reading.the-variants.{Clean, Changed, 
 
 -- ---- what reading says
 
--- 01's number and values: the refusal (0 for none), whether the result is clean, and the five numbers
+-- 01's number and values (SPEC 8.6): the refusal (0 for none), whether the result is clean, and the five numbers
 pub record Report : Type 0 where
   pub refusal : ℕ
   pub clean : Bool
@@ -31,7 +31,7 @@ abbrev pub refusedReport : ℕ → Report
 refusedReport number =
     record { refusal = number; clean = false; listed = 0; first = 0; low = 0; high = 0; last-good = 0 }
 
--- for each case of the answer
+-- for each case of the answer (SPEC 8.10)
 unfoldable pub reportOf : ℕ → Reading → Report
 reportOf d Clean = cleanReport d
 reportOf d (Changed m) =
@@ -46,13 +46,13 @@ reportOf d (Changed m) =
     }
 reportOf d (Refused number) = refusedReport number
 
--- 01's five numbers, in 01's order
+-- 01's five numbers (SPEC 8.6), in 01's order
 abbrev pub fiveNumbers : Report → List ℕ
 fiveNumbers r = r .listed ∷ r .first ∷ r .low ∷ r .high ∷ r .last-good ∷ []
 
 -- ---- tests
 
--- the table: the outcomes needed, one for each value; those past them are not read
+-- 01's table (SPEC 8.2): the outcomes needed, one for each value; those past them are not read (SPEC 8.1)
 abbrev pub tableIn : ℕ → ℕ → ℕ → List ℕ → List ℕ
 tableIn scheme n d outcomes = take (length (chains scheme n d)) outcomes
 
@@ -61,7 +61,7 @@ abbrev pub bits : List ℕ → Bool
 bits [] = true
 bits (o ∷ os) = (eqb o 0 || eqb o 1) && bits os
 
--- 01's tests 12 13 14
+-- 01's tests 12 13 14 (SPEC 10.12, 10.13, 10.14)
 abbrev pub outcomeTests : ℕ → ℕ → ℕ → List ℕ → List Test
 outcomeTests scheme n d outcomes =
     leb (length (chains scheme n d)) (length outcomes) orRefuse 12 ∷
@@ -69,11 +69,11 @@ outcomeTests scheme n d outcomes =
     accepted (chains scheme n d) d (tableIn scheme n d outcomes) orRefuse 14 ∷
     []
 
--- 01's tests 8 12 13 14; places is the list's length
+-- 01's tests 8 12 13 14 (SPEC 10.8); places is the list's length
 abbrev pub tableTests : ℕ → ℕ → ℕ → List ℕ → ℕ → List Test
 tableTests scheme n d outcomes places = leb d places orRefuse 8 ∷ outcomeTests scheme n d outcomes
 
--- 01's tests 1 2 3 7 8 12 13 14
+-- 01's tests 1 2 3 7 8 12 13 14 (SPEC 11.5)
 abbrev pub readTests : ℕ → ℕ → ℕ → ℕ → List ℕ → ℕ → List Test
 readTests scheme n f d outcomes places = layoutTests scheme n f d ++ tableTests scheme n d outcomes places
 
@@ -90,11 +90,11 @@ pub record Layout (scheme n d : ℕ) : Type 0 where
 
 -- ---- the call
 
--- the listed days of an accepted table
+-- 01's listed days (SPEC 8.5) of an accepted table
 unfoldable pub listedIn : ℕ → ℕ → ℕ → List ℕ → List ℕ
 listedIn scheme n d outcomes = listing (chains scheme n d) d (tableIn scheme n d outcomes)
 
--- clean if no day is listed; else changed, with the numbers
+-- 01's result (SPEC 8.6): clean if no day is listed; else changed, with the numbers
 unfoldable pub found : ℕ → ℕ → ℕ → List ℕ → ℕ → Report
 found n f d [] last-good = cleanReport d
 found n f d (g ∷ gs) last-good =

@@ -1,4 +1,4 @@
--- The numbers that reading gives beside the listed days. Definitions only.
+-- The numbers that reading gives beside the listed days (SPEC 8.6, 8.7). Definitions only.
 use mathlib.Core.Bool.{Bool, false, _&&_, _||_}
 use mathlib.Core.List.{List, [], _∷_}
 use Prim.Native.Nat.{ℕ, pred, _-_, _*_, max}
@@ -7,16 +7,16 @@ use Rattle.lists.specs.Lists.{lastOf, keep}
 use Rattle.evidence.specs.Evidence.{days}
 use Rattle.layouts.specs.Layouts.{divides, Name, blackAt, namesThrough}
 
--- 01's low, for the first listed day
+-- 01's low (SPEC 8.6), for the first listed day
 abbrev pub lowOf : ℕ → ℕ → ℕ → ℕ → ℕ
 lowOf n f d first = max (d - f * n) (pred first)
 
--- the black value of day g passes
+-- 01's black value of day g (SPEC 8.7) passes
 abbrev pub blackPasses : ℕ → List Name → List ℕ → Bool
 blackPasses g [] table = false
 blackPasses g (x ∷ xs) [] = false
 blackPasses g (x ∷ xs) (o ∷ table) = (blackAt g x && eqb o 1) || blackPasses g xs table
 
--- 01's last good: the last day whose black value passes, else 0
+-- 01's last good (SPEC 8.7): the last day whose black value passes, else 0
 unfoldable pub lastGood : ℕ → ℕ → ℕ → List ℕ → ℕ
 lastGood scheme n d table = lastOf 0 (keep (λ g. divides n g && blackPasses g (namesThrough scheme n d) table) (days d))

@@ -13,7 +13,7 @@ use Rattle.reading.specs.declared.Reading.{Reading}
 use Rattle.reading.specs.declared.Reading.the-variants.{Clean, Changed, Refused}
 use Rattle.reading.specs.Contract.{Report, reportOf, tableIn, bits, Readout, readout}
 
--- ---- acceptance: demand 2's last sentence
+-- ---- acceptance: demand 2's last sentence (SPEC 9.2)
 
 -- tests 1 2 3 7 8 12 find no cause
 pub record Supplied (scheme n f d : ℕ) (outcomes list : List ℕ) : Type 0 where
@@ -21,7 +21,7 @@ pub record Supplied (scheme n f d : ℕ) (outcomes list : List ℕ) : Type 0 whe
   pub places : d ≤ length list
   pub enough : length (chains scheme n d) ≤ length outcomes
 
--- some set gives the table
+-- some set gives the table (SPEC 8.4)
 abbrev pub SomeSet : ℕ → ℕ → ℕ → List ℕ → Type 0
 SomeSet scheme n d outcomes = (S : List ℕ) × Gives (chains scheme n d) d S (tableIn scheme n d outcomes)
 
@@ -41,7 +41,7 @@ SaysNoSet =
 
 -- ---- the days listed
 
--- the first places hold, ascending, the days that belong to some set that gives the table; the rest of the list stays
+-- the first places hold, ascending, the days of the sets that give the table (SPEC 8.5); the rest of the list stays
 pub record ListsDays (scheme n d : ℕ) (outcomes list : List ℕ) (r : Readout) : Type 0 where
   pub counted : length (take (r .report .listed) (r .list)) ≡ r .report .listed
   pub ascending : Ascends 1 (take (r .report .listed) (r .list))
@@ -54,7 +54,7 @@ ListsDaysOfSets =
     (scheme n f d : ℕ) (outcomes list : List ℕ) → readout scheme n f d outcomes list .report .refusal ≡ 0 →
     ListsDays scheme n d outcomes list (readout scheme n f d outcomes list)
 
--- outcomes past the values are not read
+-- outcomes past the values are not read (SPEC 8.1)
 abbrev pub OutcomesRead : Type 0
 OutcomesRead =
     (scheme n f d : ℕ) (outcomes list : List ℕ) →
@@ -62,7 +62,7 @@ OutcomesRead =
 
 -- ---- the answer: what the contract says of it leaves no choice
 
--- which case it is, by what the call says
+-- which case it is (SPEC 8.10), by what the call says
 pub record CaseOf (a : Reading) (r : Report) : Type 0 where
   pub clean : (a ≡ Clean) ↔ ((r .refusal ≡ 0) × (r .listed ≡ 0))
   pub changed : ((m : Numbers) × (a ≡ Changed m)) ↔ ((r .refusal ≡ 0) × (1 ≤ r .listed))

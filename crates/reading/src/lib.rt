@@ -114,7 +114,7 @@ pub fn table_refusal(scheme: u32, n: u32, d: u32, outcomes: &[u8], places: usize
     given_refusal(scheme, n, d, &outcomes[..values])
 }
 
-// Tests 1 2 3 7 8 12 13 14.
+// Tests 1 2 3 7 8 12 13 14 (SPEC 11.5).
 fn refusal(scheme: u32, n: u32, f: u32, d: u32, outcomes: &[u8], places: usize) -> u32
     ensures { λ r. ⌜ r ≡ readRefusal scheme n f d (now (outcomes .entry)) places ⌝ }
 {

@@ -1,4 +1,4 @@
--- What sealing a whole ledger in one call answers and writes. Definitions only.
+-- What sealing a whole ledger in one call answers and writes (SPEC 15.2). Definitions only.
 use mathlib.Core.List.{List, [], _∷_, _++_}
 use Prim.Native.Nat.{ℕ, _*_}
 use lib.Dec.{leb}
@@ -9,7 +9,7 @@ use Rattle.layouts.specs.Layouts.{layoutTests, chains}
 use Rattle.ledger.specs.Ledger.{daysOf, endsTests}
 use Rattle.chains.specs.Book.{bookOf}
 
--- tests 1 2 3 7 9 10 8; size is the ledger's length, room the book's
+-- tests 1 2 3 7 9 10 8 (SPEC 11.7); size is the ledger's length, room the book's
 abbrev pub sealTests : ℕ → ℕ → ℕ → ℕ → List ℕ → ℕ → ℕ → List Test
 sealTests scheme n f d ends size room =
     layoutTests scheme n f d ++ (endsTests d ends size ++ (leb (32 * length (chains scheme n d)) room orRefuse 8 ∷ []))
@@ -17,7 +17,7 @@ sealTests scheme n f d ends size room =
 unfoldable pub sealRefusal : ℕ → ℕ → ℕ → ℕ → List ℕ → ℕ → ℕ → ℕ
 sealRefusal scheme n f d ends size room = firstRefusal (sealTests scheme n f d ends size room)
 
--- what seal answers, and the book as it leaves it: at its front 01's book over the ledger's days
+-- what seal answers, and the book as it leaves it: at its front 01's book (SPEC 4.13) over the ledger's days
 pub record SealedBook : Type 0 where
   pub answer : Answer
   pub book : List ℕ

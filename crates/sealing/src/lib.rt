@@ -11,7 +11,7 @@ ghost use Rattle.chains.specs.Book.{bookOf};
 ghost use Rattle.service.specs.Contract.{added, closing};
 ghost use Rattle.sealing.specs.Contract.{sealRefusal, sealedBook};
 
-// Tests 1 2 3 7 9 10 8.
+// Tests 1 2 3 7 9 10 8 (SPEC 11.7).
 fn seal_refusal(scheme: u32, n: u32, f: u32, d: u32, ends: &[u32], size: usize, room: usize) -> u32
     ensures { λ r. ⌜ r ≡ sealRefusal scheme n f d (now (ends .entry)) size room ⌝ }
 {

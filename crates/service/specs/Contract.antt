@@ -1,5 +1,5 @@
--- What open, add and close answer, give back and write, for every record, whatever its words and block bytes.
--- Definitions only.
+-- What open, add and close answer, give back and write, for every record, whatever its words and block bytes
+-- (SPEC 5.1). Definitions only.
 use mathlib.Core.Bool.{Bool, _&&_}
 use mathlib.Core.List.{List, [], _∷_, _++_}
 use Prim.Native.Nat.{ℕ, zero, suc, _+_, _*_}
@@ -18,9 +18,9 @@ use Rattle.service.specs.declared.Opened.{Opened}
 use Rattle.service.specs.declared.Added.{Added}
 use Rattle.service.specs.declared.Closed.{Closed}
 
--- ---- open: 01's tests 1 2 3
+-- ---- open (SPEC 5.2): 01's tests 1 2 3 (SPEC 11.1)
 
--- 01's record of an accepted open: scheme, n and f, no day closed, no byte in the open day, each chain at its start
+-- 01's fresh service (SPEC 5.2): scheme, n and f, no day closed, no byte in the open day, each chain at its start
 unfoldable pub fresh : ℕ → ℕ → ℕ → Record
 fresh scheme n f =
     record {
@@ -35,7 +35,7 @@ fresh scheme n f =
       running = replicate 17 (startValue scheme n);
     }
 
--- 01's record of zeros
+-- 01's record of zeros, of a refused open (SPEC 5.2)
 unfoldable pub noValue : Value
 noValue = record { words = replicate 8 0 }
 
@@ -59,19 +59,19 @@ opened scheme n f =
     let refusal = setupRefusal scheme n f in
     record { answer = answerOf refusal; state = unlessRefused refusal (fresh scheme n f) zeros }
 
--- ---- add: 01's tests 6 5 4
+-- ---- add (SPEC 5.3): 01's tests 6 5 4 (SPEC 11.2)
 
--- 01's cause 6 is not there: scheme, n and f are allowed, days closed and open bytes are within their limits
+-- 01's cause 6 (SPEC 10.6) is not there: scheme, n and f are allowed, days closed and open bytes within their limits
 abbrev pub allowedRecord : Record → Bool
 allowedRecord r =
     allowedScheme (r .scheme) && allowedN (r .n) && allowedF (r .scheme) (r .f)
     && leb (r .days) bookLimit && leb (r .bytes) dayLimit
 
--- 01's tests 6 5, with which add and close begin
+-- 01's tests 6 5 (SPEC 10.5), with which add and close begin
 abbrev pub recordTests : Record → List Test
 recordTests r = allowedRecord r orRefuse 6 ∷ ltb (r .days) bookLimit orRefuse 5 ∷ []
 
--- for a piece of size bytes
+-- then test 4 (SPEC 10.4), for a piece of size bytes
 abbrev pub addTests : Record → ℕ → List Test
 addTests r size = recordTests r ++ (leb (r .bytes + size) dayLimit orRefuse 4 ∷ [])
 
@@ -82,7 +82,7 @@ addRefusal r size = firstRefusal (addTests r size)
 abbrev pub openDay : Record → Hasher
 openDay r = record { words = r .hash; block = r .block }
 
--- the record with the piece in its open day
+-- the record with the piece at its open day's end
 unfoldable pub grown : Record → List ℕ → Record
 grown r piece =
     record {
@@ -103,20 +103,20 @@ added r piece =
     let refusal = addRefusal r (length piece) in
     record { answer = answerOf refusal; state = unlessRefused refusal (grown r piece) r }
 
--- ---- close: 01's tests 6 5 8
+-- ---- close (SPEC 5.4): 01's tests 6 5 8 (SPEC 11.3)
 
 -- 01's number of the layout's values for the open day
 abbrev pub dayCount : Record → ℕ
 dayCount r = length (chainsOfDay (r .scheme) (r .n) (suc (r .days)))
 
--- for a part of size bytes
+-- then test 8 (SPEC 10.8), for a part of size bytes
 abbrev pub closeTests : Record → ℕ → List Test
 closeTests r size = recordTests r ++ (leb (32 * dayCount r) size orRefuse 8 ∷ [])
 
 unfoldable pub closeRefusal : Record → ℕ → ℕ
 closeRefusal r size = firstRefusal (closeTests r size)
 
--- 01's digest of the open day, as words
+-- 01's digest of the open day (SPEC 3.3), as words
 abbrev pub digestOf : Record → List ℕ
 digestOf r = finished (openDay r) (r .bytes + 1)
 
@@ -149,7 +149,7 @@ abbrev pub writingOf : ℕ → ℕ → Writing
 writingOf zero count = Wrote count
 writingOf (suc x) count = Refused (suc x)
 
--- 01's number for each answer, and the number of values written
+-- 01's number for each answer (SPEC 14.4), and the number of values written
 abbrev pub writingNumber : Writing → ℕ
 writingNumber (Wrote count) = 0
 writingNumber (Refused number) = number

@@ -1,5 +1,5 @@
--- 01's diary, here a journal: a plain account of a list of calls, fed only their arguments. It knows nothing of
--- records, answers or written bytes. Definitions only.
+-- 01's diary (SPEC 6), here a journal: a plain account of a list of calls, fed only their arguments. It knows nothing
+-- of records, answers or written bytes. Definitions only.
 use mathlib.Core.List.{List, [], _∷_, _++_}
 use Prim.Native.Nat.{ℕ, suc, _+_, _*_}
 use lib.Dec.{leb, ltb}
@@ -7,7 +7,7 @@ use lib.ListN.{length}
 use Rattle.refusals.specs.Refusals.{bookLimit, dayLimit, Test, _orRefuse_, firstRefusal, unlessRefused}
 use Rattle.layouts.specs.Layouts.{chainsOfDay}
 
--- one entry for each closed day, its bytes; and the open day's bytes
+-- 01's entries (SPEC 6.2), one for each closed day, its bytes; and the open day's bytes
 pub record Journal : Type 0 where
   pub entries : List (List ℕ)
   pub day : List ℕ
@@ -16,12 +16,12 @@ pub record Journal : Type 0 where
 abbrev pub empty : Journal
 empty = record { entries = []; day = [] }
 
--- the arguments of a call: a piece, or the length of the part lent
+-- the arguments of a call (SPEC 6.1): a piece, or the length of the part lent
 pub data Argument : Type 0 where
   adds : List ℕ → Argument
   closes : ℕ → Argument
 
--- 01's tests: add 5 4, close 5 8
+-- 01's tests: add 5 4 (SPEC 6.3), close 5 8 (SPEC 6.4)
 abbrev pub testsOf : ℕ → ℕ → Journal → Argument → List Test
 testsOf scheme n j (adds piece) =
     ltb (length (j .entries)) bookLimit orRefuse 5 ∷ leb (length (j .day) + length piece) dayLimit orRefuse 4 ∷ []
@@ -38,7 +38,7 @@ abbrev pub entered : Journal → Argument → Journal
 entered j (adds piece) = record { entries = j .entries; day = j .day ++ piece }
 entered j (closes size) = record { entries = j .entries ++ (j .day ∷ []); day = [] }
 
--- a refused call changes nothing
+-- a refused call changes nothing (SPEC 6.5)
 abbrev pub kept : ℕ → ℕ → Journal → Argument → Journal
 kept scheme n j a = unlessRefused (refusalOf scheme n j a) (entered j a) j
 

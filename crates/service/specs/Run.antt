@@ -1,4 +1,4 @@
--- A list of add and close calls on a service, by what the calls' contracts say; and the claim on every such list.
+-- 01's lists of add and close calls (SPEC 5.6), by what the calls' contracts say; and the claim on every such list.
 use mathlib.Core.Path.{_≡_}
 use mathlib.Core.List.{List, [], _∷_, _++_, map}
 use Prim.Native.Nat.{ℕ, _*_}
@@ -34,7 +34,7 @@ called r (close part) =
       wrote = take (32 * countOf (c .result .answer)) (c .part);
     }
 
--- each call is handed the record that the call before gave back, refused or not
+-- each call is handed the record that the call before gave back, refused or not (SPEC 5.6)
 abbrev pub stateAfter : Record → List Call → Record
 stateAfter r [] = r
 stateAfter r (c ∷ cs) = stateAfter (called r c .state) cs
@@ -44,7 +44,7 @@ abbrev pub answers : Record → List Call → List ℕ
 answers r [] = []
 answers r (c ∷ cs) = called r c .number ∷ answers (called r c .state) cs
 
--- 01's book of the list: what its accepted closes wrote, end to end
+-- 01's book of the list (SPEC 5.7): what its accepted closes wrote, end to end
 abbrev pub bookWritten : Record → List Call → List ℕ
 bookWritten r [] = []
 bookWritten r (c ∷ cs) = called r c .wrote ++ bookWritten (called r c .state) cs
@@ -53,9 +53,9 @@ bookWritten r (c ∷ cs) = called r c .wrote ++ bookWritten (called r c .state) 
 abbrev pub journalOf : ℕ → ℕ → List Call → Journal
 journalOf scheme n cs = journalAfter scheme n empty (map argumentOf cs)
 
--- The claim: from the record of an accepted open, for every list of calls, refused ones included, the service refuses
--- exactly what the journal refuses, with the same number; and what the accepted closes wrote is 01's book over the
--- journal's entries.
+-- The claim (SPEC 6.6, 9.3 a b): from the record of an accepted open, for every list of calls, refused ones included,
+-- the service refuses exactly what the journal refuses, with the same number; and what the accepted closes wrote is
+-- 01's book over the journal's entries.
 pub record Kept (scheme n f : ℕ) (cs : List Call) : Type 0 where
   pub refused : answers (opened scheme n f .state) cs ≡ refusals scheme n empty (map argumentOf cs)
   pub book : bookWritten (opened scheme n f .state) cs ≡ bookOf scheme n (journalOf scheme n cs .entries)

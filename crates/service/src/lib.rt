@@ -62,7 +62,7 @@ pub fn count_of(a: Writing) -> u32
     }
 }
 
-// Tests 1 2 3. A refusal gives a record of zeros.
+// Tests 1 2 3 (SPEC 11.1). A refusal gives a record of zeros.
 pub fn open(scheme: u32, n: u32, f: u32) -> Opened
     ensures { λ r. ⌜ r ≡ opened scheme n f ⌝ }
 {
@@ -79,7 +79,7 @@ pub fn open(scheme: u32, n: u32, f: u32) -> Opened
     }
 }
 
-// Tests 6 5 4.
+// Tests 6 5 4 (SPEC 11.2).
 fn add_refusal(state: Record, size: usize) -> u32
     ensures { λ r. ⌜ r ≡ addRefusal state size ⌝ }
 {
@@ -109,7 +109,7 @@ pub fn add(state: Record, piece: &[u8]) -> Added
     }
 }
 
-// Tests 6 5 8.
+// Tests 6 5 8 (SPEC 11.3).
 fn close_refusal(state: Record, size: usize) -> u32
     ensures { λ r. ⌜ r ≡ closeRefusal state size ⌝ }
 {

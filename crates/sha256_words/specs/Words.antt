@@ -1,5 +1,5 @@
--- SHA-256's words, as FIPS 180-4 defines them. A byte is a number below 2 ^ 8 and a word one below 2 ^ 32. Assumes
--- nothing.
+-- SHA-256's words, as FIPS 180-4 defines them (SPEC 3.1). A byte is a number below 2 ^ 8 and a word one below 2 ^ 32.
+-- Assumes nothing.
 use Prim.Native.Nat.{ℕ, _+_, _-_, _*_, _/_, _%_, _^_}
 use mathlib.Core.List.{List, [], _∷_}
 use lib.Bits.{bitAnd, bitOr, bitXor}
@@ -7,7 +7,7 @@ use lib.ListN.{getD}
 
 -- ---- section 3.2: operations on words
 
--- the sum modulo 2 ^ 32
+-- 01's addition on words (SPEC 3.1): the sum modulo 2 ^ 32, the carry dropped
 unfoldable pub add32 : ℕ → ℕ → ℕ
 add32 x y = (x + y) % 2 ^ 32
 

@@ -1,4 +1,4 @@
-//! The papers' definitions written plainly, to compare the library with. Nothing here calls it.
+//! The request's definitions written plainly, to compare the library with. Nothing here calls it.
 
 #![allow(dead_code)] // each test program uses some of it
 
