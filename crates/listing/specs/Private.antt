@@ -1,11 +1,9 @@
 -- What the walks list, and what is written of it. Definitions only; private contracts cite them, and the laws
 -- `tile-days`, `tree-days` and `listing-isListed` lead them back to 01's listing.
-use mathlib.Core.Path.{_≡_}
 use mathlib.Core.Bool.{Bool, cond}
 use mathlib.Core.List.{List, [], _∷_, _++_}
 use Prim.Native.Nat.{ℕ, zero, suc, _+_, _-_, _*_, _/_, _%_, _^_, _≤_}
 use lib.Dec.{eqb}
-use lib.ListN.{length, take, drop}
 use Rattle.layouts.specs.Layouts.{lg, tree}
 use Rattle.acceptance.specs.Private.{Interval, passes}
 
@@ -14,11 +12,6 @@ pub record Tile (n g l day : ℕ) (t : List ℕ) : Type 0 where
   pub at : Interval 2 n g t
   pub level : l ≤ lg n
   pub fits : day + 2 ^ l ≤ suc g
-
--- the days F were written from a place on, up to r; the list's rest stays
-pub record Wrote (at : ℕ) (F before : List ℕ) (r : ℕ) (after : List ℕ) : Type 0 where
-  pub count : r ≡ at + length F
-  pub list : after ≡ take at before ++ (F ++ drop r before)
 
 -- the walk of a failed tile from a day on, l bits left: where p l passes only the upper half is gone into
 unfoldable pub tileDays : (ℕ → Bool) → ℕ → ℕ → List ℕ
