@@ -1,17 +1,17 @@
-// Every refusal of sealing and of checking, and every pair of causes at once. A line is the numbers handed to both calls, then
-// for each call its name, its answer's number, 0 for done, and the place from which on each buffer that it may write is as it
-// was. reference/check_refusals.py writes what the lines must be.
+// Every refusal of sealing and of checking, and every pair of causes at once. Standard input has a line for each: scheme, N, F, D;
+// the ends lent, an index and the end put there; the lengths of ledger, book, work and outcomes. The line is written again with,
+// for each call, its name, its answer's number, 0 for done, and the place from which on each buffer that it may write is as it
+// was. reference/check_refusals.py writes both.
 use test_samples::as_u32;
 use test_samples::buffers;
 use test_samples::calls;
 use test_samples::calls::Setup;
+use test_samples::input;
+use test_samples::input::at_most;
 use test_samples::print;
-ghost use Prim.Native.Nat.{_≤_, _<_};
 
-// The ends 4, 8, 12 and so on, but for the one at index i.
-fn ends(i: usize, end: u32) -> [u32; 20]
-    requires { ⌜ i < 20 ⌝ }
-{
+// The ends 4, 8, 12 and so on, but for one.
+fn ends(c: [u32; 11]) -> [u32; 20] {
     let mut e = [
         4u32,
         8,
@@ -34,73 +34,90 @@ fn ends(i: usize, end: u32) -> [u32; 20]
         76,
         80,
     ];
-    e[i] = end;
+    let i = at_most(c[5], 19);
+    e[i] = c[6];
     e
 }
 
-fn seal(s: Setup, ledger: &[u8], ends: &[u32], book: &mut [u8]) {
-    let number = calls::seal(s, ledger, ends, book);
-    let numbers = [number, as_u32(buffers::kept(book))];
+fn setup(c: [u32; 11]) -> Setup {
+    Setup::new(c[0], c[1], c[2], c[3])
+}
+
+fn print_kept(s: &[u8]) {
+    print::byte(b' ');
+    print::number(as_u32(buffers::kept(s)));
+}
+
+fn seal_in(s: Setup, ledger: &[u8], ends: &[u32], book: &mut [u8]) {
+    print::number(calls::seal(s, ledger, ends, book));
+    print_kept(book);
+}
+
+fn seal(c: [u32; 11], ledger: &[u8], ends: &[u32]) {
+    let mut book = [170u8; 1100];
+    let room = at_most(c[8], 1100);
     io::write_all(1, b": seal ");
-    print::numbers(&numbers, b" ");
+    seal_in(setup(c), ledger, ends, &mut book[0..room]);
 }
 
-fn check(s: Setup, ledger: &[u8], ends: &[u32], book: &[u8], work: &mut [u8], outcomes: &mut [u8]) {
-    let number = calls::check(s, ledger, ends, book, work, outcomes);
-    let numbers = [
-        number,
-        as_u32(buffers::kept(work)),
-        as_u32(buffers::kept(outcomes)),
-    ];
-    io::write_all(1, b" check ");
-    print::numbers(&numbers, b" ");
+fn check_in(
+    s: Setup,
+    ledger: &[u8],
+    ends: &[u32],
+    book: &[u8],
+    work: &mut [u8],
+    outcomes: &mut [u8],
+) {
+    print::number(calls::check(s, ledger, ends, book, work, outcomes));
+    print_kept(work);
+    print_kept(outcomes);
 }
 
-// Scheme, N, F, D; the ends lent, an index and the end put there; the lengths of ledger, book, work and outcomes.
-pub fn case(
-    scheme: u32,
-    n: u32,
-    f: u32,
-    d: u32,
-    count: usize,
-    i: usize,
-    end: u32,
-    size: usize,
-    room: usize,
-    length: usize,
-    places: usize,
-)
-    requires { ⌜ (count ≤ 20) × (i < 20) × (size ≤ 80) × (room ≤ 1100) × (length ≤ 600) × (places ≤ 40) ⌝ }
-{
-    let numbers = [
-        scheme,
-        n,
-        f,
-        d,
-        count as u32,
-        i as u32,
-        end,
-        size as u32,
-        room as u32,
-        length as u32,
-        places as u32,
-    ];
-    print::numbers(&numbers, b",");
-    let s = Setup::new(scheme, n, f, d);
-    let ledger = [98u8; 80];
-    let e = ends(i, end);
-    let mut sealed = [170u8; 1100];
-    seal(s, &ledger[0..size], &e[0..count], &mut sealed[0..room]);
+fn check(c: [u32; 11], ledger: &[u8], ends: &[u32]) {
     let book = [170u8; 1100];
     let mut work = [170u8; 600];
     let mut outcomes = [170u8; 40];
-    check(
-        s,
-        &ledger[0..size],
-        &e[0..count],
+    let room = at_most(c[8], 1100);
+    let length = at_most(c[9], 600);
+    let places = at_most(c[10], 40);
+    io::write_all(1, b" check ");
+    check_in(
+        setup(c),
+        ledger,
+        ends,
         &book[0..room],
         &mut work[0..length],
         &mut outcomes[0..places],
     );
-    print::line_end();
+}
+
+fn calls_of(c: [u32; 11], ledger: &[u8], ends: &[u32]) {
+    seal(c, ledger, ends);
+    check(c, ledger, ends);
+    print::byte(b'\n');
+}
+
+fn case(line: &[u8]) {
+    io::write_all(1, line);
+    let c = input::numbers(line);
+    let ledger = [98u8; 80];
+    let ends = ends(c);
+    let count = at_most(c[4], 20);
+    let size = at_most(c[7], 80);
+    calls_of(c, &ledger[0..size], &ends[0..count]);
+}
+
+fn cases(s: &[u8]) {
+    let mut at = 0usize;
+    while at < s.len() {
+        let e = bytes::scan::find(s, at, s.len(), b'\n');
+        case(&s[at..e]);
+        at = input::past(e, s.len());
+    }
+}
+
+pub fn run() {
+    let mut buffer = io::large_buffer();
+    let n = io::read_full(0, &mut buffer);
+    cases(&buffer[..n]);
 }

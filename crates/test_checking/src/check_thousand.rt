@@ -47,61 +47,46 @@ fn failing(outcomes: &[u8]) -> usize {
     n
 }
 
-fn line(scheme: u32, f: u32, day: u32, ledger: &[u8], ends: &[u32], book: &[u8]) {
-    let mut work = [0u8; 32000];
+fn print_line(scheme: u32, day: u32, number: u32, outcomes: &[u8]) {
+    let numbers = [scheme, day, number, as_u32(failing(outcomes))];
+    print::numbers(&numbers, b' ');
+    print::byte(b' ');
+    print::digest_line(outcomes);
+}
+
+fn line(s: Setup, day: u32, ledger: &[u8], ends: &[u32], book: &[u8]) {
     let mut outcomes = [9u8; 2112];
-    let number = calls::check(
-        Setup::new(scheme, 8, f, 1000),
-        ledger,
-        ends,
-        book,
-        &mut work,
-        &mut outcomes,
-    );
-    let k = values(scheme);
-    let count = as_u32(failing(&outcomes[0..k]));
-    let numbers = [scheme, day, number, count];
-    print::numbers(&numbers, b" ");
-    io::write_all(1, b" ");
-    print::digest_line(&outcomes[0..k]);
+    let number = calls::check_days(s, ledger, ends, book, &mut outcomes);
+    let k = values(s.scheme);
+    print_line(s.scheme, day, number, &outcomes[0..k]);
 }
 
 // One bit of the byte at at altered.
-fn altered(scheme: u32, f: u32, day: u32, ledger: &mut [u8], ends: &[u32], book: &[u8], at: usize) {
+fn altered(s: Setup, day: u32, ledger: &mut [u8], ends: &[u32], book: &[u8], at: usize) {
     buffers::flip(ledger, at);
-    line(scheme, f, day, ledger, ends, book);
+    line(s, day, ledger, ends, book);
     buffers::flip(ledger, at);
 }
 
 // The first byte of day 1, the first of day 500 and the last of day 1000, which has 57 bytes.
-fn checks(scheme: u32, f: u32, ledger: &mut [u8], ends: &[u32], book: &[u8]) {
-    line(scheme, f, 0, ledger, ends, book);
-    altered(scheme, f, 1, ledger, ends, book, 0);
-    altered(scheme, f, 500, ledger, ends, book, days::start(ends, 500));
-    altered(
-        scheme,
-        f,
-        1000,
-        ledger,
-        ends,
-        book,
-        days::start(ends, 1000) + 56,
-    );
+fn checks(s: Setup, ledger: &mut [u8], ends: &[u32], book: &[u8]) {
+    line(s, 0, ledger, ends, book);
+    altered(s, 1, ledger, ends, book, 0);
+    altered(s, 500, ledger, ends, book, days::start(ends, 500));
+    altered(s, 1000, ledger, ends, book, days::start(ends, 1000) + 56);
+}
+
+fn lines_on(s: Setup, ledger: &mut [u8], ends: &[u32]) {
+    let mut book = [0u8; 67584];
+    lines::sealed(s, ledger, ends, &mut book, values(s.scheme));
+    checks(s, ledger, ends, &book);
 }
 
 fn layout(scheme: u32, f: u32) {
     let mut ledger = [0u8; 66000];
     let mut ends = [0u32; 1000];
-    let mut book = [0u8; 67584];
     days::put_all(&mut ledger, &mut ends);
-    lines::sealed(
-        Setup::new(scheme, 8, f, 1000),
-        &ledger,
-        &ends,
-        &mut book,
-        values(scheme),
-    );
-    checks(scheme, f, &mut ledger, &ends, &book);
+    lines_on(Setup::new(scheme, 8, f, 1000), &mut ledger, &ends);
 }
 
 pub fn run() {

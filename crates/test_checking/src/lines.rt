@@ -7,19 +7,18 @@ ghost use lib.ListN.{length};
 
 pub fn head(scheme: u32, name: &[u8], number: u32) {
     print::number(scheme);
-    io::write_all(1, b" ");
+    print::byte(b' ');
     io::write_all(1, name);
-    io::write_all(1, b" ");
+    print::byte(b' ');
     print::number(number);
-    io::write_all(1, b" ");
+    print::byte(b' ');
 }
 
 // Seals a book of k values, and writes its line, with the SHA-256 of the book.
 pub fn sealed(s: Setup, ledger: &[u8], ends: &[u32], book: &mut [u8], k: usize)
     requires { ⌜ 32 * k ≤ length (now book) ⌝ }
 {
-    let number = calls::seal(s, ledger, ends, book);
-    head(s.scheme, b"sealed", number);
+    head(s.scheme, b"sealed", calls::seal(s, ledger, ends, book));
     let n = 32 * k;
     print::digest_line(&book[0..n]);
 }

@@ -4,14 +4,11 @@ mod check_cases;
 mod check_refusals;
 mod check_thousand;
 mod lines;
-mod one_cause;
 mod round_trip;
-mod two_causes;
 
 fn main() {
     round_trip::run();
     check_cases::run();
-    one_cause::run();
-    two_causes::run();
+    check_refusals::run();
     check_thousand::run();
 }

@@ -50,3 +50,9 @@ pub fn check(
 ) -> u32 {
     check_number(checking::check(s.scheme, s.n, s.f, s.d, ledger, ends, book, work, outcomes))
 }
+
+// Checks up to a thousand days.
+pub fn check_days(s: Setup, ledger: &[u8], ends: &[u32], book: &[u8], outcomes: &mut [u8]) -> u32 {
+    let mut work = [0u8; 32000];
+    check(s, ledger, ends, book, &mut work, outcomes)
+}

@@ -1,8 +1,10 @@
-// What the test programs share: days and ledgers of them, made-up records, calls answered by number, lines of output.
+// What the test programs share: days and ledgers of them, made-up records, calls answered by number, cases from standard input,
+// lines of output.
 pub mod answers;
 pub mod buffers;
 pub mod calls;
 pub mod days;
+pub mod input;
 pub mod print;
 pub mod records;
 

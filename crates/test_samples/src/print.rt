@@ -17,12 +17,17 @@ pub fn number(x: u32) {
     io::print_decimal(1, x as u64);
 }
 
-// The numbers, with between between them.
-pub fn numbers(s: &[u32], between: &[u8]) {
+pub fn byte(b: u8) {
+    let s = [b];
+    io::write_all(1, &s);
+}
+
+// The numbers, with a byte between them.
+pub fn numbers(s: &[u32], between: u8) {
     let mut i = 0;
     while i < s.len() {
         if 0 < i {
-            io::write_all(1, between);
+            byte(between);
         }
         number(s[i]);
         i += 1;
@@ -36,21 +41,17 @@ pub fn digest(s: &[u8]) {
     hex(&h, 2);
 }
 
-pub fn line_end() {
-    io::write_all(1, b"\n");
-}
-
 pub fn hex_line(s: &[u8]) {
     hex(s, 2);
-    line_end();
+    byte(b'\n');
 }
 
 pub fn number_line(x: u32) {
     number(x);
-    line_end();
+    byte(b'\n');
 }
 
 pub fn digest_line(s: &[u8]) {
     digest(s);
-    line_end();
+    byte(b'\n');
 }

@@ -10,25 +10,7 @@ Inv-loop len₀ len = len ≤ 201
 abbrev μ-loop : tie.MeasureT-loop
 μ-loop len₀ len = 201 - len
 
-loop-holds : tie.Need-loop-holds Inv-loop μ-loop
-loop-holds c = search needs
-
-line-requires : tie.Need-line-requires Inv-loop μ-loop
-line-requires c κs = search needs
-
-add-len : tie.Need-add-len Inv-loop μ-loop
-add-len c = search needs
-
-loop-less : tie.Need-loop-less Inv-loop μ-loop
-loop-less c = search needs
-
-loop-again : tie.Need-loop-again Inv-loop μ-loop
-loop-again c = search needs
-
-returns : tie.Need-returns Inv-loop μ-loop
-returns c = search needs
-
 pub lengths-spec : {M : Type 1} → statement M
 lengths-spec =
     tie.close
-    (tie.spec Inv-loop μ-loop loop-holds line-requires add-len loop-less loop-again returns)
+    (tie.spec Inv-loop μ-loop (λ c. search needs) (λ c. λ κs. search needs) (λ c. search needs) (λ c. search needs) (λ c. search needs) (λ c. search needs))

@@ -6,55 +6,10 @@ use Rattle.test_checking.proofs.check_cases.build.Statement.{statement}
 use Rattle.test_checking.proofs.check_cases.build.Tie as tie
 
 abbrev Inv-loop : tie.InvT-loop
-Inv-loop ledger₀ ends₀ order sizes at₀ i₀ ledger ends at i = (i ≤ 16) × (at ≤ length ledger) × (length ledger ≡ length ledger₀) × (length ends ≡ length ends₀)
+Inv-loop ledger₀ ends₀ sample at₀ i₀ ledger ends at i = (i ≤ 16) × (at ≤ length ledger) × (length ledger ≡ length ledger₀) × (length ends ≡ length ends₀)
 
 abbrev μ-loop : tie.MeasureT-loop
-μ-loop ledger₀ ends₀ order sizes at₀ i₀ ledger ends at i = 16 - i
-
-loop-holds : tie.Need-loop-holds Inv-loop μ-loop
-loop-holds c = search needs
-
-mul-put : tie.Need-mul-put Inv-loop μ-loop
-mul-put c = search needs
-
-array-read-put : tie.Need-array-read-put Inv-loop μ-loop
-array-read-put c = search needs
-
-mul-put-2 : tie.Need-mul-put-2 Inv-loop μ-loop
-mul-put-2 c = search needs
-
-array-read-put-2 : tie.Need-array-read-put-2 Inv-loop μ-loop
-array-read-put-2 c = search needs
-
-put-requires : tie.Need-put-requires Inv-loop μ-loop
-put-requires c κs = search needs
-
-as-u32-requires : tie.Need-as-u32-requires Inv-loop μ-loop
-as-u32-requires c κs = search needs
-
-mul-ends : tie.Need-mul-ends Inv-loop μ-loop
-mul-ends c = search needs
-
-slice-write-ends : tie.Need-slice-write-ends Inv-loop μ-loop
-slice-write-ends c = search needs
-
-add-i : tie.Need-add-i Inv-loop μ-loop
-add-i c = search needs
-
-loop-less : tie.Need-loop-less Inv-loop μ-loop
-loop-less c = search needs
-
-loop-again : tie.Need-loop-again Inv-loop μ-loop
-loop-again c = search needs
-
-same-length : tie.Need-same-length Inv-loop μ-loop
-same-length c = search needs
-
-same-length-2 : tie.Need-same-length-2 Inv-loop μ-loop
-same-length-2 c = search needs
-
-returns : tie.Need-returns Inv-loop μ-loop
-returns c = search needs
+μ-loop ledger₀ ends₀ sample at₀ i₀ ledger ends at i = 16 - i
 
 pub build-spec : {M : Type 1} → statement M
 build-spec =
@@ -62,18 +17,16 @@ build-spec =
     (tie.spec
     Inv-loop
     μ-loop
-    loop-holds
-    mul-put
-    array-read-put
-    mul-put-2
-    array-read-put-2
-    put-requires
-    as-u32-requires
-    mul-ends
-    slice-write-ends
-    add-i
-    loop-less
-    loop-again
-    same-length
-    same-length-2
-    returns)
+    (λ c. search needs)
+    (λ c. search needs)
+    (λ c. search needs)
+    (λ c. λ κs. search needs)
+    (λ c. λ κs. search needs)
+    (λ c. search needs)
+    (λ c. search needs)
+    (λ c. search needs)
+    (λ c. search needs)
+    (λ c. search needs)
+    (λ c. search needs)
+    (λ c. search needs)
+    (λ c. search needs))
