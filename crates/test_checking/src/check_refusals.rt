@@ -1,7 +1,7 @@
-// Every refusal of sealing and of checking, and every pair of causes at once. Standard input has a line for each: scheme, N, F, D;
-// the ends lent, an index and the end put there; the lengths of ledger, book, work and outcomes. The line is written again with,
-// for each call, its name, its answer's number, 0 for done, and the place from which on each buffer that it may write is as it
-// was. reference/check_refusals.py writes both.
+// Every refusal of sealing and of checking, and every pair of causes at once. Standard input has a line for each:
+// scheme, N, F, D; the ends lent, an index and the end put there; the lengths of ledger, book, work and outcomes. The
+// line is written again with, for each call, its name, its answer's number, 0 for done, and the place from which on
+// each buffer that it may write is as it was. reference/check_refusals.py writes both.
 use test_samples::as_u32;
 use test_samples::buffers;
 use test_samples::calls;

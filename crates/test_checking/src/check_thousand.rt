@@ -1,7 +1,7 @@
-// A thousand days are sealed under each layout, then checked unaltered and with one bit altered in day 1, in day 500 and in day
-// 1000. A line is the scheme, the day altered or 0, the answer's number, the failing values and the SHA-256 of the outcomes; of
-// the sealing it is the scheme, 'sealed', the answer's number and the SHA-256 of the book. reference/check_thousand.py writes
-// what the lines must be.
+// A thousand days are sealed under each layout, then checked unaltered and with one bit altered in day 1, in day 500
+// and in day 1000. A line is the scheme, the day altered or 0, the answer's number, the failing values and the
+// SHA-256 of the outcomes; of the sealing it is the scheme, 'sealed', the answer's number and the SHA-256 of the
+// book. reference/check_thousand.py writes what the lines must be.
 use crate::lines;
 use test_samples::as_u32;
 use test_samples::buffers;

@@ -1,6 +1,6 @@
-// Seal, alter, check and read, under each layout: the figures of the source paper by real hashes, and a thousand days with one
-// change and with three. A line has the form of readtable's reference line, the next the listed days. reference/round_trip.py
-// writes what the lines must be.
+// Seal, alter, check and read, under each layout: the figures of the source paper by real hashes, and a thousand days
+// with one change and with three. A line has the form of readtable's reference line, the next the listed days.
+// reference/round_trip.py writes what the lines must be.
 use reading::Reading;
 use test_samples::buffers;
 use test_samples::calls;

@@ -1,5 +1,5 @@
-// What the test programs share: days and ledgers of them, made-up records, calls answered by number, cases from standard input,
-// lines of output.
+// What the test programs share: days and ledgers of them, made-up records, calls answered by number, cases from
+// standard input, lines of output.
 pub mod answers;
 pub mod buffers;
 pub mod calls;

@@ -1,5 +1,5 @@
-// The close of day 65,536 of a made-up record, for each scheme and N 1, 8, 256. Writes, a line each: the number of values (or
-// 'NO,' and the refusal), the SHA-256 of what was written, the answers of one more add and one more close.
+// The close of day 65,536 of a made-up record, for each scheme and N 1, 8, 256. Writes, a line each: the number of
+// values (or 'NO,' and the refusal), the SHA-256 of what was written, the answers of one more add and one more close.
 // reference/last_day.py writes what they must be.
 use service::Record;
 use service::Writing;

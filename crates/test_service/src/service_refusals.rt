@@ -1,7 +1,8 @@
-// Every refusal of open, add and close, and every pair of causes at once in each call. Standard input has a line for each call:
-// its name and the numbers handed to it, which are scheme, N, F; for add and close also a record's days and bytes, and the
-// length of the piece or the part. The line is written again with the answer's number, 0 for done; 'changed' stands before that
-// number where the record or the part that comes back is not the one due. reference/service_refusals.py writes both.
+// Every refusal of open, add and close, and every pair of causes at once in each call. Standard input has a line for
+// each call: its name and the numbers handed to it, which are scheme, N, F; for add and close also a record's days
+// and bytes, and the length of the piece or the part. The line is written again with the answer's number, 0 for done;
+// 'changed' stands before that number where the record or the part that comes back is not the one due.
+// reference/service_refusals.py writes both.
 use crate::compare;
 use service::Record;
 use test_samples::answers;
@@ -42,8 +43,8 @@ fn add_piece(state: Record, piece: &[u8]) {
     print_answer(0, compare::grown(state, next, piece.len()));
 }
 
-// Whether what comes back of a close is due: the record and the part as they were, or the next day's record and the rest of
-// the part.
+// Whether what comes back of a close is due: the record and the part as they were, or the next day's record and the
+// rest of the part.
 fn due(number: u32, k: u32, state: Record, next: Record, part: &[u8]) -> bool {
     let kept = buffers::kept(part);
     if number != 0 {

@@ -1,6 +1,7 @@
-// Books of sixteen days whose lengths meet the block bounds, each sealed in four cuttings of its days: whole, byte by byte, in
-// pieces of 7, in pieces of 64 with an empty piece after each. Writes for each scheme the number of values and the SHA-256 of
-// the book, and 'differs' for a cutting with another book. reference/short_ledgers.py writes what they must be.
+// Books of sixteen days whose lengths meet the block bounds, each sealed in four cuttings of its days: whole, byte by
+// byte, in pieces of 7, in pieces of 64 with an empty piece after each. Writes for each scheme the number of values
+// and the SHA-256 of the book, and 'differs' for a cutting with another book. reference/short_ledgers.py writes what
+// they must be.
 use crate::books;
 use crate::books::Ledger;
 use test_samples::as_u32;

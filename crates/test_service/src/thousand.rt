@@ -1,5 +1,5 @@
-// The book of a thousand days under each of the three layouts. Writes, a line each: the number of values, the SHA-256 of the
-// book, its first, middle and last value. reference/thousand.py writes what they must be.
+// The book of a thousand days under each of the three layouts. Writes, a line each: the number of values, the SHA-256
+// of the book, its first, middle and last value. reference/thousand.py writes what they must be.
 use crate::books;
 use crate::books::Ledger;
 use test_samples::as_u32;

@@ -1,5 +1,6 @@
-// Writes digests, one to a line: of the standard's example messages, of a million bytes, of a message of each length from 0
-// to 200 in two cuttings and after a first byte, and of links of words. reference/vectors.py writes what they must be.
+// Writes digests, one to a line: of the standard's example messages, of a million bytes, of a message of each length
+// from 0 to 200 in two cuttings and after a first byte, and of links of words. reference/vectors.py writes what they
+// must be.
 ghost use Prim.Native.Nat.{_≤_, _<_};
 ghost use lib.ListN.{length};
 
@@ -114,18 +115,24 @@ fn links() {
     }
 }
 
-fn main() {
+// The example message of 896 bits.
+fn longest() -> [u8; 112] {
+    *b"abcdefghbcdefghicdefghijdefghijkefghijklfghijklmghijklmnhijklmnoijklmnopjklmnopqklmnopqrlmnopqrsmnopqrstnopqrstu"
+}
+
+// The standard's example messages.
+fn examples() {
     print(fed(b"", 7));
     print(fed(b"abc", 7));
-    print(fed(
-        b"abcdbcdecdefdefgefghfghighijhijkijkljklmklmnlmnomnopnopq",
-        7,
-    ));
-    print(fed(
-        b"abcdefghbcdefghicdefghijdefghijkefghijklfghijklmghijklmnhijklmnoijklmnopjklmnopqklmnopqrlmnopqrsmnopqrstnopqrstu",
-        7,
-    ));
+    let m = b"abcdbcdecdefdefgefghfghighijhijkijkljklmklmnlmnomnopnopq";
+    print(fed(m, 7));
+    let n = longest();
+    print(fed(&n, 7));
     print(million());
+}
+
+fn main() {
+    examples();
     lengths();
     links();
 }

@@ -1,5 +1,5 @@
-// Writes what table_text says to many texts, each after its name. Standard input has the names and texts, with a '#' after each;
-// reference/table_text_cases.py writes it, and what is to be written.
+// Writes what table_text says to many texts, each after its name. Standard input has the names and texts, with a '#'
+// after each; reference/table_text_cases.py writes it, and what is to be written.
 ghost use mathlib.Core.Path.{_≡_};
 ghost use Prim.Native.Nat.{_+_, _≤_, min};
 ghost use lib.ListN.{length};

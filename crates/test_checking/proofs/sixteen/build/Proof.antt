@@ -2,8 +2,8 @@ use Prim.Native.Nat.{_≤_, _-_}
 use mathlib.Core.Path.{_≡_}
 use lib.ListN.{length}
 use borrow.Author.Needs.{needs}
-use Rattle.test_checking.proofs.check_cases.build.Statement.{statement}
-use Rattle.test_checking.proofs.check_cases.build.Tie as tie
+use Rattle.test_checking.proofs.sixteen.build.Statement.{statement}
+use Rattle.test_checking.proofs.sixteen.build.Tie as tie
 
 abbrev Inv-loop : tie.InvT-loop
 Inv-loop ledger₀ ends₀ sample at₀ i₀ ledger ends at i = (i ≤ 16) × (at ≤ length ledger) × (length ledger ≡ length ledger₀) × (length ends ≡ length ends₀)
