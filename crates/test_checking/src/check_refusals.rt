@@ -43,12 +43,13 @@ fn setup(c: [u32; 11]) -> Setup {
     Setup::new(c[0], c[1], c[2], c[3])
 }
 
+// Writes the place from which on the buffer is as it was.
 fn print_kept(s: &[u8]) {
     print::byte(b' ');
     print::number(as_u32(buffers::kept(s)));
 }
 
-fn seal_in(s: Setup, ledger: &[u8], ends: &[u32], book: &mut [u8]) {
+fn print_seal(s: Setup, ledger: &[u8], ends: &[u32], book: &mut [u8]) {
     print::number(calls::seal(s, ledger, ends, book));
     print_kept(book);
 }
@@ -57,10 +58,10 @@ fn seal(c: [u32; 11], ledger: &[u8], ends: &[u32]) {
     let mut book = [170u8; 1100];
     let room = at_most(c[8], 1100);
     io::write_all(1, b": seal ");
-    seal_in(setup(c), ledger, ends, &mut book[0..room]);
+    print_seal(setup(c), ledger, ends, &mut book[0..room]);
 }
 
-fn check_in(
+fn print_check(
     s: Setup,
     ledger: &[u8],
     ends: &[u32],
@@ -81,7 +82,7 @@ fn check(c: [u32; 11], ledger: &[u8], ends: &[u32]) {
     let length = at_most(c[9], 600);
     let places = at_most(c[10], 40);
     io::write_all(1, b" check ");
-    check_in(
+    print_check(
         setup(c),
         ledger,
         ends,
@@ -91,7 +92,7 @@ fn check(c: [u32; 11], ledger: &[u8], ends: &[u32]) {
     );
 }
 
-fn calls_of(c: [u32; 11], ledger: &[u8], ends: &[u32]) {
+fn seal_and_check(c: [u32; 11], ledger: &[u8], ends: &[u32]) {
     seal(c, ledger, ends);
     check(c, ledger, ends);
     print::byte(b'\n');
@@ -104,7 +105,7 @@ fn case(line: &[u8]) {
     let ends = ends(c);
     let count = at_most(c[4], 20);
     let size = at_most(c[7], 80);
-    calls_of(c, &ledger[0..size], &ends[0..count]);
+    seal_and_check(c, &ledger[0..size], &ends[0..count]);
 }
 
 fn cases(s: &[u8]) {
@@ -112,7 +113,7 @@ fn cases(s: &[u8]) {
     while at < s.len() {
         let e = bytes::scan::find(s, at, s.len(), b'\n');
         case(&s[at..e]);
-        at = input::past(e, s.len());
+        at = input::after(e, s.len());
     }
 }
 

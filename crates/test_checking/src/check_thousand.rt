@@ -9,9 +9,7 @@ use test_samples::calls;
 use test_samples::calls::Setup;
 use test_samples::days;
 use test_samples::print;
-ghost use mathlib.Core.Path.{_≡_};
 ghost use Prim.Native.Nat.{_≤_};
-ghost use lib.ListN.{length};
 
 // The values of a thousand days at N 8.
 fn values(scheme: u32) -> usize
@@ -76,7 +74,7 @@ fn checks(s: Setup, ledger: &mut [u8], ends: &[u32], book: &[u8]) {
     altered(s, 1000, ledger, ends, book, days::start(ends, 1000) + 56);
 }
 
-fn lines_on(s: Setup, ledger: &mut [u8], ends: &[u32]) {
+fn seal_and_check(s: Setup, ledger: &mut [u8], ends: &[u32]) {
     let mut book = [0u8; 67584];
     lines::sealed(s, ledger, ends, &mut book, values(s.scheme));
     checks(s, ledger, ends, &book);
@@ -86,7 +84,7 @@ fn layout(scheme: u32, f: u32) {
     let mut ledger = [0u8; 66000];
     let mut ends = [0u32; 1000];
     days::put_all(&mut ledger, &mut ends);
-    lines_on(Setup::new(scheme, 8, f, 1000), &mut ledger, &ends);
+    seal_and_check(Setup::new(scheme, 8, f, 1000), &mut ledger, &ends);
 }
 
 pub fn run() {

@@ -60,8 +60,8 @@ fn check(s: Setup, ledger: &[u8], ends: &[u32], book: &[u8]) {
     read(s, &outcomes);
 }
 
-// Seals, alters some days, checks and reads.
-fn trip_on(s: Setup, changed: &[u32], ledger: &mut [u8], ends: &[u32]) {
+// Seals, alters the days, checks and reads.
+fn seal_and_check(s: Setup, changed: &[u32], ledger: &mut [u8], ends: &[u32]) {
     let mut book = [0u8; 67584];
     print::number(calls::seal(s, ledger, ends, &mut book));
     alter(ledger, ends, changed);
@@ -72,7 +72,7 @@ fn trip(s: Setup, changed: &[u32]) {
     let mut ledger = [0u8; 66000];
     let mut ends = [0u32; 1000];
     days::put_all(&mut ledger, &mut ends);
-    trip_on(s, changed, &mut ledger, &ends);
+    seal_and_check(s, changed, &mut ledger, &ends);
 }
 
 // A thousand days: none altered, one, and three.

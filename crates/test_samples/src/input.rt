@@ -13,6 +13,7 @@ fn appended(x: u32, b: u8) -> u32 {
     (((x as u64) * 10 + (b as u64) - 48) % 4294967296) as u32
 }
 
+// The place of the next byte's number, after the byte b in number k.
 fn next(k: usize, b: u8) -> usize
     requires { ⌜ k ≤ 10 ⌝ }
     ensures { λ r. ⌜ r ≤ 10 ⌝ }
@@ -40,7 +41,7 @@ pub fn numbers(line: &[u8]) -> [u32; 11] {
 }
 
 // The place after the line end at at.
-pub fn past(at: usize, len: usize) -> usize
+pub fn after(at: usize, len: usize) -> usize
     requires { ⌜ at ≤ len ⌝ }
     ensures { λ r. ⌜ r ≡ min (at + 1) len ⌝ }
 {
@@ -50,6 +51,7 @@ pub fn past(at: usize, len: usize) -> usize
     len
 }
 
+// x, or most if that is less.
 pub fn at_most(x: u32, most: usize) -> usize
     ensures { λ r. ⌜ r ≤ most ⌝ }
 {

@@ -90,8 +90,9 @@ fn day(state: Record, g: usize, n: usize, piece: usize, gap: bool, part: &mut [u
     service::close(next, part)
 }
 
-// Seals the days, each in pieces of piece bytes, with an empty one after each where gap says so. Lends each close the
-// unwritten rest of the book, and gives its end.
+// Seals the days, each in pieces of piece bytes, with an empty piece after each where gap says so. A piece longer
+// than every day leaves the days whole. Lends each close the unwritten rest of the book, and gives the end of what is
+// written.
 pub fn seal(
     scheme: u32,
     n: u32,

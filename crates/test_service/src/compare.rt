@@ -1,4 +1,4 @@
-// Records compared, by their bytes.
+// Records compared, by their bytes: the open day's hash at 20, the running hashes at 52, the open day's block at 628.
 use service::Record;
 use test_samples::records;
 ghost use Prim.Native.Nat.{_≤_};

@@ -95,7 +95,7 @@ fn cases(s: &[u8]) {
     while at < s.len() {
         let e = bytes::scan::find(s, at, s.len(), b'\n');
         case(&s[at..e]);
-        at = input::past(e, s.len());
+        at = input::after(e, s.len());
     }
 }
 

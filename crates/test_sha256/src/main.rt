@@ -2,7 +2,6 @@
 // from 0 to 200 in two cuttings and after a first byte, and of links of words. reference/vectors.py writes what they
 // must be.
 ghost use Prim.Native.Nat.{_≤_, _<_};
-ghost use lib.ListN.{length};
 
 fn wide(x: u32) -> u64 {
     x as u64
