@@ -1,4 +1,6 @@
-"""Expected output: the refusals of sealing and of checking.
+"""The refusals of sealing and of checking: cases and expected output.
+
+Usage: check_refusals.py [stdin]
 
 A line is the numbers handed to both calls, then for each call its name, the
 number of its answer (0 for done), and for each buffer that it may write the
@@ -9,8 +11,11 @@ The numbers are scheme, N, F, D, the count of ends lent, an index and the
 end put there, the lengths of ledger, book, work and outcomes; seal has no
 use for the last two.  The ends are 4, 8, 12 and so on; the ledger's bytes
 are 98, those of the other buffers 170.  Every cause stands alone and with
-each other one.
+each other one.  With `stdin` a line has the numbers only: what
+crates/test_checking reads.
 """
+
+import sys
 
 import daybook
 
@@ -136,4 +141,6 @@ def lines():
 
 
 if __name__ == "__main__":
-    print("\n".join(lines()))
+    given = sys.argv[1:] == ["stdin"]
+    for text in lines():
+        print(text.split(":")[0] if given else text)

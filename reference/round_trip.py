@@ -1,4 +1,4 @@
-"""What the program round_trip must print: seal, alter, check and read under each layout."""
+"""Expected output: seal, alter, check and read under each layout."""
 
 import daybook
 from pattern import day_bytes

@@ -1,12 +1,16 @@
-"""Expected output: the refusals of open, add and close.
+"""The refusals of open, add and close: cases and expected output.
+
+Usage: service_refusals.py [stdin]
 
 Prints a line for each call: its name, the numbers handed to it and the
 number of its answer, 0 for done.  The numbers are scheme, N and F for open;
 scheme, N, F, days closed, bytes in the open day and the length of the piece
 (of the part lent) for add (close).  Every cause and every pair of causes is
-there.  A refused call must give back what it was handed.
+there.  A refused call must give back what it was handed.  With `stdin` the
+line ends before the answer: what crates/test_service reads.
 """
 
+import sys
 from dataclasses import replace
 
 import daybook
@@ -125,4 +129,6 @@ def lines():
 
 
 if __name__ == "__main__":
-    print("\n".join(lines()))
+    given = sys.argv[1:] == ["stdin"]
+    for text in lines():
+        print(text.split(":")[0] if given else text)

@@ -1,4 +1,4 @@
-"""The cases of crates/table_text_cases. `stdin` gives their names and texts with a '#' after each, `stdout` for each its name and
+"""The cases of crates/test_table_text. `stdin` gives their names and texts with a '#' after each, `stdout` for each its name and
 what readtable prints. The files of these names in the crate hold the output."""
 import sys
 from daybook import chains, readtable

@@ -1,4 +1,4 @@
-"""What crates/sha256_vectors must write: the same digests by hashlib. crates/sha256_vectors/stdout holds the output."""
+"""What crates/test_sha256 must write: the same digests by hashlib. crates/test_sha256/stdout holds the output."""
 from hashlib import sha256
 from struct import pack
 
