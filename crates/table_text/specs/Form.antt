@@ -1,14 +1,9 @@
--- 01's form by its parts. Definitions only; the laws `formed-laid` and `laid-formed`: a text is formed exactly if it is laid out so.
+-- 01's form by its parts. Definitions only; the laws `formed-laid` and `laid-formed`: a text is formed exactly if it is
+-- laid out so.
 use mathlib.Core.Path.{_≡_}
-use mathlib.Core.Bool.{true}
 use mathlib.Core.List.{List, [], _∷_, _++_}
 use Prim.Native.Nat.{ℕ}
-use Rattle.table_text.specs.Text.{comma, lineFeed, digits, isNumber}
-
--- a field: digits only, 1 to 5 of them, no leading zeros
-pub record Number (ds : List ℕ) : Type 0 where
-  pub only-digits : digits ds ≡ ds
-  pub shaped : isNumber ds ≡ true
+use Rattle.number_text.specs.Numbers.{comma, lineFeed, digits, Number}
 
 -- `scheme,N,F,D`, a line feed, the outcomes, a line feed
 pub record Laid (s scheme n f d outcomes : List ℕ) : Type 0 where
@@ -17,4 +12,5 @@ pub record Laid (s scheme n f d outcomes : List ℕ) : Type 0 where
   pub f-ok : Number f
   pub d-ok : Number d
   pub outcomes-ok : digits outcomes ≡ outcomes
-  pub text : s ≡ scheme ++ (comma ∷ (n ++ (comma ∷ (f ++ (comma ∷ (d ++ (lineFeed ∷ (outcomes ++ (lineFeed ∷ [])))))))))
+  pub text :
+      s ≡ scheme ++ (comma ∷ (n ++ (comma ∷ (f ++ (comma ∷ (d ++ (lineFeed ∷ (outcomes ++ (lineFeed ∷ [])))))))))
