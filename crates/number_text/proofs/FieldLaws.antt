@@ -90,7 +90,7 @@ number-more ds z h n = rw (le-leb 1 (length ds) (some (length ds) z), le-leb (le
     some zero f = absurd (f refl)
     some (suc k) f = omega arith
 
-number-snoc : (v : ℕ) (ds : List ℕ) (b : ℕ) → numberFrom v (ds ++ (b ∷ [])) ≡ 10 * numberFrom v ds + digitOf b
+pub number-snoc : (v : ℕ) (ds : List ℕ) (b : ℕ) → numberFrom v (ds ++ (b ∷ [])) ≡ 10 * numberFrom v ds + digitOf b
 number-snoc v [] b = refl
 number-snoc v (x ∷ ds) b = number-snoc (10 * v + digitOf x) ds b
 
@@ -156,7 +156,7 @@ field-is s at mark {end} {r} {x} {n} {m} {b} e f g h k l =
 
 -- ---- a field that is laid out
 
-first-digit : (b : ℕ) (ds : List ℕ) → digits (b ∷ ds) ≡ b ∷ ds → (isDigit b ≡ true) × (digits ds ≡ ds)
+pub first-digit : (b : ℕ) (ds : List ℕ) → digits (b ∷ ds) ≡ b ∷ ds → (isDigit b ≡ true) × (digits ds ≡ ds)
 first-digit b ds e = go (isDigit b) refl e
   where
     go : (x : Bool) → isDigit b ≡ x → cond x (b ∷ digits ds) [] ≡ b ∷ ds → (isDigit b ≡ true) × (digits ds ≡ ds)
