@@ -63,8 +63,8 @@ module _ (s n f d : ℕ) (t l : List ℕ) (G : Given s n f d t (length l)) where
     pub list-read : m ≡ listing (chains s n d) d t ++ drop (length (listing (chains s n d) d t)) l
     list-read = wrote .list ∙ ap (λ (i : ℕ). listing (chains s n d) d t ++ drop i l) count-is
 
-    pub few-listed : k ≤ 65536
-    few-listed =
+    pub listed-most : k ≤ 65536
+    listed-most =
         let a = keep-length (isListed s n t) (days d) in
         let b = length-upFrom 1 d in
         omega (arith, w .count, G .table .most)

@@ -40,7 +40,7 @@ by-days zero n f d good [] z e = absurd (true-or-false refl e)
 by-days zero n f d good (g ∷ gs) z e = omega arith
 by-days (suc r) n f d good F z e = absurd (omega arith)
 
-count-found : (n f d good : ℕ) (F : List ℕ) → found n f d F good .listed ≡ length F
+pub count-found : (n f d good : ℕ) (F : List ℕ) → found n f d F good .listed ≡ length F
 unfolding found
 count-found n f d good [] = refl
 count-found n f d good (g ∷ gs) = refl

@@ -1,5 +1,5 @@
-pub mod Fields
-pub mod Forms
+pub mod InputLaws
+pub mod FormLaws
+pub mod LineLaws
+pub mod TextLaws
 pub mod Examples
-pub mod Lines
-pub mod Answers

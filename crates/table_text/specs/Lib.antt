@@ -1,3 +1,3 @@
 pub mod Text
-pub mod Form
 pub mod Private
+pub mod Statements

@@ -1,20 +1,14 @@
--- What the private contracts say: a field and a text as they are read by places. Definitions only.
+-- What the private contracts say: a text as it is read by places, what reading said. Definitions only.
 use mathlib.Core.Path.{_≡_}
-use mathlib.Core.List.{List}
+use mathlib.Core.List.{List, [], _∷_}
 use Prim.Native.Nat.{ℕ, _-_, _≤_}
 use lib.ListN.{length, take, drop}
-use Rattle.reading.specs.Contract as answer
-use Rattle.table_text.specs.Text.{digits, isField, valueIn, afterField, isFormed, schemeIn, nIn, fIn, dIn, lastLine}
-use Rattle.table_text.specs.declared.Field.{Field}
+use Rattle.refusals.specs.Refusals.{firstRefusal}
+use Rattle.reading.specs.Contract as reading
+use Rattle.number_text.specs.Numbers.{digits}
+use Rattle.table_text.specs.Text.{isFormed, schemeIn, nIn, fIn, dIn, lastLine, answerTests, tableLines, printed}
 use Rattle.table_text.specs.declared.Typed.{Typed}
 use Rattle.table_text.specs.declared.Report.{Report}
-
--- the field of s at a place
-pub record FieldAt (s : List ℕ) (at mark : ℕ) (r : Field) : Type 0 where
-  pub ok-is : r .ok ≡ isField mark (drop at s)
-  pub value-is : r .value ≡ valueIn (drop at s)
-  pub rest-is : drop (r .next) s ≡ afterField (drop at s)
-  pub within : r .next ≤ length s
 
 -- the text s; the outcomes stand from at to before end
 pub record TypedIs (s : List ℕ) (r : Typed) : Type 0 where
@@ -27,11 +21,20 @@ pub record TypedIs (s : List ℕ) (r : Typed) : Type 0 where
   pub ordered : r .at ≤ r .end
   pub within : r .end ≤ length s
 
--- the numbers of an answer
-pub record SaidIs (x : answer.Report) (r : Report) : Type 0 where
+-- what reading said; whether it is clean is not printed
+pub record ReportIs (x : reading.Report) (r : Report) : Type 0 where
   pub refusal-is : r .refusal ≡ x .refusal
   pub listed-is : r .listed ≡ x .listed
   pub first-is : r .first ≡ x .first
   pub low-is : r .low ≡ x .low
   pub high-is : r .high ≡ x .high
-  pub good-is : r .last_good ≡ x .last_good
+  pub last-good-is : r .«last_good» ≡ x .last-good
+
+-- the numbers of the line REF
+abbrev pub numbersIn : ℕ → Report → List ℕ
+numbersIn scheme r = scheme ∷ r .listed ∷ r .first ∷ r .low ∷ r .high ∷ r .«last_good» ∷ []
+
+-- what is printed of a text that is formed
+unfoldable pub answered : ℕ → ℕ → ℕ → ℕ → List ℕ → List ℕ
+answered scheme n f d outcomes =
+    printed (firstRefusal (answerTests scheme n f d outcomes)) (tableLines scheme n f d outcomes)

@@ -1,4 +1,4 @@
-use Rattle.reading.proofs.Report.{listed-needs, list-read, few-listed, report-clean, first-place, numbers-need, report-changed}
+use Rattle.reading.proofs.Report.{listed-needs, list-read, listed-most, report-clean, first-place, numbers-need, report-changed}
 use borrow.Author.Needs.{needs}
 use Rattle.reading.proofs.read_table.Statement.{statement}
 use Rattle.reading.proofs.read_table.Tie as tie
@@ -19,7 +19,7 @@ slice-read-first : tie.Need-slice-read-first
 slice-read-first c = first-place _ _ _ _ _ _ (c .before .before .before .before .before .before .before .before .pre) _ _ (c .before .before .before .before .listed .ensures) (c .before .before .before .before .listed .kept .1 .1 .1 .1 .0)
 
 narrow-requires : tie.Need-narrow-requires
-narrow-requires c κs = few-listed _ _ _ _ _ _ (c .before .before .before .before .before .before .before .before .pre) _ _ (c .before .before .before .before .listed .ensures)
+narrow-requires c κs = listed-most _ _ _ _ _ _ (c .before .before .before .before .before .before .before .before .pre) _ _ (c .before .before .before .before .listed .ensures)
 
 changed-requires : tie.Need-changed-requires
 changed-requires c κs = numbers-need _ _ _ _ _ _ (c .before .before .before .before .before .before .before .before .before .pre) _ _ (c .before .before .before .before .before .listed .ensures) (c .before .before .if1 .left)

@@ -1,4 +1,4 @@
-use Rattle.table_text.proofs.Answers.{text-fits, text-part}
+use Rattle.table_text.proofs.TextLaws.{text-fits, text-part}
 use borrow.Author.Needs.{needs}
 use Rattle.readtable.proofs.main.Statement.{statement}
 use Rattle.readtable.proofs.main.Tie as tie

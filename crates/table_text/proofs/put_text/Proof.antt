@@ -1,6 +1,6 @@
 use native.Mathlib.Omega.{arith}
-use Rattle.table_text.proofs.Answers.{text-early, days-few, count-fits, digits-fit, outcomes-length, text-read}
 use Rattle.buffers.proofs.Writes.{wrote-as}
+use Rattle.table_text.proofs.TextLaws.{text-early, d-within, count-fits, digits-fit, outcomes-length, text-read}
 use borrow.Author.Needs.{needs}
 use Rattle.table_text.proofs.put_text.Statement.{statement}
 use Rattle.table_text.proofs.put_text.Tie as tie
@@ -45,7 +45,7 @@ slice-aggregate-answer : tie.Need-slice-aggregate-answer
 slice-aggregate-answer c = outcomes-length _ (c .before .before .before .before .before .before .before .read-lines .ensures) (c .before .before .before .before .before .before .form-refusal .ensures) (c .before .before .before .before .before .if1 .left) _ _ (c .before .before .outcomes .ensures)
 
 answer-requires : tie.Need-answer-requires
-answer-requires c κs = (days-few (c .before .before .before .before .before .before .before .before .before .before .before .args .input .now) (c .before .before .before .before .before .before .before .before .read-lines .ensures) (c .before .before .before .before .before .before .before .form-refusal .ensures) (c .before .before .before .before .before .before .if1 .left), c .before .before .before .before .before .before .before .before .before .before .before .pre)
+answer-requires c κs = (d-within (c .before .before .before .before .before .before .before .before .before .before .before .args .input .now) (c .before .before .before .before .before .before .before .before .read-lines .ensures) (c .before .before .before .before .before .before .before .form-refusal .ensures) (c .before .before .before .before .before .before .if1 .left), c .before .before .before .before .before .before .before .before .before .before .before .pre)
 
 same-length-2 : tie.Need-same-length-2
 same-length-2 c = search needs

@@ -1,4 +1,4 @@
-use Rattle.table_text.proofs.Answers.{report-clean, report-changed, report-refused}
+use Rattle.table_text.proofs.TextLaws.{report-clean, report-changed, report-refused}
 use borrow.Author.Needs.{needs}
 use Rattle.table_text.proofs.report_by.Statement.{statement}
 use Rattle.table_text.proofs.report_by.Tie as tie

@@ -1,4 +1,4 @@
-use Rattle.table_text.proofs.Answers.{front-count, front-list}
+use Rattle.table_text.proofs.TextLaws.{front-count, front-list}
 use borrow.Author.Needs.{needs}
 use Rattle.table_text.proofs.text.Statement.{statement}
 use Rattle.table_text.proofs.text.Tie as tie

@@ -1,0 +1,58 @@
+use Rattle.number_text.proofs.DecimalLaws.{numbers-none, numbers-room, numbers-next, numbers-all}
+use Rattle.number_text.specs.Numbers.{commaNumbers}
+use Rattle.buffers.specs.Private.{Wrote}
+use borrow.Author.Needs.{needs}
+use lib.ListN.{length, take}
+use mathlib.Core.Path.{_≡_, refl}
+use Prim.Native.Nat.{_-_, _≤_}
+use Rattle.number_text.proofs.decimal.put_numbers.Statement.{statement}
+use Rattle.number_text.proofs.decimal.put_numbers.Tie as tie
+
+abbrev Inv-loop : tie.InvT-loop
+Inv-loop out₀ at numbers next₀ i₀ out next i = (i ≤ length numbers) × (length out ≡ length out₀) × Wrote at (commaNumbers (take i numbers)) out₀ next out
+
+abbrev μ-loop : tie.MeasureT-loop
+μ-loop out₀ at numbers next₀ i₀ out next i = length numbers - i
+
+loop-holds : tie.Need-loop-holds Inv-loop μ-loop
+loop-holds c = (search needs, refl, numbers-none _ (c .before .before .args .numbers .now) _)
+
+mul-put-number : tie.Need-mul-put-number Inv-loop μ-loop
+mul-put-number c = search needs
+
+shared-slice-read-put-number : tie.Need-shared-slice-read-put-number Inv-loop μ-loop
+shared-slice-read-put-number c = search needs
+
+put-number-requires : tie.Need-put-number-requires Inv-loop μ-loop
+put-number-requires c κs = numbers-room _ _ _ _ _ _ _ (c .before .before .loop-test .taken) (c .before .before .before .before .before .before .pre) (c .before .before .before .loop .inv .1) (c .before .before .before .loop .inv .2)
+
+add-i : tie.Need-add-i Inv-loop μ-loop
+add-i c = search needs
+
+loop-less : tie.Need-loop-less Inv-loop μ-loop
+loop-less c = search needs
+
+loop-again : tie.Need-loop-again Inv-loop μ-loop
+loop-again c = (search needs, search needs, numbers-next _ _ _ _ _ _ _ _ (c .before .before .before .before .before .loop-test .taken) (c .before .before .before .before .before .before .before .before .before .pre) (c .before .before .before .before .before .before .loop .inv .2) (c .before .before .put-number .ensures))
+
+same-length : tie.Need-same-length Inv-loop μ-loop
+same-length c = search needs
+
+returns : tie.Need-returns Inv-loop μ-loop
+returns c = numbers-all (c .before .before .before .before .args .at) (c .before .loop .i) (c .before .loop .next) (c .before .before .before .before .args .numbers .now) (c .before .before .before .before .args .out .now) (c .before .loop .out) (search needs) (c .before .loop .inv .2)
+
+pub put-numbers-spec : {M : Type 1} → statement M
+put-numbers-spec =
+    tie.close
+    (tie.spec
+    Inv-loop
+    μ-loop
+    loop-holds
+    mul-put-number
+    shared-slice-read-put-number
+    put-number-requires
+    add-i
+    loop-less
+    loop-again
+    same-length
+    returns)

@@ -1,0 +1,62 @@
+use native.Mathlib.Omega.{arith}
+use Rattle.number_text.proofs.FieldLaws.{most, number-next, number-fits, number-stays, number-done}
+use Rattle.number_text.specs.Numbers.{numberFrom}
+use borrow.Author.Needs.{needs}
+use lib.ListN.{length, take}
+use mathlib.Core.Path.{_≡_, refl}
+use Prim.Native.Nat.{_+_, _-_, _≤_}
+use Rattle.number_text.proofs.number.Statement.{statement}
+use Rattle.number_text.proofs.number.Tie as tie
+
+abbrev Inv-loop : tie.InvT-loop
+Inv-loop ds v₀ i₀ v i = (i ≤ length ds) × (v + 29 ≤ most i) × (v ≡ numberFrom 0 (take i ds))
+
+abbrev μ-loop : tie.MeasureT-loop
+μ-loop ds v₀ i₀ v i = length ds - i
+
+loop-holds : tie.Need-loop-holds Inv-loop μ-loop
+loop-holds c = (search needs, search needs, refl)
+
+shared-slice-read-digit : tie.Need-shared-slice-read-digit Inv-loop μ-loop
+shared-slice-read-digit c = search needs
+
+digit-requires : tie.Need-digit-requires Inv-loop μ-loop
+digit-requires c κs = search needs
+
+wide-requires : tie.Need-wide-requires Inv-loop μ-loop
+wide-requires c κs = search needs
+
+mul-v : tie.Need-mul-v Inv-loop μ-loop
+mul-v c = record { fits = omega (arith, number-fits (c .before .before .before .before .loop .i) (c .before .before .before .before .loop .v) (length (c .before .before .before .before .before .before .args .ds .now)) (c .before .before .before .before .loop .inv .1) (c .before .before .before .loop-test .taken) (c .before .before .before .before .before .before .pre) (c .wide .ensures .1)) }
+
+add-v : tie.Need-add-v Inv-loop μ-loop
+add-v c = record { fits = number-fits (c .before .before .before .before .loop .i) (c .before .before .before .before .loop .v) (length (c .before .before .before .before .before .before .args .ds .now)) (c .before .before .before .before .loop .inv .1) (c .before .before .before .loop-test .taken) (c .before .before .before .before .before .before .pre) (c .wide .ensures .1) }
+
+add-i : tie.Need-add-i Inv-loop μ-loop
+add-i c = search needs
+
+loop-less : tie.Need-loop-less Inv-loop μ-loop
+loop-less c = search needs
+
+loop-again : tie.Need-loop-again Inv-loop μ-loop
+loop-again c = (search needs, number-stays (c .before .before .before .before .loop .i) (c .before .before .before .before .loop .v) (c .before .before .before .before .loop .inv .1) (c .wide .ensures .1), number-next (c .before .before .before .before .before .before .args .ds .now) (c .before .before .before .before .loop .i) (c .before .before .before .before .loop .v) (c .before .before .before .loop-test .taken) (c .before .before .before .before .loop .inv .2) (c .before .digit .ensures) (c .wide .ensures .0))
+
+returns : tie.Need-returns Inv-loop μ-loop
+returns c = number-done (c .before .before .before .args .ds .now) (c .before .loop .i) (c .before .loop .v) (c .loop-test .left) (c .before .loop .inv .2)
+
+pub number-spec : {M : Type 1} → statement M
+number-spec =
+    tie.close
+    (tie.spec
+    Inv-loop
+    μ-loop
+    loop-holds
+    shared-slice-read-digit
+    digit-requires
+    wide-requires
+    mul-v
+    add-v
+    add-i
+    loop-less
+    loop-again
+    returns)

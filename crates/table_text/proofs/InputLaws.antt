@@ -1,0 +1,104 @@
+-- Laws of the two lines: where they end, their numbers, their outcomes.
+use mathlib.Core.Path.{_≡_, refl, sym, ap, ap₂, _∙_}
+use mathlib.Core.Bool.{Bool, true, false, not, _&&_}
+use mathlib.Core.List.{List, [], _∷_, _++_, map, append-assoc, map-append}
+use Prim.Native.Nat.{ℕ, suc, _+_, _-_, _≤_, _<_}
+use native.Mathlib.Numerals.{add-one}
+use native.Mathlib.Omega.{arith}
+use lib.Dec.{eqb}
+use lib.ListN.{length, getD, set, take, drop, length-drop, length-map, drop-of-length-le}
+use lib.Seq.{take-all, take-suc, drop-cons, drop-drop, length-take-le, set-at}
+use borrow.Author.Tests.{not-true, not-false}
+use Rattle.lists.specs.Lists.{same}
+use Rattle.number_text.specs.Numbers.{digitOf, digits, afterDigits, isField, valueIn, afterField}
+use Rattle.number_text.specs.Private.{FieldAt}
+use Rattle.number_text.specs.declared.Field.{Field}
+use Rattle.number_text.proofs.FieldLaws.{digits-part, digits-within}
+use Rattle.table_text.specs.Text.{isFormed, lastLine}
+use Rattle.table_text.specs.Private.{TypedIs}
+
+-- ---- the end
+
+pub end-not : (s : List ℕ) (at : ℕ) → (length s - at ≡ 1 → ⊥) → false ≡ same (drop at s) (10 ∷ [])
+end-not s at h = go (drop at s) (λ e. h (sym (length-drop at s) ∙ e))
+  where
+    none : (b : Bool) → false ≡ b && false
+    none true = refl
+    none false = refl
+
+    go : (xs : List ℕ) → (length xs ≡ 1 → ⊥) → false ≡ same xs (10 ∷ [])
+    go [] n = refl
+    go (x ∷ []) n = absurd (n refl)
+    go (x ∷ y ∷ xs) n = none (eqb x 10)
+
+pub end-one : (s : List ℕ) (at : ℕ) → length s - at ≡ 1 → eqb (getD s at 0) 10 ≡ same (drop at s) (10 ∷ [])
+end-one s at h =
+    let e : drop at s ≡ getD s at 0 ∷ drop (suc at) s = drop-cons s at 0 (omega arith) in
+    let z : drop (suc at) s ≡ [] = drop-of-length-le s {i = suc at} (omega arith) in
+    sym (rw (e, z) (last (eqb (getD s at 0) 10)))
+  where
+    last : (b : Bool) → b && true ≡ b
+    last true = refl
+    last false = refl
+
+-- ---- the form's five parts
+
+module _ (scheme n f d outcomes : Bool) where
+  pub scheme-fails : not scheme ≡ true → false ≡ scheme && (n && (f && (d && outcomes)))
+  scheme-fails e = rw (not-true scheme e)
+
+  pub n-fails : not scheme ≡ false → not n ≡ true → false ≡ scheme && (n && (f && (d && outcomes)))
+  n-fails a e = rw (not-false scheme a, not-true n e)
+
+  pub f-fails : not scheme ≡ false → not n ≡ false → not f ≡ true → false ≡ scheme && (n && (f && (d && outcomes)))
+  f-fails a b e = rw (not-false scheme a, not-false n b, not-true f e)
+
+  pub d-fails : not scheme ≡ false → not n ≡ false → not f ≡ false → not d ≡ true → false ≡ scheme && (n && (f && (d && outcomes)))
+  d-fails a b c e = rw (not-false scheme a, not-false n b, not-false f c, not-true d e)
+
+  pub line-passes : not scheme ≡ false → not n ≡ false → not f ≡ false → not d ≡ false → outcomes ≡ scheme && (n && (f && (d && outcomes)))
+  line-passes a b c e = rw (not-false scheme a, not-false n b, not-false f c, not-false d e)
+
+-- ---- the two lines
+
+pub typed-is : (s : List ℕ) {a b c e : Field} {end : ℕ} {last ok : Bool} → FieldAt s 0 44 a → FieldAt s (a .next) 44 b → FieldAt s (b .next) 44 c → FieldAt s (c .next) 10 e →
+    end ≡ e .next + length (digits (drop (e .next) s)) → last ≡ same (drop end s) (10 ∷ []) → ok ≡ a .ok && (b .ok && (c .ok && (e .ok && last))) →
+    TypedIs s (record { ok = ok; scheme = a .value; n = b .value; f = c .value; d = e .value; at = e .next; end = end })
+unfolding isFormed afterDigits
+typed-is s {a} {b} {c} {e} {end} {last} A B C E h l t =
+    let u : drop (b .next) s ≡ afterField (afterField s) = B .rest-is ∙ ap afterField (A .rest-is) in
+    let v : drop (c .next) s ≡ afterField (afterField (afterField s)) = C .rest-is ∙ ap afterField u in
+    let w : drop (e .next) s ≡ lastLine s = E .rest-is ∙ ap afterField v in
+    let y : drop end s ≡ drop (length (digits (lastLine s))) (lastLine s) =
+    ap (λ (i : ℕ). drop i s) h ∙ sym (drop-drop (length (digits (drop (e .next) s))) (e .next) s) ∙ ap (λ (i : List ℕ). drop (length (digits i)) i) w in
+    let k = digits-within s (e .next) end (E .within) h in
+    record {
+      ok-is =
+          t ∙
+          ap₂ _&&_ (A .ok-is)
+          (ap₂ _&&_ (B .ok-is ∙ ap (isField 44) (A .rest-is))
+          (ap₂ _&&_ (C .ok-is ∙ ap (isField 44) u) (ap₂ _&&_ (E .ok-is ∙ ap (isField 10) v) (l ∙ ap (λ (i : List ℕ). same i (10 ∷ [])) y))));
+      scheme-is = A .value-is;
+      n-is = B .value-is ∙ ap valueIn (A .rest-is);
+      f-is = C .value-is ∙ ap valueIn u;
+      d-is = E .value-is ∙ ap valueIn v;
+      outcomes-are = digits-part s (e .next) end h ∙ ap digits w;
+      ordered = k .0;
+      within = k .1;
+    }
+
+-- ---- the outcomes
+
+pub outcomes-next : (ds old to : List ℕ) (i : ℕ) {x : ℕ} → i < length ds → length ds ≤ length old → to ≡ map digitOf (take i ds) ++ drop i old → x ≡ digitOf (getD ds i 0) →
+    set to i x ≡ map digitOf (take (i + 1) ds) ++ drop (i + 1) old
+outcomes-next ds old to i {x} l h e f =
+    let t : length (map digitOf (take i ds)) ≡ i = length-map (take i ds) digitOf ∙ length-take-le i ds (omega arith) in
+    let m : map digitOf (take (suc i) ds) ≡ map digitOf (take i ds) ++ (x ∷ []) =
+    ap (map digitOf) (take-suc ds i 0 l) ∙ map-append digitOf (take i ds) (getD ds i 0 ∷ []) ∙ ap (λ (y : ℕ). map digitOf (take i ds) ++ (y ∷ [])) (sym f) in
+    rw (add-one i)
+    (ap (λ (y : List ℕ). set y i x) (e ∙ ap (λ (y : List ℕ). map digitOf (take i ds) ++ y) (drop-cons old i 0 (omega arith))) ∙
+    set-at (map digitOf (take i ds)) (getD old i 0) (drop (suc i) old) x i t ∙ sym (append-assoc (map digitOf (take i ds)) (x ∷ []) (drop (suc i) old)) ∙
+    ap (λ (y : List ℕ). y ++ drop (suc i) old) (sym m))
+
+pub outcomes-done : (ds old to : List ℕ) (i : ℕ) → i ≡ length ds → to ≡ map digitOf (take i ds) ++ drop i old → to ≡ map digitOf ds ++ drop (length ds) old
+outcomes-done ds old to i h e = e ∙ ap₂ (λ (x : List ℕ) (y : ℕ). map digitOf x ++ drop y old) (take-all i ds (omega arith)) h

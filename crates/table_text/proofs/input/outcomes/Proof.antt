@@ -1,0 +1,58 @@
+use Rattle.table_text.proofs.InputLaws.{outcomes-next, outcomes-done}
+use Rattle.number_text.specs.Numbers.{digitOf}
+use borrow.Author.Needs.{needs}
+use lib.ListN.{length, take, drop}
+use mathlib.Core.List.{_++_, map}
+use mathlib.Core.Path.{_≡_, refl}
+use Prim.Native.Nat.{_+_, _-_, _≤_}
+use Rattle.table_text.proofs.input.outcomes.Statement.{statement}
+use Rattle.table_text.proofs.input.outcomes.Tie as tie
+
+abbrev Inv-loop : tie.InvT-loop
+Inv-loop ds to₀ i₀ to i = (i ≤ length ds) × (length to ≡ length to₀) × (to ≡ map digitOf (take i ds) ++ drop i to₀)
+
+abbrev μ-loop : tie.MeasureT-loop
+μ-loop ds to₀ i₀ to i = length ds - i
+
+loop-holds : tie.Need-loop-holds Inv-loop μ-loop
+loop-holds c = (search needs, refl, refl)
+
+shared-slice-read-digit : tie.Need-shared-slice-read-digit Inv-loop μ-loop
+shared-slice-read-digit c = search needs
+
+digit-requires : tie.Need-digit-requires Inv-loop μ-loop
+digit-requires c κs = search needs
+
+slice-write-to : tie.Need-slice-write-to Inv-loop μ-loop
+slice-write-to c = search needs
+
+add-i : tie.Need-add-i Inv-loop μ-loop
+add-i c = search needs
+
+loop-less : tie.Need-loop-less Inv-loop μ-loop
+loop-less c = search needs
+
+loop-again : tie.Need-loop-again Inv-loop μ-loop
+loop-again c = (search needs, search needs, outcomes-next (c .before .before .before .before .before .before .args .ds .now) (c .before .before .before .before .before .before .args .to .now) (c .before .before .before .loop .to) (c .before .before .before .loop .i) (c .before .before .loop-test .taken) (c .before .before .before .before .before .before .pre) (c .before .before .before .loop .inv .2) (c .digit .ensures))
+
+same-length : tie.Need-same-length Inv-loop μ-loop
+same-length c = search needs
+
+returns : tie.Need-returns Inv-loop μ-loop
+returns c = outcomes-done (c .before .before .before .before .args .ds .now) (c .before .before .before .before .args .to .now) (c .before .loop .to) (c .before .loop .i) (search needs) (c .before .loop .inv .2)
+
+pub outcomes-spec : {M : Type 1} → statement M
+outcomes-spec =
+    tie.close
+    (tie.spec
+    Inv-loop
+    μ-loop
+    loop-holds
+    shared-slice-read-digit
+    digit-requires
+    slice-write-to
+    add-i
+    loop-less
+    loop-again
+    same-length
+    returns)
