@@ -1,4 +1,4 @@
-use Rattle.table_text.proofs.Answers.{text-fits, text-part}
+use Rattle.table_text.proofs.TextLaws.{text-fits, text-part}
 use borrow.Author.Needs.{needs}
 use Rattle.test_table_text.proofs.show.Statement.{statement}
 use Rattle.test_table_text.proofs.show.Tie as tie
