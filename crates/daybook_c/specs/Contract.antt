@@ -1,5 +1,5 @@
--- What the calls of the C interface return and leave in the arrays that they are lent, by the calls' own definitions; for a
--- record, by its bytes. A call returns 0, or 01's number of the refusal. Definitions only.
+-- What the calls of the C interface return and leave in the arrays that they are lent, by the calls' own definitions;
+-- for a record, by its bytes. A call returns 0, or 01's number of the refusal. Definitions only.
 use mathlib.Core.List.{List}
 use Prim.Native.Nat.{ℕ}
 use Rattle.refusals.specs.Refusals.{numberOf, unlessRefused}

@@ -98,7 +98,8 @@ pub extern "C" fn daybook_check(
 ) -> u32
     ensures { λ r. ⌜ r ≡ numberOf (checked scheme n f d (now (ledger .entry)) (now (ends .entry)) (now (book .entry))
         (now (work .entry)) (now (outcomes .entry)) .answer) ⌝ }
-    ensures { λ r. ⌜ now (work .exit) ≡ checked scheme n f d (now (ledger .entry)) (now (ends .entry)) (now (book .entry))
+    ensures { λ r. ⌜ now (work .exit) ≡
+        checked scheme n f d (now (ledger .entry)) (now (ends .entry)) (now (book .entry))
         (now (work .entry)) (now (outcomes .entry)) .work ⌝ }
     ensures { λ r. ⌜ now (outcomes .exit) ≡
         checked scheme n f d (now (ledger .entry)) (now (ends .entry)) (now (book .entry))
@@ -121,7 +122,8 @@ pub extern "C" fn daybook_read(
     ensures { λ r. ⌜ r ≡ readout scheme n f d (now (outcomes .entry)) (now (list .entry)) .report .refusal ⌝ }
     ensures { λ r. ⌜ now (list .exit) ≡ readout scheme n f d (now (outcomes .entry)) (now (list .entry)) .list ⌝ }
     ensures { λ r. ⌜ now (numbers .exit) ≡
-        numbersAfter (readout scheme n f d (now (outcomes .entry)) (now (list .entry)) .report) (now (numbers .entry)) ⌝ }
+        numbersAfter (readout scheme n f d (now (outcomes .entry)) (now (list .entry)) .report)
+        (now (numbers .entry)) ⌝ }
 {
     let a = reading::read(scheme, n, f, d, outcomes, list);
     let x = reading::answers::number_of(d, a);
