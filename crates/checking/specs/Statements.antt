@@ -12,7 +12,7 @@ use Rattle.sha256.specs.Sha256.{sha256}
 use Rattle.chains.specs.Book.{start}
 use Rattle.checking.specs.Contract.{checked}
 
--- ---- the outcomes: demand 2's first sentence
+-- ---- the outcomes: demand 2, "a check passes a value exactly when rehashing gives it again" (SPEC 7.5)
 
 -- the book's i-th 32 bytes are the value that rehashing the ledger's days gives
 abbrev pub StandsInBook : ℕ → ℕ → ℕ → List ℕ → List ℕ → List ℕ → ℕ → Type 0
@@ -33,7 +33,7 @@ PassesIfStored =
 
 -- ---- what is read
 
--- only the first d ends, the ledger up to end d and the needed front of the book
+-- only the first d ends, the ledger up to end d and the needed front of the book (SPEC 7.3)
 abbrev pub ReadsOnly : Type 0
 ReadsOnly =
     (scheme n f d : ℕ) (ledger ends book work outcomes : List ℕ) →

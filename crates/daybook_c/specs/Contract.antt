@@ -1,5 +1,5 @@
--- What the calls of the C interface return and leave in the arrays that they are lent, by the calls' own definitions;
--- for a record, by its bytes. A call returns 0, or 01's number of the refusal. Definitions only.
+-- What the calls of the C interface (SPEC 15.3) return and leave in the arrays that they are lent, by the calls' own
+-- definitions; for a record, by its bytes. A call returns 0, or 01's number of the refusal. Definitions only.
 use mathlib.Core.List.{List}
 use Prim.Native.Nat.{ℕ}
 use Rattle.refusals.specs.Refusals.{numberOf, unlessRefused}
@@ -41,6 +41,6 @@ closedBytes state part values =
 unfoldable pub numbersAfter : Report → List ℕ → List ℕ
 numbersAfter report numbers = unlessRefused (report .refusal) (fiveNumbers report) numbers
 
--- 01's number of values for d days
+-- 01's number of values for d days (SPEC 4.12)
 unfoldable pub valuesAfter : ℕ → ℕ → ℕ → ℕ → ℕ → ℕ
 valuesAfter scheme n f d values = unlessRefused (layoutRefusal scheme n f d) (valueCount scheme n d) values

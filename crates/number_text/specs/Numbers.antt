@@ -29,7 +29,7 @@ digits (b ∷ s) = cond (isDigit b) (b ∷ digits s) []
 unfoldable pub afterDigits : List ℕ → List ℕ
 afterDigits s = drop (length (digits s)) s
 
--- 1 to 5 digits, no leading zeros, zero as 0
+-- 1 to 5 digits, no leading zeros, zero as 0 (SPEC 12.1)
 unfoldable pub isNumber : List ℕ → Bool
 isNumber ds = (leb 1 (length ds) && leb (length ds) 5) && (eqb (length ds) 1 || not (eqb (getD ds 0 0) 48))
 
@@ -62,7 +62,7 @@ afterField s = drop 1 (afterDigits s)
 
 -- ---- writing
 
--- x in decimal, no leading zeros, for x of at most k digits
+-- x in decimal, no leading zeros (SPEC 12.4), for x of at most k digits
 abbrev pub decimalIn : ℕ → ℕ → List ℕ
 decimalIn zero x = []
 decimalIn (suc k) x = cond (ltb x 10) ((48 + x) ∷ []) (decimalIn k (x / 10) ++ ((48 + x % 10) ∷ []))

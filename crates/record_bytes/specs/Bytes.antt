@@ -1,4 +1,4 @@
--- The record as bytes, as the C interface keeps it: each number in 4 bytes, little-endian, no padding.
+-- The record as bytes, as the C interface keeps it (SPEC 15.4): each number in 4 bytes, little-endian, no padding.
 -- Definitions only.
 use mathlib.Core.Path.{_≡_}
 use mathlib.Core.List.{List, [], _∷_, _++_}

@@ -12,7 +12,7 @@ use Rattle.reading.specs.Contract.{Report, tableIn, outcomeTests, listedIn, fou
 use Rattle.number_text.specs.Numbers.{comma, lineFeed, digitOf, digits, afterDigits, isField, valueIn, afterField}
 use Rattle.number_text.specs.Numbers.{commaNumbers}
 
--- ---- the two lines: `scheme,N,F,D`, and the outcomes
+-- ---- the two lines (SPEC 12.1): `scheme,N,F,D`, and the outcomes
 
 abbrev pub fromN : List ℕ → List ℕ
 fromN s = afterField s
@@ -49,7 +49,7 @@ outcomesIn s = map digitOf (digits (lastLine s))
 
 -- ---- tests
 
--- 01's test 15 for form, length and D over 256
+-- 01's test 15 (SPEC 10.15) for form, length and D over 256
 abbrev pub formTests : Bool → ℕ → ℕ → List Test
 formTests formed size d = (formed && (leb size 1024 && leb d 256)) orRefuse 15 ∷ []
 
@@ -62,7 +62,7 @@ digitTests scheme n f d count =
 abbrev pub answerTests : ℕ → ℕ → ℕ → ℕ → List ℕ → List Test
 answerTests scheme n f d outcomes = digitTests scheme n f d (length outcomes) ++ outcomeTests scheme n d outcomes
 
--- 01's tests of the program
+-- 01's tests of the program (SPEC 11.6)
 abbrev pub textTests : List ℕ → List Test
 textTests s =
     formTests (isFormed s) (length s) (dIn s) ++ answerTests (schemeIn s) (nIn s) (fIn s) (dIn s) (outcomesIn s)
@@ -70,7 +70,7 @@ textTests s =
 unfoldable pub textRefusal : List ℕ → ℕ
 textRefusal s = firstRefusal (textTests s)
 
--- ---- what is printed
+-- ---- what is printed (SPEC 12.2 to 12.4)
 
 -- a line: a word, numbers after a comma each, one line feed
 unfoldable pub line : List ℕ → List ℕ → List ℕ
