@@ -8,9 +8,9 @@ use borrow.Author.Tests.{leb-true, le-leb, lt-leb}
 use Rattle.lists.proofs.Laws.{and-both}
 use Rattle.refusals.specs.Refusals.{firstRefusal}
 use Rattle.refusals.proofs.TestLaws.{none-fails, all-pass, pass-split, refused-before, refused-after}
-use Rattle.layouts.specs.Layouts.{layoutTests, layoutRefusal, chains}
+use Rattle.layouts.specs.Layouts.{layoutTests, chains}
 use Rattle.layouts.proofs.AllowedLaws.{layout-passed, allowed-d-is}
-use Rattle.ledger.specs.Ledger.{endsTests, endsRefusal}
+use Rattle.ledger.specs.Ledger.{endsTests, endsRefusal, ledgerTests, ledgerRefusal}
 use Rattle.ledger.proofs.EndLaws.{refusal-none}
 use Rattle.checking.specs.Contract.{roomTests, checkTests, checkRefusal}
 use Rattle.checking.specs.Private.{Ready}
@@ -33,22 +33,14 @@ module _ (s n d book work places : ℕ) {k : ℕ} (c : k ≡ length (chains s n 
 -- ---- tests 1 2 3 7 9 10 11 8
 
 module _ (s n f d : ℕ) (ends : List ℕ) (size book work places : ℕ) where
-  pub layout-refused : {x : ℕ} → x ≡ layoutRefusal s n f d → (x ≡ 0 → ⊥) → x ≡ checkRefusal s n f d ends size book work places
-  unfolding checkRefusal layoutRefusal
-  layout-refused e h = refused-before (layoutTests s n f d) (endsTests d ends size ++ roomTests s n d book work places) e h
+  module _ {x : ℕ} (e : x ≡ ledgerRefusal s n f d ends size) where
+    pub ledger-refused : (x ≡ 0 → ⊥) → x ≡ checkRefusal s n f d ends size book work places
+    unfolding ledgerRefusal checkRefusal
+    ledger-refused h = refused-before (ledgerTests s n f d ends size) (roomTests s n d book work places) e h
 
-  module _ {x : ℕ} (e : x ≡ layoutRefusal s n f d) (z : x ≡ 0) where
-    layout-passes : checkRefusal s n f d ends size book work places ≡ firstRefusal (endsTests d ends size ++ roomTests s n d book work places)
-    unfolding checkRefusal layoutRefusal
-    layout-passes = refused-after (layoutTests s n f d) (endsTests d ends size ++ roomTests s n d book work places) refl (sym e ∙ z)
-
-    pub ends-refused : {y : ℕ} → y ≡ endsRefusal d ends size → (y ≡ 0 → ⊥) → y ≡ checkRefusal s n f d ends size book work places
-    unfolding endsRefusal
-    ends-refused q h = refused-before (endsTests d ends size) (roomTests s n d book work places) q h ∙ sym layout-passes
-
-    pub room-refused : {y w : ℕ} → y ≡ endsRefusal d ends size → y ≡ 0 → w ≡ firstRefusal (roomTests s n d book work places) → w ≡ checkRefusal s n f d ends size book work places
-    unfolding endsRefusal
-    room-refused q v h = h ∙ sym (layout-passes ∙ refused-after (endsTests d ends size) (roomTests s n d book work places) refl (sym q ∙ v))
+    pub room-refused : {w : ℕ} → x ≡ 0 → w ≡ firstRefusal (roomTests s n d book work places) → w ≡ checkRefusal s n f d ends size book work places
+    unfolding ledgerRefusal checkRefusal
+    room-refused z h = h ∙ sym (refused-after (ledgerTests s n f d ends size) (roomTests s n d book work places) refl (sym e ∙ z))
 
   pub check-ready : checkRefusal s n f d ends size book work places ≡ 0 → Ready s n d ends size book work places
   unfolding checkRefusal endsRefusal

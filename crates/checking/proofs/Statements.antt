@@ -4,18 +4,16 @@ use mathlib.Core.Logic.{_↔_}
 use mathlib.Core.Bool.{Bool, true, false, cond}
 use mathlib.Core.List.{List, [], _∷_, _++_}
 use Prim.Native.Nat.{ℕ, zero, suc, _+_, _-_, _*_, _≤_, _<_}
-use native.Mathlib.Nat.{le-refl, le-trans}
+use native.Mathlib.Nat.{le-trans}
 use native.Mathlib.Omega.{arith}
-use lib.Dec.{leb}
 use lib.ListN.{length, getD, take, drop, length-take, List·getD-append}
 use lib.Seq.{take-take, take-nil, drop-drop}
-use borrow.Author.Tests.{le-leb, leb-true}
 use Rattle.lists.specs.Lists.{same}
-use Rattle.lists.proofs.Laws.{bool-ext, same-eq, same-refl, true-or-false}
+use Rattle.lists.proofs.Laws.{enough-read, bool-ext, same-eq, same-refl, true-or-false}
 use Rattle.evidence.specs.Evidence.{value, checkOutcomes}
 use Rattle.refusals.specs.declared.Answer.the-variants.{Done}
-use Rattle.refusals.specs.Refusals.{dayLimit, Test, firstRefusal, answerOf, frontWritten}
-use Rattle.refusals.proofs.TestLaws.{numbered, refused-before, refused-after}
+use Rattle.refusals.specs.Refusals.{dayLimit, firstRefusal, answerOf, frontWritten}
+use Rattle.refusals.proofs.TestLaws.{same-refusal}
 use Rattle.layouts.specs.Layouts.{layoutTests, chains}
 use Rattle.ledger.specs.Ledger.{startOf, endOf, goodEnds, endsTests, endsRefusal, daysOf, EndsHold}
 use Rattle.ledger.proofs.EndLaws.{good-at, at-good, good-end, end-good, refusal-read, start-ascends}
@@ -118,21 +116,6 @@ ends-read d ends ledger = bool-ext (goodEnds d ends L) (goodEnds d ends M) forth
 ends-refusal-read : (d : ℕ) (ends ledger : List ℕ) → firstRefusal (endsTests d ends (length ledger)) ≡ firstRefusal (endsTests d (take d ends) (length (take (startOf ends d) ledger)))
 unfolding endsRefusal
 ends-refusal-read d ends ledger = rw (ends-read d ends ledger) (refusal-read d ends (length (take (startOf ends d) ledger)))
-
-enough-read : (k : ℕ) (l : List ℕ) → leb k (length l) ≡ leb k (length (take k l))
-enough-read k l =
-    let m = take-most k l in
-    bool-ext (leb k (length l)) (leb k (length (take k l))) (λ e. le-leb k (length (take k l)) (m .2 k (le-refl k) (leb-true k (length l) e))) (λ e. le-leb k (length l) (le-trans (leb-true k (length (take k l)) e) (m .1)))
-
--- tests whose parts find the same find the same
-same-refusal : (a b c e : List Test) → numbered a ≡ true → numbered b ≡ true → firstRefusal a ≡ firstRefusal b → firstRefusal c ≡ firstRefusal e → firstRefusal (a ++ c) ≡ firstRefusal (b ++ e)
-same-refusal a b c e k l p q = go (firstRefusal a) refl
-  where
-    go : (r : ℕ) → firstRefusal a ≡ r → firstRefusal (a ++ c) ≡ firstRefusal (b ++ e)
-    go zero z = refused-after a c k z ∙ q ∙ sym (refused-after b e l (sym p ∙ z))
-    go (suc r) z =
-        let h : firstRefusal a ≡ 0 → ⊥ = λ y. omega arith in
-        sym (refused-before a c refl h) ∙ refused-before b e p h
 
 module _ (s n f d : ℕ) (ledger ends book work outcomes : List ℕ) where
   abbrev front : List ℕ

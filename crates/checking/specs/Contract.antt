@@ -7,8 +7,8 @@ use lib.ListN.{length}
 use Rattle.evidence.specs.Evidence.{days, dayOf, digest, checkOutcomes}
 use Rattle.refusals.specs.declared.Answer.{Answer}
 use Rattle.refusals.specs.Refusals.{Test, _orRefuse_, firstRefusal, answerOf, frontWritten}
-use Rattle.layouts.specs.Layouts.{layoutTests, chains}
-use Rattle.ledger.specs.Ledger.{daysOf, endsTests}
+use Rattle.layouts.specs.Layouts.{chains}
+use Rattle.ledger.specs.Ledger.{daysOf, ledgerTests}
 use Rattle.sha256.specs.Sha256.{sha256}
 use Rattle.chains.specs.Book.{start}
 
@@ -22,7 +22,7 @@ roomTests scheme n d bookSize workSize places =
 -- 01's tests 1 2 3 7 9 10 11 8 (SPEC 11.4); size is the ledger's length
 abbrev pub checkTests : ℕ → ℕ → ℕ → ℕ → List ℕ → ℕ → ℕ → ℕ → ℕ → List Test
 checkTests scheme n f d ends size bookSize workSize places =
-    layoutTests scheme n f d ++ (endsTests d ends size ++ roomTests scheme n d bookSize workSize places)
+    ledgerTests scheme n f d ends size ++ roomTests scheme n d bookSize workSize places
 
 unfoldable pub checkRefusal : ℕ → ℕ → ℕ → ℕ → List ℕ → ℕ → ℕ → ℕ → ℕ → ℕ
 checkRefusal scheme n f d ends size bookSize workSize places =

@@ -30,13 +30,9 @@ fn check_refusal(
 ) -> u32
     ensures { λ r. ⌜ r ≡ checkRefusal scheme n f d (now (ends .entry)) size book work places ⌝ }
 {
-    let x = layouts::layout_refusal(scheme, n, f, d);
+    let x = ledger::ledger_refusal(scheme, n, f, d, ends, size);
     if x != 0 {
         return x;
-    }
-    let y = ledger::ends_refusal(d, ends, size);
-    if y != 0 {
-        return y;
     }
     let k = buffers::wide(layouts::values_through(scheme, n, d));
     if book < 32 * k {

@@ -5,6 +5,7 @@ use mathlib.Core.List.{List, [], _∷_, _++_, map}
 use Prim.Native.Nat.{ℕ, zero, suc, _+_, _-_, _≤_, _<_}
 use lib.Dec.{leb}
 use lib.ListN.{length, getD, take, drop}
+use Rattle.layouts.specs.Layouts.{layoutTests}
 use Rattle.refusals.specs.Refusals.{dayLimit, Test, _orRefuse_, firstRefusal}
 
 -- 01's end of a day (SPEC 7.2): the number at its place
@@ -49,6 +50,13 @@ endsTests d ends size = leb d (length ends) orRefuse 9 ∷ goodEnds d ends size 
 
 unfoldable pub endsRefusal : ℕ → List ℕ → ℕ → ℕ
 endsRefusal d ends size = firstRefusal (endsTests d ends size)
+
+-- 01's tests 1 2 3 7 9 10 (SPEC 11), with which checking a ledger and sealing one begin
+abbrev pub ledgerTests : ℕ → ℕ → ℕ → ℕ → List ℕ → ℕ → List Test
+ledgerTests scheme n f d ends size = layoutTests scheme n f d ++ endsTests d ends size
+
+unfoldable pub ledgerRefusal : ℕ → ℕ → ℕ → ℕ → List ℕ → ℕ → ℕ
+ledgerRefusal scheme n f d ends size = firstRefusal (ledgerTests scheme n f d ends size)
 
 -- what no refusal says; the laws `refusal-none` and `none-refusal`: it is this exactly
 pub record EndsHold (d : ℕ) (ends : List ℕ) (size : ℕ) : Type 0 where

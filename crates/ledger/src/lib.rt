@@ -2,7 +2,7 @@
 ghost use mathlib.Core.Path.{_≡_};
 ghost use Prim.Native.Nat.{_<_, _≤_};
 ghost use lib.ListN.{length};
-ghost use Rattle.ledger.specs.Ledger.{startOf, endOf, goodEnd, endsRefusal};
+ghost use Rattle.ledger.specs.Ledger.{startOf, endOf, goodEnd, endsRefusal, ledgerRefusal};
 
 // Where the day of index i starts.
 pub fn start_of(ends: &[u32], i: usize) -> usize
@@ -51,4 +51,15 @@ pub fn ends_refusal(d: u32, ends: &[u32], size: usize) -> u32
         i += 1;
     }
     0
+}
+
+// Tests 1 2 3 7 9 10.
+pub fn ledger_refusal(scheme: u32, n: u32, f: u32, d: u32, ends: &[u32], size: usize) -> u32
+    ensures { λ r. ⌜ r ≡ ledgerRefusal scheme n f d (now (ends .entry)) size ⌝ }
+{
+    let x = layouts::layout_refusal(scheme, n, f, d);
+    if x != 0 {
+        return x;
+    }
+    ends_refusal(d, ends, size)
 }

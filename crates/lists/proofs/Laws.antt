@@ -7,9 +7,10 @@ use Prim.Native.Nat.{ℕ, zero, suc, _+_, _≤_, _<_}
 use native.Mathlib.Nat.{eq-or-lt-of-le}
 use native.Mathlib.Nat.{add-zero}
 use native.Mathlib.Omega.{arith}
-use lib.Dec.{eqb}
-use lib.ListN.{length}
-use borrow.Author.Tests.{eqb-true, eq-eqb}
+use lib.Dec.{eqb, leb}
+use lib.ListN.{length, take}
+use lib.Seq.{length-take-le, take-all}
+use borrow.Author.Tests.{eqb-true, eq-eqb, leb-true, leb-false, le-leb}
 use Rattle.lists.specs.Lists.{_among_, has, same, every, upFrom, keep, Ascends, joined}
 
 -- ---- Booleans
@@ -248,3 +249,12 @@ joined-one x xs = refl
 pub joined-single : (x : List ℕ) → joined (x ∷ []) ≡ x
 unfolding joined
 joined-single x = append-nil x
+
+-- ---- as many as are needed
+
+pub enough-read : (k : ℕ) (o : List ℕ) → leb k (length o) ≡ leb k (length (take k o))
+enough-read k o = go (leb k (length o)) refl
+  where
+    go : (b : Bool) → leb k (length o) ≡ b → leb k (length o) ≡ leb k (length (take k o))
+    go true e = let m = length-take-le k o (leb-true k (length o) e) in e ∙ sym (le-leb k (length (take k o)) (omega arith))
+    go false e = let m = leb-false k (length o) e in rw (take-all k o (omega arith))

@@ -6,11 +6,9 @@ use mathlib.Core.List.{List, [], _∷_, _++_}
 use Prim.Native.Nat.{ℕ, zero, suc, _≤_}
 use native.Mathlib.Nat.{le-refl}
 use native.Mathlib.Omega.{arith}
-use lib.Dec.{leb}
 use lib.ListN.{length, take, drop}
-use lib.Seq.{take-at, drop-at, take-all, take-take, length-take-le}
-use borrow.Author.Tests.{le-leb, leb-true, leb-false}
-use Rattle.lists.proofs.Laws.{split, true-or-false}
+use lib.Seq.{take-at, drop-at, take-take}
+use Rattle.lists.proofs.Laws.{enough-read, split, true-or-false}
 use Rattle.evidence.specs.Evidence.{accepted, listing}
 use Rattle.evidence.proofs.TableLaws.{given-iff-accepted, listed-iff, listing-ascends}
 use Rattle.refusals.specs.Refusals.{firstRefusal, unlessRefused}
@@ -118,13 +116,6 @@ lists-days-of-sets s n f d o l e =
     })
 
 -- ---- the outcomes read
-
-enough-read : (k : ℕ) (o : List ℕ) → leb k (length o) ≡ leb k (length (take k o))
-enough-read k o = go (leb k (length o)) refl
-  where
-    go : (b : Bool) → leb k (length o) ≡ b → leb k (length o) ≡ leb k (length (take k o))
-    go true e = let m = length-take-le k o (leb-true k (length o) e) in e ∙ sym (le-leb k (length (take k o)) (omega arith))
-    go false e = let m = leb-false k (length o) e in rw (take-all k o (omega arith))
 
 pub outcomes-read : OutcomesRead
 unfolding readout readRefusal listedIn

@@ -61,6 +61,28 @@ refused-after [] b k e = refl
 refused-after (true orRefuse number ∷ a) b k e = refused-after a b (and-both (not (eqb number 0)) (numbered a) k .1) e
 refused-after (false orRefuse number ∷ a) b k e = absurd (number-some number (and-both (not (eqb number 0)) (numbered a) k .0) e)
 
+-- ---- a call's last test, with no cause found before it
+
+module _ (tests : List Test) (b : Bool) (number : ℕ) {x : ℕ} (k : numbered tests ≡ true) (e : x ≡ firstRefusal tests) (z : x ≡ 0) where
+  last-decides : cond b 0 number ≡ firstRefusal (tests ++ (b orRefuse number ∷ []))
+  last-decides = sym (refused-after tests (b orRefuse number ∷ []) k (sym e ∙ z))
+
+  pub last-fails : b ≡ false → number ≡ firstRefusal (tests ++ (b orRefuse number ∷ []))
+  last-fails t = ap (λ (y : Bool). cond y 0 number) (sym t) ∙ last-decides
+
+  pub last-passes : b ≡ true → 0 ≡ firstRefusal (tests ++ (b orRefuse number ∷ []))
+  last-passes t = ap (λ (y : Bool). cond y 0 number) (sym t) ∙ last-decides
+
+-- tests whose parts find the same find the same
+pub same-refusal : (a b c e : List Test) → numbered a ≡ true → numbered b ≡ true → firstRefusal a ≡ firstRefusal b → firstRefusal c ≡ firstRefusal e → firstRefusal (a ++ c) ≡ firstRefusal (b ++ e)
+same-refusal a b c e k l p q = go (firstRefusal a) refl
+  where
+    go : (r : ℕ) → firstRefusal a ≡ r → firstRefusal (a ++ c) ≡ firstRefusal (b ++ e)
+    go zero z = refused-after a c k z ∙ q ∙ sym (refused-after b e l (sym p ∙ z))
+    go (suc r) z =
+        let h : firstRefusal a ≡ 0 → ⊥ = λ y. omega arith in
+        sym (refused-before a c refl h) ∙ refused-before b e p h
+
 -- ---- what a call answers and leaves, by the refusal that it found
 
 pub answer-refused : {x : ℕ} (r : ℕ) → x ≡ r → (x ≡ 0 → ⊥) → Refused x ≡ answerOf r

@@ -12,13 +12,13 @@ use borrow.Rule.Slice.PartMut.{midOf, putMid}
 use Rattle.evidence.specs.Evidence.{values}
 use Rattle.refusals.specs.declared.Answer.the-variants.{Done, Refused}
 use Rattle.refusals.specs.Refusals.{bookLimit, dayLimit, Test, _orRefuse_, frontWritten}
-use Rattle.refusals.proofs.TestLaws.{none-fails, all-pass, pass-split, refused-before, refused-after, answer-refused, answer-done, old-stays, new-stands}
+use Rattle.refusals.proofs.TestLaws.{none-fails, all-pass, pass-split, refused-before, answer-refused, answer-done, old-stays, new-stands, last-fails, last-passes}
 use Rattle.buffers.proofs.Lent.{lent-is, lent-put, lent-length}
 use Rattle.sha256.specs.Sha256.{sha256}
-use Rattle.layouts.specs.Layouts.{allowedD, setupTests, layoutTests, setupRefusal, layoutRefusal, chains, chainsOfDay}
+use Rattle.layouts.specs.Layouts.{allowedD, setupTests, layoutTests, setupRefusal, chains, chainsOfDay}
 use Rattle.layouts.proofs.AllowedLaws.{layout-passed, allowed-d-is}
 use Rattle.layouts.proofs.Coverage.{chains-front}
-use Rattle.ledger.specs.Ledger.{dayAt, daysOf, endsTests, endsRefusal, EndsHold}
+use Rattle.ledger.specs.Ledger.{dayAt, daysOf, endsTests, endsRefusal, ledgerTests, ledgerRefusal, EndsHold}
 use Rattle.ledger.proofs.EndLaws.{refusal-none}
 use Rattle.ledger.proofs.DayLaws.{days-none, days-snoc, days-length, day-length}
 use Rattle.chains.specs.Book.{start, bookOf}
@@ -27,7 +27,6 @@ use Rattle.service.specs.declared.Record.{Record}
 use Rattle.service.specs.declared.Closed.{Closed}
 use Rattle.service.specs.Contract.{countOf, opened, added, closing}
 use Rattle.service.specs.Journal.{Journal, adds, closes, refusalOf}
-use Rattle.service.proofs.CallLaws.{last-fails, last-passes}
 use Rattle.service.proofs.RunLaws.{Keeps, keeps-open, taken-add, taken-close, taken-count, taken-part}
 use Rattle.sealing.specs.Contract.{sealTests, sealRefusal, sealedBook}
 
@@ -37,30 +36,19 @@ module _ (s n f d : ℕ) (ends : List ℕ) (size room : ℕ) where
   abbrev lastTest : List Test
   lastTest = leb (32 * length (chains s n d)) room orRefuse 8 ∷ []
 
-  module _ {x : ℕ} (e : x ≡ layoutRefusal s n f d) where
-    pub layout-refuses : (x ≡ 0 → ⊥) → x ≡ sealRefusal s n f d ends size room
-    unfolding layoutRefusal sealRefusal
-    layout-refuses h = refused-before (layoutTests s n f d) (endsTests d ends size ++ lastTest) e h
+  module _ {x : ℕ} (e : x ≡ ledgerRefusal s n f d ends size) where
+    pub ledger-refuses : (x ≡ 0 → ⊥) → x ≡ sealRefusal s n f d ends size room
+    unfolding ledgerRefusal sealRefusal
+    ledger-refuses h = refused-before (ledgerTests s n f d ends size) lastTest e h
 
-    module _ (z : x ≡ 0) {y : ℕ} (q : y ≡ endsRefusal d ends size) where
-      pub ends-refuse : (y ≡ 0 → ⊥) → y ≡ sealRefusal s n f d ends size room
-      unfolding layoutRefusal endsRefusal sealRefusal
-      ends-refuse h =
-          refused-before (endsTests d ends size) lastTest q h ∙
-          sym (refused-after (layoutTests s n f d) (endsTests d ends size ++ lastTest) refl (sym e ∙ z))
+    module _ (z : x ≡ 0) {k u : ℕ} (c : k ≡ length (chains s n d)) (v : u ≡ k) where
+      pub book-short : room < 32 * u → 8 ≡ sealRefusal s n f d ends size room
+      unfolding ledgerRefusal sealRefusal
+      book-short h = last-fails (ledgerTests s n f d ends size) (leb (32 * length (chains s n d)) room) 8 refl e z (lt-leb (32 * length (chains s n d)) room (omega arith))
 
-      module _ (w : y ≡ 0) {k u : ℕ} (c : k ≡ length (chains s n d)) (v : u ≡ k) where
-        pub book-short : room < 32 * u → 8 ≡ sealRefusal s n f d ends size room
-        unfolding layoutRefusal endsRefusal sealRefusal
-        book-short h =
-            last-fails (endsTests d ends size) (leb (32 * length (chains s n d)) room) 8 refl q w (lt-leb (32 * length (chains s n d)) room (omega arith)) ∙
-            sym (refused-after (layoutTests s n f d) (endsTests d ends size ++ lastTest) refl (sym e ∙ z))
-
-        pub none-refuses : 32 * u ≤ room → 0 ≡ sealRefusal s n f d ends size room
-        unfolding layoutRefusal endsRefusal sealRefusal
-        none-refuses h =
-            last-passes (endsTests d ends size) (leb (32 * length (chains s n d)) room) 8 refl q w (le-leb (32 * length (chains s n d)) room (omega arith)) ∙
-            sym (refused-after (layoutTests s n f d) (endsTests d ends size ++ lastTest) refl (sym e ∙ z))
+      pub none-refuses : 32 * u ≤ room → 0 ≡ sealRefusal s n f d ends size room
+      unfolding ledgerRefusal sealRefusal
+      none-refuses h = last-passes (ledgerTests s n f d ends size) (leb (32 * length (chains s n d)) room) 8 refl e z (le-leb (32 * length (chains s n d)) room (omega arith))
 
 -- what no refusal says
 pub record Sealable (s n f d : ℕ) (ledger ends book : List ℕ) : Type 0 where

@@ -5,14 +5,14 @@ use lib.Dec.{leb}
 use lib.ListN.{length}
 use Rattle.refusals.specs.declared.Answer.{Answer}
 use Rattle.refusals.specs.Refusals.{Test, _orRefuse_, firstRefusal, answerOf, frontWritten}
-use Rattle.layouts.specs.Layouts.{layoutTests, chains}
-use Rattle.ledger.specs.Ledger.{daysOf, endsTests}
+use Rattle.layouts.specs.Layouts.{chains}
+use Rattle.ledger.specs.Ledger.{daysOf, ledgerTests}
 use Rattle.chains.specs.Book.{bookOf}
 
 -- tests 1 2 3 7 9 10 8 (SPEC 11.7); size is the ledger's length, room the book's
 abbrev pub sealTests : ℕ → ℕ → ℕ → ℕ → List ℕ → ℕ → ℕ → List Test
 sealTests scheme n f d ends size room =
-    layoutTests scheme n f d ++ (endsTests d ends size ++ (leb (32 * length (chains scheme n d)) room orRefuse 8 ∷ []))
+    ledgerTests scheme n f d ends size ++ (leb (32 * length (chains scheme n d)) room orRefuse 8 ∷ [])
 
 unfoldable pub sealRefusal : ℕ → ℕ → ℕ → ℕ → List ℕ → ℕ → ℕ → ℕ
 sealRefusal scheme n f d ends size room = firstRefusal (sealTests scheme n f d ends size room)

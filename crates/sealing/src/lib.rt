@@ -15,13 +15,9 @@ ghost use Rattle.sealing.specs.Contract.{sealRefusal, sealedBook};
 fn seal_refusal(scheme: u32, n: u32, f: u32, d: u32, ends: &[u32], size: usize, room: usize) -> u32
     ensures { λ r. ⌜ r ≡ sealRefusal scheme n f d (now (ends .entry)) size room ⌝ }
 {
-    let x = layouts::layout_refusal(scheme, n, f, d);
+    let x = ledger::ledger_refusal(scheme, n, f, d, ends, size);
     if x != 0 {
         return x;
-    }
-    let y = ledger::ends_refusal(d, ends, size);
-    if y != 0 {
-        return y;
     }
     let k = layouts::values_through(scheme, n, d);
     if room < 32 * buffers::wide(k) {

@@ -1,6 +1,5 @@
 -- The refusals of add and close by their tests, and what open, add and close give by the refusal found.
 use mathlib.Core.Path.{_≡_, refl, sym, ap, ap₂, _∙_}
-use mathlib.Core.Bool.{Bool, true, false, cond}
 use mathlib.Core.List.{List, [], _∷_, _++_}
 use Prim.Native.Nat.{ℕ, zero, suc, _+_, _-_, _*_, _≤_, _<_}
 use native.Mathlib.Numerals.{add-one}
@@ -9,8 +8,8 @@ use lib.Dec.{leb}
 use lib.ListN.{length, drop}
 use borrow.Author.Tests.{le-leb, lt-leb, leb-true}
 use Rattle.refusals.specs.declared.Answer.the-variants.{Done, Refused}
-use Rattle.refusals.specs.Refusals.{dayLimit, Test, _orRefuse_, firstRefusal, numberOf, answerOf}
-use Rattle.refusals.proofs.TestLaws.{numbered, none-fails, refused-before, refused-after, answer-refused, answer-done, old-stays, new-stands, front-stands}
+use Rattle.refusals.specs.Refusals.{dayLimit, _orRefuse_, numberOf, answerOf}
+use Rattle.refusals.proofs.TestLaws.{last-fails, last-passes, none-fails, refused-before, answer-refused, answer-done, old-stays, new-stands, front-stands}
 use Rattle.buffers.specs.Private.{Wrote}
 use Rattle.layouts.specs.Layouts.{setupRefusal, chainsOfDay}
 use Rattle.service.specs.declared.Record.{Record}
@@ -21,18 +20,6 @@ use Rattle.service.specs.declared.Closed.{Closed}
 use Rattle.service.specs.Contract.{fresh, zeros, opened, recordTests, addTests, addRefusal, grown, added, dayCount, closeTests, closeRefusal, dayBytes, nextDay, writingOf, writingNumber, closing}
 use Rattle.service.specs.Private.{recordRefusal}
 use Rattle.service.proofs.RecordLaws.{record-passes}
-
--- ---- a call's last test, with no cause found before it
-
-module _ (tests : List Test) (b : Bool) (number : ℕ) {x : ℕ} (k : numbered tests ≡ true) (e : x ≡ firstRefusal tests) (z : x ≡ 0) where
-  last-decides : cond b 0 number ≡ firstRefusal (tests ++ (b orRefuse number ∷ []))
-  last-decides = sym (refused-after tests (b orRefuse number ∷ []) k (sym e ∙ z))
-
-  pub last-fails : b ≡ false → number ≡ firstRefusal (tests ++ (b orRefuse number ∷ []))
-  last-fails t = ap (λ (y : Bool). cond y 0 number) (sym t) ∙ last-decides
-
-  pub last-passes : b ≡ true → 0 ≡ firstRefusal (tests ++ (b orRefuse number ∷ []))
-  last-passes t = ap (λ (y : Bool). cond y 0 number) (sym t) ∙ last-decides
 
 -- ---- add
 

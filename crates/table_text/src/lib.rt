@@ -68,31 +68,15 @@ fn digit_refusal(scheme: u32, n: u32, f: u32, d: u32, count: usize) -> u32
 fn report_by(reading: Reading, d: u32) -> Report
     ensures { λ r. ⌜ ReportIs (reportOf d reading) r ⌝ }
 {
-    match reading {
-        Reading::Clean => Report {
-            refusal: 0,
-            listed: 0,
-            first: 0,
-            low: 0,
-            high: 0,
-            last_good: d,
-        },
-        Reading::Changed(m) => Report {
-            refusal: 0,
-            listed: m.listed,
-            first: m.first,
-            low: m.low,
-            high: m.high,
-            last_good: m.last_good,
-        },
-        Reading::Refused(number) => Report {
-            refusal: number,
-            listed: 0,
-            first: 0,
-            low: 0,
-            high: 0,
-            last_good: 0,
-        },
+    let refusal = reading::answers::number_of(d, reading);
+    let m = reading::answers::numbers_of(d, reading);
+    Report {
+        refusal,
+        listed: m.listed,
+        first: m.first,
+        low: m.low,
+        high: m.high,
+        last_good: m.last_good,
     }
 }
 

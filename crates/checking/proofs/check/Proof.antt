@@ -1,12 +1,10 @@
+-- `checking::check` meets its contract.
 use mathlib.Core.Path.{sym, _∙_}
 use Rattle.checking.proofs.RefusalLaws.{check-ready}
 use Rattle.checking.proofs.CallLaws.{checked-refused, checked-done}
 use borrow.Author.Needs.{needs}
 use Rattle.checking.proofs.check.Statement.{statement}
 use Rattle.checking.proofs.check.Tie as tie
-
-check-refusal-requires : tie.Need-check-refusal-requires
-check-refusal-requires c κs = search needs
 
 returns : tie.Need-returns
 returns c =
@@ -15,12 +13,6 @@ returns c =
 
 check-days-requires : tie.Need-check-days-requires
 check-days-requires c κs = check-ready _ _ _ _ _ _ _ _ _ (sym (c .before .before .before .check-refusal .ensures) ∙ c .before .before .if1 .left)
-
-same-length : tie.Need-same-length
-same-length c = search needs
-
-same-length-2 : tie.Need-same-length-2
-same-length-2 c = search needs
 
 returns-2 : tie.Need-returns-2
 returns-2 c =
@@ -32,9 +24,9 @@ pub check-spec : {M : Type 1} → statement M
 check-spec =
     tie.close
     (tie.spec
-    check-refusal-requires
+    (λ c. λ κs. search needs)
     returns
     check-days-requires
-    same-length
-    same-length-2
+    (λ c. search needs)
+    (λ c. search needs)
     returns-2)

@@ -1,20 +1,9 @@
+-- `checking::check_day` meets its contract.
 use Rattle.chains.proofs.Values.{day-few}
 use native.Mathlib.Omega.{arith}
 use borrow.Author.Needs.{needs}
 use Rattle.checking.proofs.check_day.Statement.{statement}
 use Rattle.checking.proofs.check_day.Tie as tie
-
-digest-requires : tie.Need-digest-requires
-digest-requires c κs = search needs
-
-bytes-requires : tie.Need-bytes-requires
-bytes-requires c κs = search needs
-
-put-requires : tie.Need-put-requires
-put-requires c κs = search needs
-
-step-requires : tie.Need-step-requires
-step-requires c κs = search needs
 
 all-requires : tie.Need-all-requires
 all-requires c κs =
@@ -23,12 +12,6 @@ all-requires c κs =
     let a = c .before .before .before .before .before .before .before .before .before .before .before .before .before .args in
     let w = day-few (a .scheme) (a .n) (a .g) (p .scheme-ok) (p .n-ok) (p .some) (p .most) in
     (omega (arith, k, w), omega (arith, k, p .book-long), omega (arith, k, p .outcomes-long))
-
-same-length : tie.Need-same-length
-same-length c = search needs
-
-same-length-2 : tie.Need-same-length-2
-same-length-2 c = search needs
 
 returns : tie.Need-returns
 returns c =
@@ -39,11 +22,11 @@ pub check-day-spec : {M : Type 1} → statement M
 check-day-spec =
     tie.close
     (tie.spec
-    digest-requires
-    bytes-requires
-    put-requires
-    step-requires
+    (λ c. λ κs. search needs)
+    (λ c. λ κs. search needs)
+    (λ c. λ κs. search needs)
+    (λ c. λ κs. search needs)
     all-requires
-    same-length
-    same-length-2
+    (λ c. search needs)
+    (λ c. search needs)
     returns)

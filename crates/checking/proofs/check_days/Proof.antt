@@ -27,12 +27,6 @@ begin : (c : tie.In-loop Inv-loop μ-loop) →
     (32 * c .before .loop .at ≤ length (c .before .before .before .before .before .before .before .before .before .args .book .now)) × (32 * c .before .loop .i ≤ length (c .before .loop .work)) × (c .before .loop .at ≤ length (c .before .loop .outcomes))
 begin c = parts-within (c .before .before .before .before .before .before .before .before .before .pre) (c .before .loop .inv .3) (c .before .loop .inv .0)
 
-start-requires : tie.Need-start-requires Inv-loop μ-loop
-start-requires c κs = search needs
-
-wide-requires : tie.Need-wide-requires Inv-loop μ-loop
-wide-requires c κs = search needs
-
 loop-holds : tie.Need-loop-holds Inv-loop μ-loop
 loop-holds c = (omega arith, c .wide .ensures, c .before .start .ensures, through-none _ _ _ _ _ _ _ _ (c .before .before .before .before .before .before .before .pre .n-ok) (c .before .start .ensures))
 
@@ -66,17 +60,11 @@ sub-check-day-2 c = begin (c .before .before .before .before) .0
 part-check-day-start-2 : tie.Need-part-check-day-start-2 Inv-loop μ-loop
 part-check-day-start-2 c = begin (c .before .before .before .before) .0
 
-part-check-day-end-2 : tie.Need-part-check-day-end-2 Inv-loop μ-loop
-part-check-day-end-2 c = search needs
-
 sub-check-day-3 : tie.Need-sub-check-day-3 Inv-loop μ-loop
 sub-check-day-3 c = begin (c .before .before .before .before .before) .1
 
 part-check-day-start-3 : tie.Need-part-check-day-start-3 Inv-loop μ-loop
 part-check-day-start-3 c = begin (c .before .before .before .before .before) .1
-
-part-check-day-end-3 : tie.Need-part-check-day-end-3 Inv-loop μ-loop
-part-check-day-end-3 c = search needs
 
 sub-check-day-4 : tie.Need-sub-check-day-4 Inv-loop μ-loop
 sub-check-day-4 c = begin (c .before .before .before .before .before .before) .2
@@ -84,14 +72,8 @@ sub-check-day-4 c = begin (c .before .before .before .before .before .before) .2
 part-check-day-start-4 : tie.Need-part-check-day-start-4 Inv-loop μ-loop
 part-check-day-start-4 c = begin (c .before .before .before .before .before .before) .2
 
-part-check-day-end-4 : tie.Need-part-check-day-end-4 Inv-loop μ-loop
-part-check-day-end-4 c = search needs
-
 check-day-requires : tie.Need-check-day-requires Inv-loop μ-loop
 check-day-requires c κs = day-needs (c .before .before .before .before .before .before .before .before .before .before .before .before .before .before .before .before .pre) (c .before .before .before .before .before .before .before .before .loop .inv .3) (turn (c .before .before .before .before .before .before .before)) (c .before .before .before .before .day-number .ensures)
-
-wide-requires-2 : tie.Need-wide-requires-2 Inv-loop μ-loop
-wide-requires-2 c κs = search needs
 
 -- the day's bytes are those between its start and its end
 is-day : (c : tie.After-wide2 Inv-loop μ-loop) →
@@ -104,12 +86,6 @@ add-at c =
     let q = outcomes-fit (c .before .before .before .before .before .before .before .before .before .before .before .before .before .before .before .before .before .before .before .before .before .before .before .before .pre) (c .before .before .before .before .before .before .before .before .before .before .before .before .before .before .before .before .loop .inv .3) (turn (c .before .before .before .before .before .before .before .before .before .before .before .before .before .before .before)) (is-day c) (c .before .before .before .before .before .before .before .before .before .before .before .before .day-number .ensures) (c .before .before .before .before .before .before .before .before .before .before .before .before .before .before .before .before .loop .inv .2) (c .before .before .before .before .before .before .before .check-day .ensures .0) (c .before .before .before .before .before .before .before .check-day .ensures .1 .0) (c .before .before .before .before .before .before .before .check-day .ensures .1 .1) in
     omega (arith, q, c .wide2 .ensures, c .before .before .before .before .before .before .before .before .before .before .before .before .before .before .before .before .before .before .before .before .before .before .before .before .good .1 .1 .1 .1 .1 .1 .1 .0 .0)
 
-add-i : tie.Need-add-i Inv-loop μ-loop
-add-i c = search needs
-
-loop-less : tie.Need-loop-less Inv-loop μ-loop
-loop-less c = search needs
-
 loop-again : tie.Need-loop-again Inv-loop μ-loop
 loop-again c = (
   search needs,
@@ -117,12 +93,6 @@ loop-again c = (
   c .before .before .before .before .before .before .before .before .before .before .before .before .before .before .before .before .loop .inv .2,
   rw (c .wide2 .ensures) (through-next (c .before .before .before .before .before .before .before .before .before .before .before .before .before .before .before .before .before .before .before .before .before .before .before .before .pre) (c .before .before .before .before .before .before .before .before .before .before .before .before .before .before .before .before .loop .inv .3) (turn (c .before .before .before .before .before .before .before .before .before .before .before .before .before .before .before)) (is-day c) (c .before .before .before .before .before .before .before .before .before .before .before .before .day-number .ensures) (c .before .before .before .before .before .before .before .before .before .before .before .before .before .before .before .before .loop .inv .2) (c .before .before .before .before .before .before .before .check-day .ensures .0) (c .before .before .before .before .before .before .before .check-day .ensures .1 .0) (c .before .before .before .before .before .before .before .check-day .ensures .1 .1)),
 )
-
-same-length : tie.Need-same-length Inv-loop μ-loop
-same-length c = search needs
-
-same-length-2 : tie.Need-same-length-2 Inv-loop μ-loop
-same-length-2 c = search needs
 
 returns : tie.Need-returns Inv-loop μ-loop
 returns c = through-all (c .before .before .before .before .before .before .before .before .before .pre) (c .before .loop .inv .3) (omega (arith, c .before .loop .inv .0, c .before .loop .inv .1, c .loop-test .left))
@@ -133,8 +103,8 @@ check-days-spec =
     (tie.spec
     Inv-loop
     μ-loop
-    start-requires
-    wide-requires
+    (λ c. λ κs. search needs)
+    (λ c. λ κs. search needs)
     loop-holds
     start-of-requires
     end-of-requires
@@ -146,19 +116,19 @@ check-days-spec =
     part-check-day-end
     sub-check-day-2
     part-check-day-start-2
-    part-check-day-end-2
+    (λ c. search needs)
     sub-check-day-3
     part-check-day-start-3
-    part-check-day-end-3
+    (λ c. search needs)
     sub-check-day-4
     part-check-day-start-4
-    part-check-day-end-4
+    (λ c. search needs)
     check-day-requires
-    wide-requires-2
+    (λ c. λ κs. search needs)
     add-at
-    add-i
-    loop-less
+    (λ c. search needs)
+    (λ c. search needs)
     loop-again
-    same-length
-    same-length-2
+    (λ c. search needs)
+    (λ c. search needs)
     returns)

@@ -1,10 +1,8 @@
+-- `number_text::after` meets its contract.
 use Rattle.number_text.proofs.FieldLaws.{after-byte, after-past}
 use borrow.Author.Needs.{needs}
 use Rattle.number_text.proofs.after.Statement.{statement}
 use Rattle.number_text.proofs.after.Tie as tie
-
-add-result : tie.Need-add-result
-add-result c = search needs
 
 returns : tie.Need-returns
 returns c = (after-byte (c .before .args .s .now) (c .before .args .end), search needs)
@@ -13,4 +11,4 @@ returns-2 : tie.Need-returns-2
 returns-2 c = (after-past (c .before .args .s .now) (c .before .args .end) (search needs), search needs)
 
 pub after-spec : {M : Type 1} → statement M
-after-spec = tie.close (tie.spec add-result returns returns-2)
+after-spec = tie.close (tie.spec (λ c. search needs) returns returns-2)

@@ -1,3 +1,4 @@
+-- `number_text::is_digit` meets its contract.
 use Rattle.number_text.proofs.FieldLaws.{digit-low, digit-high}
 use Rattle.number_text.proofs.is_digit.Statement.{statement}
 use Rattle.number_text.proofs.is_digit.Tie as tie

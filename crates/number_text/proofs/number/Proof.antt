@@ -1,3 +1,4 @@
+-- `number_text::number` meets its contract.
 use native.Mathlib.Omega.{arith}
 use Rattle.number_text.proofs.FieldLaws.{most, number-next, number-fits, number-stays, number-done}
 use Rattle.number_text.specs.Numbers.{numberFrom}
@@ -17,26 +18,11 @@ abbrev μ-loop : tie.MeasureT-loop
 loop-holds : tie.Need-loop-holds Inv-loop μ-loop
 loop-holds c = (search needs, search needs, refl)
 
-shared-slice-read-digit : tie.Need-shared-slice-read-digit Inv-loop μ-loop
-shared-slice-read-digit c = search needs
-
-digit-requires : tie.Need-digit-requires Inv-loop μ-loop
-digit-requires c κs = search needs
-
-wide-requires : tie.Need-wide-requires Inv-loop μ-loop
-wide-requires c κs = search needs
-
 mul-v : tie.Need-mul-v Inv-loop μ-loop
 mul-v c = record { fits = omega (arith, number-fits (c .before .before .before .before .loop .i) (c .before .before .before .before .loop .v) (length (c .before .before .before .before .before .before .args .ds .now)) (c .before .before .before .before .loop .inv .1) (c .before .before .before .loop-test .taken) (c .before .before .before .before .before .before .pre) (c .wide .ensures .1)) }
 
 add-v : tie.Need-add-v Inv-loop μ-loop
 add-v c = record { fits = number-fits (c .before .before .before .before .loop .i) (c .before .before .before .before .loop .v) (length (c .before .before .before .before .before .before .args .ds .now)) (c .before .before .before .before .loop .inv .1) (c .before .before .before .loop-test .taken) (c .before .before .before .before .before .before .pre) (c .wide .ensures .1) }
-
-add-i : tie.Need-add-i Inv-loop μ-loop
-add-i c = search needs
-
-loop-less : tie.Need-loop-less Inv-loop μ-loop
-loop-less c = search needs
 
 loop-again : tie.Need-loop-again Inv-loop μ-loop
 loop-again c = (search needs, number-stays (c .before .before .before .before .loop .i) (c .before .before .before .before .loop .v) (c .before .before .before .before .loop .inv .1) (c .wide .ensures .1), number-next (c .before .before .before .before .before .before .args .ds .now) (c .before .before .before .before .loop .i) (c .before .before .before .before .loop .v) (c .before .before .before .loop-test .taken) (c .before .before .before .before .loop .inv .2) (c .before .digit .ensures) (c .wide .ensures .0))
@@ -51,12 +37,12 @@ number-spec =
     Inv-loop
     μ-loop
     loop-holds
-    shared-slice-read-digit
-    digit-requires
-    wide-requires
+    (λ c. search needs)
+    (λ c. λ κs. search needs)
+    (λ c. λ κs. search needs)
     mul-v
     add-v
-    add-i
-    loop-less
+    (λ c. search needs)
+    (λ c. search needs)
     loop-again
     returns)

@@ -1,3 +1,4 @@
+-- `number_text::value` meets its contract.
 use Rattle.number_text.proofs.FieldLaws.{value-short}
 use native.Mathlib.Omega.{arith}
 use lib.Seq.{length-take-le}
@@ -5,9 +6,6 @@ use mathlib.Core.Path.{sym}
 use borrow.Author.Needs.{needs}
 use Rattle.number_text.proofs.value.Statement.{statement}
 use Rattle.number_text.proofs.value.Tie as tie
-
-number-requires : tie.Need-number-requires
-number-requires c κs = search needs
 
 returns : tie.Need-returns
 returns c = value-short (c .before .before .before .args .ds .now) (c .before .if1 .taken) (c .number .ensures)
@@ -18,9 +16,6 @@ slice-aggregate-number c = sym (length-take-le 5 (c .before .before .before .arg
 number-requires-2 : tie.Need-number-requires-2
 number-requires-2 c κs = omega (arith, length-take-le 5 (c .before .before .before .args .ds .now) (search needs))
 
-returns-2 : tie.Need-returns-2
-returns-2 c = search needs
-
 pub value-spec : {M : Type 1} → statement M
 value-spec =
-    tie.close (tie.spec number-requires returns slice-aggregate-number number-requires-2 returns-2)
+    tie.close (tie.spec (λ c. λ κs. search needs) returns slice-aggregate-number number-requires-2 (λ c. search needs))

@@ -1,3 +1,4 @@
+-- `reading::bits` meets its contract.
 use Prim.Native.Nat.{ℕ}
 use mathlib.Core.Path.{ap, _∙_}
 use lib.Dec.{leb}
@@ -6,11 +7,8 @@ use borrow.Author.Needs.{needs}
 use Rattle.reading.proofs.bits.Statement.{statement}
 use Rattle.reading.proofs.bits.Tie as tie
 
-greatest-requires : tie.Need-greatest-requires
-greatest-requires c κs = search needs
-
 returns : tie.Need-returns
 returns c = ap (λ (x : ℕ). leb x 1) (c .greatest .ensures) ∙ bits-by (c .before .before .args .t .now)
 
 pub bits-spec : {M : Type 1} → statement M
-bits-spec = tie.close (tie.spec greatest-requires returns)
+bits-spec = tie.close (tie.spec (λ c. λ κs. search needs) returns)

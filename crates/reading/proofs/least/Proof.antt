@@ -18,18 +18,6 @@ abbrev μ-loop : tie.MeasureT-loop
 loop-holds : tie.Need-loop-holds Inv-loop μ-loop
 loop-holds c = (omega arith, refl)
 
-shared-slice-read-smaller : tie.Need-shared-slice-read-smaller Inv-loop μ-loop
-shared-slice-read-smaller c = search needs
-
-smaller-requires : tie.Need-smaller-requires Inv-loop μ-loop
-smaller-requires c κs = search needs
-
-add-i : tie.Need-add-i Inv-loop μ-loop
-add-i c = search needs
-
-loop-less : tie.Need-loop-less Inv-loop μ-loop
-loop-less c = search needs
-
 loop-again : tie.Need-loop-again Inv-loop μ-loop
 loop-again c = (search needs, turn-next min (c .before .before .before .before .before .args .t .now) (c .before .before .before .loop .i) _ _ _ (search needs) (c .before .before .before .loop .inv .1) (c .smaller .ensures))
 
@@ -43,9 +31,9 @@ least-spec =
     Inv-loop
     μ-loop
     loop-holds
-    shared-slice-read-smaller
-    smaller-requires
-    add-i
-    loop-less
+    (λ c. search needs)
+    (λ c. λ κs. search needs)
+    (λ c. search needs)
+    (λ c. search needs)
     loop-again
     returns)

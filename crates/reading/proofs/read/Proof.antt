@@ -1,11 +1,9 @@
+-- `reading::read` meets its contract.
 use Rattle.reading.proofs.Report.{report-refused, list-refused, values-need, values-within, values-given, report-read, list-after}
 use Rattle.reading.proofs.RefusalLaws.{part-length}
 use borrow.Author.Needs.{needs}
 use Rattle.reading.proofs.read.Statement.{statement}
 use Rattle.reading.proofs.read.Tie as tie
-
-refusal-requires : tie.Need-refusal-requires
-refusal-requires c κs = search needs
 
 returns : tie.Need-returns
 returns c =
@@ -16,9 +14,6 @@ returns c =
 values-through-requires : tie.Need-values-through-requires
 values-through-requires c κs = values-need _ _ _ _ _ (c .before .before .before .before .args .list .now) (c .before .refusal .ensures) (c .if1 .left)
 
-wide-requires : tie.Need-wide-requires
-wide-requires c κs = search needs
-
 slice-aggregate-read-table : tie.Need-slice-aggregate-read-table
 slice-aggregate-read-table c =
     part-length _ _
@@ -27,9 +22,6 @@ slice-aggregate-read-table c =
 read-table-requires : tie.Need-read-table-requires
 read-table-requires c κs =
     values-given _ _ _ _ _ (c .before .before .before .before .before .before .before .before .args .list .now) (c .before .before .before .before .before .refusal .ensures) (c .before .before .before .before .if1 .left) (c .before .before .before .values-through .ensures) (c .before .before .wide .ensures)
-
-same-length : tie.Need-same-length
-same-length c = search needs
 
 returns-2 : tie.Need-returns-2
 returns-2 c =
@@ -45,11 +37,11 @@ pub read-spec : {M : Type 1} → statement M
 read-spec =
     tie.close
     (tie.spec
-    refusal-requires
+    (λ c. λ κs. search needs)
     returns
     values-through-requires
-    wide-requires
+    (λ c. λ κs. search needs)
     slice-aggregate-read-table
     read-table-requires
-    same-length
+    (λ c. search needs)
     returns-2)

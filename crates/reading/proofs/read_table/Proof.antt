@@ -1,3 +1,4 @@
+-- `reading::read_table` meets its contract.
 use Rattle.reading.proofs.Report.{listed-needs, list-read, listed-most, report-clean, first-place, numbers-need, report-changed}
 use borrow.Author.Needs.{needs}
 use Rattle.reading.proofs.read_table.Statement.{statement}
@@ -5,9 +6,6 @@ use Rattle.reading.proofs.read_table.Tie as tie
 
 listed-requires : tie.Need-listed-requires
 listed-requires c κs = listed-needs _ _ _ _ _ (c .before .before .before .args .list .now) (c .before .before .before .pre)
-
-same-length : tie.Need-same-length
-same-length c = search needs
 
 returns : tie.Need-returns
 returns c =
@@ -24,9 +22,6 @@ narrow-requires c κs = listed-most _ _ _ _ _ _ (c .before .before .before .befo
 changed-requires : tie.Need-changed-requires
 changed-requires c κs = numbers-need _ _ _ _ _ _ (c .before .before .before .before .before .before .before .before .before .pre) _ _ (c .before .before .before .before .before .listed .ensures) (c .before .before .if1 .left)
 
-same-length-2 : tie.Need-same-length-2
-same-length-2 c = search needs
-
 returns-2 : tie.Need-returns-2
 returns-2 c =
     let G = c .before .before .before .before .before .before .before .before .before .before .pre in
@@ -38,10 +33,10 @@ read-table-spec =
     tie.close
     (tie.spec
     listed-requires
-    same-length
+    (λ c. search needs)
     returns
     slice-read-first
     narrow-requires
     changed-requires
-    same-length-2
+    (λ c. search needs)
     returns-2)

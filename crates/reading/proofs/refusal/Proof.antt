@@ -1,10 +1,8 @@
+-- `reading::refusal` meets its contract.
 use Rattle.reading.proofs.RefusalLaws.{layout-facts, layout-refused, table-refused}
 use borrow.Author.Needs.{needs}
 use Rattle.reading.proofs.refusal.Statement.{statement}
 use Rattle.reading.proofs.refusal.Tie as tie
-
-layout-refusal-requires : tie.Need-layout-refusal-requires
-layout-refusal-requires c κs = search needs
 
 returns : tie.Need-returns
 returns c = layout-refused _ _ _ _ _ _ (c .before .layout-refusal .ensures) (c .if1 .taken)
@@ -16,4 +14,4 @@ returns-2 : tie.Need-returns-2
 returns-2 c = table-refused _ _ _ _ _ _ (c .before .before .layout-refusal .ensures) (c .before .if1 .left) (c .table-refusal .ensures)
 
 pub refusal-spec : {M : Type 1} → statement M
-refusal-spec = tie.close (tie.spec layout-refusal-requires returns table-refusal-requires returns-2)
+refusal-spec = tie.close (tie.spec (λ c. λ κs. search needs) returns table-refusal-requires returns-2)

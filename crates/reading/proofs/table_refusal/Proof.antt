@@ -1,19 +1,14 @@
+-- `reading::table_refusal` meets its contract.
 use Rattle.reading.proofs.RefusalLaws.{table-8, table-12, table-given, table-part, part-length}
 use borrow.Author.Needs.{needs}
 use Rattle.reading.proofs.table_refusal.Statement.{statement}
 use Rattle.reading.proofs.table_refusal.Tie as tie
-
-wide-requires : tie.Need-wide-requires
-wide-requires c κs = search needs
 
 returns : tie.Need-returns
 returns c = table-8 _ _ _ (c .before .before .before .args .outcomes .now) _ (c .before .wide .ensures) (c .if1 .taken)
 
 values-through-requires : tie.Need-values-through-requires
 values-through-requires c κs = let L = c .before .before .before .pre in (L .scheme-ok, L .n-ok, L .most)
-
-wide-requires-2 : tie.Need-wide-requires-2
-wide-requires-2 c κs = search needs
 
 returns-2 : tie.Need-returns-2
 returns-2 c = table-12 _ _ _ (c .before .before .before .before .before .before .args .outcomes .now) _ (c .before .before .before .before .wide .ensures) (c .before .before .before .if1 .left) (c .before .before .values-through .ensures) (c .before .wide2 .ensures) (c .if2 .taken)
@@ -31,10 +26,10 @@ pub table-refusal-spec : {M : Type 1} → statement M
 table-refusal-spec =
     tie.close
     (tie.spec
-    wide-requires
+    (λ c. λ κs. search needs)
     returns
     values-through-requires
-    wide-requires-2
+    (λ c. λ κs. search needs)
     returns-2
     slice-aggregate-given-refusal
     given-refusal-requires

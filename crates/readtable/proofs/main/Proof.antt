@@ -1,22 +1,8 @@
+-- `readtable::main` meets its contract.
 use Rattle.table_text.proofs.TextLaws.{text-fits, text-part}
 use borrow.Author.Needs.{needs}
 use Rattle.readtable.proofs.main.Statement.{statement}
 use Rattle.readtable.proofs.main.Tie as tie
-
-slice-aggregate-read-full : tie.Need-slice-aggregate-read-full
-slice-aggregate-read-full c = search needs
-
-read-full-requires : tie.Need-read-full-requires
-read-full-requires c κs = search needs
-
-array-share-prefix-input : tie.Need-array-share-prefix-input
-array-share-prefix-input c = search needs
-
-slice-aggregate-text : tie.Need-slice-aggregate-text
-slice-aggregate-text c = search needs
-
-text-requires : tie.Need-text-requires
-text-requires c κs = search needs
 
 array-share-prefix-out : tie.Need-array-share-prefix-out
 array-share-prefix-out c = text-fits _ _ (c .text .ensures .0) (c .text .ensures .1)
@@ -24,22 +10,16 @@ array-share-prefix-out c = text-fits _ _ (c .text .ensures .0) (c .text .ensures
 slice-aggregate-write-all : tie.Need-slice-aggregate-write-all
 slice-aggregate-write-all c = text-part _ _ (c .before .text .ensures .0) (c .before .text .ensures .1)
 
-write-all-requires : tie.Need-write-all-requires
-write-all-requires c κs = search needs
-
-returns : tie.Need-returns
-returns c = search needs
-
 pub main-spec : {M : Type 1} → statement M
 main-spec =
     tie.close
     (tie.spec
-    slice-aggregate-read-full
-    read-full-requires
-    array-share-prefix-input
-    slice-aggregate-text
-    text-requires
+    (λ c. search needs)
+    (λ c. λ κs. search needs)
+    (λ c. search needs)
+    (λ c. search needs)
+    (λ c. λ κs. search needs)
     array-share-prefix-out
     slice-aggregate-write-all
-    write-all-requires
-    returns)
+    (λ c. λ κs. search needs)
+    (λ c. search needs))

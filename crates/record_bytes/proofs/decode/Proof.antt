@@ -1,3 +1,4 @@
+-- `record_bytes::decode` meets its contract.
 use Rattle.record_bytes.proofs.Steps.{record-of}
 use borrow.Author.Needs.{needs}
 use Rattle.record_bytes.proofs.decode.Statement.{statement}

@@ -1,3 +1,4 @@
+-- `record_bytes::encode` meets its contract.
 use Rattle.record_bytes.proofs.Steps.{record-put}
 use borrow.Author.Needs.{needs}
 use Rattle.record_bytes.proofs.encode.Statement.{statement}

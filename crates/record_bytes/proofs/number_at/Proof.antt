@@ -1,3 +1,4 @@
+-- `record_bytes::number_at` meets its contract.
 use native.Mathlib.Omega.{arith}
 use Rattle.record_bytes.specs.Bytes.{numberAt}
 use borrow.Author.Needs.{needs}

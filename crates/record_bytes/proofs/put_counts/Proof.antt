@@ -1,3 +1,4 @@
+-- `record_bytes::put_counts` meets its contract.
 use Rattle.record_bytes.proofs.Steps.{counts-of}
 use borrow.Author.Needs.{needs}
 use Rattle.record_bytes.proofs.put_counts.Statement.{statement}

@@ -1,3 +1,4 @@
+-- `record_bytes::put_number` meets its contract.
 use Prim.Native.Nat.{_%_}
 use lib.Seq.{lt-length-set}
 use Rattle.record_bytes.proofs.Steps.{put-four, lt-twice, lt-thrice}

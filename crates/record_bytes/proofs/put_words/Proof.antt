@@ -1,3 +1,4 @@
+-- `record_bytes::put_words` meets its contract.
 use Prim.Native.Nat.{_+_, _-_, _*_, _≤_}
 use mathlib.Core.Path.{_≡_, refl}
 use mathlib.Core.List.{_++_}

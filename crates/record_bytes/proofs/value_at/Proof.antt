@@ -1,3 +1,4 @@
+-- `record_bytes::value_at` meets its contract.
 use Rattle.record_bytes.proofs.Steps.{value-of}
 use borrow.Author.Needs.{needs}
 use Rattle.record_bytes.proofs.value_at.Statement.{statement}

@@ -1,3 +1,4 @@
+-- `sealing::seal` meets its contract.
 use borrow.Author.Needs.{needs}
 use Rattle.sealing.proofs.SealLaws.{sealed-refused, sealed-done}
 use Rattle.sealing.proofs.seal.Statement.{statement}

@@ -1,3 +1,4 @@
+-- `sealing::seal_day` meets its contract.
 use borrow.Author.Needs.{needs}
 use Rattle.sealing.proofs.seal_day.Statement.{statement}
 use Rattle.sealing.proofs.seal_day.Tie as tie

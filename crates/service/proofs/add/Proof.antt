@@ -1,3 +1,4 @@
+-- `service::add` meets its contract.
 use borrow.Author.Needs.{needs}
 use Rattle.service.proofs.CallLaws.{add-fits, added-refused, added-done}
 use Rattle.service.proofs.add.Statement.{statement}

@@ -1,3 +1,4 @@
+-- `service::add_refusal` meets its contract.
 use borrow.Author.Needs.{needs}
 use Rattle.service.proofs.RecordLaws.{record-passes}
 use Rattle.service.proofs.CallLaws.{add-early, add-4, add-0}

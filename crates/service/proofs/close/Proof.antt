@@ -1,3 +1,4 @@
+-- `service::close` meets its contract.
 use borrow.Author.Needs.{needs}
 use Rattle.buffers.proofs.Writes.{wrote-as}
 use Rattle.service.specs.Contract.{dayBytes}

@@ -1,3 +1,4 @@
+-- `service::close_refusal` meets its contract.
 use native.Mathlib.Omega.{arith}
 use borrow.Author.Needs.{needs}
 use Rattle.service.proofs.CallLaws.{close-early, close-8, close-0}

@@ -1,3 +1,4 @@
+-- `service::open` meets its contract.
 use borrow.Author.Needs.{needs}
 use Rattle.service.proofs.CallLaws.{opened-refused, opened-done}
 use Rattle.service.proofs.open.Statement.{statement}

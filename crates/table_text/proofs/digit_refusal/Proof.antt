@@ -1,20 +1,15 @@
+-- `table_text::digit_refusal` meets its contract.
 use Rattle.layouts.proofs.AllowedLaws.{layout-asks}
 use Rattle.table_text.proofs.TextLaws.{layout-refused, extra-15, extra-0}
 use borrow.Author.Needs.{needs}
 use Rattle.table_text.proofs.digit_refusal.Statement.{statement}
 use Rattle.table_text.proofs.digit_refusal.Tie as tie
 
-layout-refusal-requires : tie.Need-layout-refusal-requires
-layout-refusal-requires c κs = search needs
-
 returns : tie.Need-returns
 returns c = layout-refused _ _ _ _ _ (c .before .layout-refusal .ensures) (c .if1 .taken)
 
 values-through-requires : tie.Need-values-through-requires
 values-through-requires c κs = layout-asks _ _ _ _ (c .before .layout-refusal .ensures) (c .if1 .left)
-
-wide-requires : tie.Need-wide-requires
-wide-requires c κs = search needs
 
 returns-2 : tie.Need-returns-2
 returns-2 c = extra-15 _ _ _ _ _ (c .before .before .before .before .layout-refusal .ensures) (c .before .before .before .if1 .left) (c .before .before .values-through .ensures) (c .before .wide .ensures) (c .if2 .taken)
@@ -26,9 +21,9 @@ pub digit-refusal-spec : {M : Type 1} → statement M
 digit-refusal-spec =
     tie.close
     (tie.spec
-    layout-refusal-requires
+    (λ c. λ κs. search needs)
     returns
     values-through-requires
-    wide-requires
+    (λ c. λ κs. search needs)
     returns-2
     returns-3)

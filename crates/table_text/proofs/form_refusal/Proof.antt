@@ -1,3 +1,4 @@
+-- `table_text::form_refusal` meets its contract.
 use Rattle.table_text.proofs.TextLaws.{form-not, form-long, form-days, form-0}
 use Rattle.table_text.proofs.form_refusal.Statement.{statement}
 use Rattle.table_text.proofs.form_refusal.Tie as tie

@@ -1,3 +1,4 @@
+-- `table_text::put_text` meets its contract.
 use native.Mathlib.Omega.{arith}
 use Rattle.buffers.proofs.Writes.{wrote-as}
 use Rattle.table_text.proofs.TextLaws.{text-early, d-within, count-fits, digits-fit, outcomes-length, text-read}
@@ -5,38 +6,11 @@ use borrow.Author.Needs.{needs}
 use Rattle.table_text.proofs.put_text.Statement.{statement}
 use Rattle.table_text.proofs.put_text.Tie as tie
 
-read-lines-requires : tie.Need-read-lines-requires
-read-lines-requires c κs = search needs
-
-form-refusal-requires : tie.Need-form-refusal-requires
-form-refusal-requires c κs = search needs
-
-refuse-requires : tie.Need-refuse-requires
-refuse-requires c κs = search needs
-
-same-length : tie.Need-same-length
-same-length c = search needs
-
 returns : tie.Need-returns
 returns c = wrote-as _ (text-early _ (c .before .before .before .before .before .before .read-lines .ensures) (c .before .before .before .before .before .form-refusal .ensures) (c .before .before .before .before .if1 .taken)) (c .before .before .refuse .ensures)
 
-sub-outcomes : tie.Need-sub-outcomes
-sub-outcomes c = search needs
-
-part-outcomes-start : tie.Need-part-outcomes-start
-part-outcomes-start c = search needs
-
-part-outcomes-end : tie.Need-part-outcomes-end
-part-outcomes-end c = search needs
-
-slice-aggregate-outcomes : tie.Need-slice-aggregate-outcomes
-slice-aggregate-outcomes c = search needs
-
 outcomes-requires : tie.Need-outcomes-requires
 outcomes-requires c κs = digits-fit _ (c .before .before .before .before .read-lines .ensures) (c .before .before .before .form-refusal .ensures) (c .before .before .if1 .left)
-
-sub-k : tie.Need-sub-k
-sub-k c = search needs
 
 array-share-prefix-table : tie.Need-array-share-prefix-table
 array-share-prefix-table c = let k = count-fits _ (c .before .before .before .before .before .before .read-lines .ensures) (c .before .before .before .before .before .form-refusal .ensures) (c .before .before .before .before .if1 .left) in omega arith
@@ -47,9 +21,6 @@ slice-aggregate-answer c = outcomes-length _ (c .before .before .before .before 
 answer-requires : tie.Need-answer-requires
 answer-requires c κs = (d-within (c .before .before .before .before .before .before .before .before .before .before .before .args .input .now) (c .before .before .before .before .before .before .before .before .read-lines .ensures) (c .before .before .before .before .before .before .before .form-refusal .ensures) (c .before .before .before .before .before .before .if1 .left), c .before .before .before .before .before .before .before .before .before .before .before .pre)
 
-same-length-2 : tie.Need-same-length-2
-same-length-2 c = search needs
-
 returns-2 : tie.Need-returns-2
 returns-2 c = wrote-as _ (text-read _ (c .before .before .before .before .before .before .before .before .before .before .before .read-lines .ensures) (c .before .before .before .before .before .before .before .before .before .before .form-refusal .ensures) (c .before .before .before .before .before .before .before .before .before .if1 .left) _ _ (c .before .before .before .before .before .before .outcomes .ensures)) (c .before .before .answer .ensures)
 
@@ -57,19 +28,19 @@ pub put-text-spec : {M : Type 1} → statement M
 put-text-spec =
     tie.close
     (tie.spec
-    read-lines-requires
-    form-refusal-requires
-    refuse-requires
-    same-length
+    (λ c. λ κs. search needs)
+    (λ c. λ κs. search needs)
+    (λ c. λ κs. search needs)
+    (λ c. search needs)
     returns
-    sub-outcomes
-    part-outcomes-start
-    part-outcomes-end
-    slice-aggregate-outcomes
+    (λ c. search needs)
+    (λ c. search needs)
+    (λ c. search needs)
+    (λ c. search needs)
     outcomes-requires
-    sub-k
+    (λ c. search needs)
     array-share-prefix-table
     slice-aggregate-answer
     answer-requires
-    same-length-2
+    (λ c. search needs)
     returns-2)

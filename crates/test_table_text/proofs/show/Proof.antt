@@ -1,3 +1,4 @@
+-- `test_table_text::show` meets its contract.
 use Rattle.table_text.proofs.TextLaws.{text-fits, text-part}
 use borrow.Author.Needs.{needs}
 use Rattle.test_table_text.proofs.show.Statement.{statement}

@@ -1,12 +1,7 @@
+-- `checking::compare::outcome` meets its contract.
 use borrow.Author.Needs.{needs}
 use Rattle.checking.proofs.compare.outcome.Statement.{statement}
 use Rattle.checking.proofs.compare.outcome.Tie as tie
-
-bytes-requires : tie.Need-bytes-requires
-bytes-requires c κs = search needs
-
-same-requires : tie.Need-same-requires
-same-requires c κs = search needs
 
 returns : tie.Need-returns
 returns c = rw (← (c .before .before .bytes .ensures), ← (c .before .same .ensures), c .if1 .taken)
@@ -15,4 +10,4 @@ returns-2 : tie.Need-returns-2
 returns-2 c = rw (← (c .before .before .bytes .ensures), ← (c .before .same .ensures), c .if1 .left)
 
 pub outcome-spec : {M : Type 1} → statement M
-outcome-spec = tie.close (tie.spec bytes-requires same-requires returns returns-2)
+outcome-spec = tie.close (tie.spec (λ c. λ κs. search needs) (λ c. λ κs. search needs) returns returns-2)

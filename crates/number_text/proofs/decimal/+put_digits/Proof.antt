@@ -1,3 +1,4 @@
+-- `number_text::decimal::put_digits` meets its contract.
 use Rattle.number_text.proofs.DecimalLaws.{not-zero, place-within, digits-left, decimal-none, decimal-one, decimal-room, decimal-next}
 use Rattle.buffers.proofs.Writes.{wrote-none, wrote-one}
 use mathlib.Core.Path.{_∙_}

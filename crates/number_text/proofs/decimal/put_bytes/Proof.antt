@@ -1,3 +1,4 @@
+-- `number_text::decimal::put_bytes` meets its contract.
 use Rattle.number_text.proofs.DecimalLaws.{bytes-none, bytes-next, bytes-all}
 use Rattle.buffers.specs.Private.{Wrote}
 use borrow.Author.Needs.{needs}
@@ -16,29 +17,8 @@ abbrev μ-loop : tie.MeasureT-loop
 loop-holds : tie.Need-loop-holds Inv-loop μ-loop
 loop-holds c = (search needs, refl, bytes-none (c .args .at) (c .args .bytes .now) (c .args .out .now))
 
-shared-slice-read-out : tie.Need-shared-slice-read-out Inv-loop μ-loop
-shared-slice-read-out c = search needs
-
-add-out : tie.Need-add-out Inv-loop μ-loop
-add-out c = search needs
-
-slice-write-out : tie.Need-slice-write-out Inv-loop μ-loop
-slice-write-out c = search needs
-
-add-i : tie.Need-add-i Inv-loop μ-loop
-add-i c = search needs
-
-loop-less : tie.Need-loop-less Inv-loop μ-loop
-loop-less c = search needs
-
 loop-again : tie.Need-loop-again Inv-loop μ-loop
 loop-again c = (search needs, search needs, bytes-next (c .before .before .before .args .at) (c .before .before .loop .i) (c .before .before .before .args .bytes .now) (c .before .before .before .args .out .now) (c .before .before .loop .out) (c .before .loop-test .taken) (c .before .before .before .pre) (c .before .before .loop .inv .1) (c .before .before .loop .inv .2))
-
-add-result : tie.Need-add-result Inv-loop μ-loop
-add-result c = search needs
-
-same-length : tie.Need-same-length Inv-loop μ-loop
-same-length c = search needs
 
 returns : tie.Need-returns Inv-loop μ-loop
 returns c = bytes-all (c .before .before .args .at) (c .before .loop .i) (c .before .before .args .bytes .now) (c .before .before .args .out .now) (c .before .loop .out) (search needs) (c .before .loop .inv .2)
@@ -50,12 +30,12 @@ put-bytes-spec =
     Inv-loop
     μ-loop
     loop-holds
-    shared-slice-read-out
-    add-out
-    slice-write-out
-    add-i
-    loop-less
+    (λ c. search needs)
+    (λ c. search needs)
+    (λ c. search needs)
+    (λ c. search needs)
+    (λ c. search needs)
     loop-again
-    add-result
-    same-length
+    (λ c. search needs)
+    (λ c. search needs)
     returns)

@@ -1,3 +1,4 @@
+-- `number_text::decimal::put_number` meets its contract.
 use native.Mathlib.Omega.{arith}
 use mathlib.Core.Path.{_∙_}
 use lib.ListN.{length-set}
@@ -5,12 +6,6 @@ use Rattle.number_text.proofs.DecimalLaws.{number-put}
 use borrow.Author.Needs.{needs}
 use Rattle.number_text.proofs.decimal.put_number.Statement.{statement}
 use Rattle.number_text.proofs.decimal.put_number.Tie as tie
-
-slice-write-out : tie.Need-slice-write-out
-slice-write-out c = search needs
-
-add-put-digits : tie.Need-add-put-digits
-add-put-digits c = search needs
 
 put-digits-requires : tie.Need-put-digits-requires
 put-digits-requires c κs = omega (arith, length-set (c .before .before .args .out .now) (c .before .before .args .at) 44)
@@ -23,4 +18,4 @@ returns c = number-put (c .before .before .before .before .before .args .at) (c 
 
 pub put-number-spec : {M : Type 1} → statement M
 put-number-spec =
-    tie.close (tie.spec slice-write-out add-put-digits put-digits-requires same-length returns)
+    tie.close (tie.spec (λ c. search needs) (λ c. search needs) put-digits-requires same-length returns)

@@ -1,3 +1,4 @@
+-- `service::day::grow` meets its contract.
 use borrow.Author.Needs.{needs}
 use Rattle.service.specs.Contract.{grown}
 use Rattle.service.proofs.day.grow.Statement.{statement}

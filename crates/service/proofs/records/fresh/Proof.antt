@@ -1,3 +1,4 @@
+-- `service::records::fresh` meets its contract.
 use borrow.Author.Needs.{needs}
 use Rattle.service.specs.Contract.{fresh}
 use Rattle.service.proofs.records.fresh.Statement.{statement}

@@ -1,3 +1,4 @@
+-- `service::records::refusal` meets its contract.
 use borrow.Author.Needs.{needs}
 use Rattle.service.proofs.RecordLaws.{record-6, record-5, record-0}
 use Rattle.service.proofs.records.refusal.Statement.{statement}

@@ -1,3 +1,4 @@
+-- `service::records::zeros` meets its contract.
 use mathlib.Core.Path.{refl}
 use Rattle.service.specs.Contract.{zeros, noValue}
 use Rattle.service.proofs.records.zeros.Statement.{statement}

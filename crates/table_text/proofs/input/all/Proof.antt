@@ -1,3 +1,4 @@
+-- `table_text::input::all` meets its contract.
 use Rattle.table_text.proofs.InputLaws.{scheme-fails, n-fails, f-fails, d-fails, line-passes}
 use Rattle.table_text.proofs.input.all.Statement.{statement}
 use Rattle.table_text.proofs.input.all.Tie as tie

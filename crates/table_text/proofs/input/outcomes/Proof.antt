@@ -1,3 +1,4 @@
+-- `table_text::input::outcomes` meets its contract.
 use Rattle.table_text.proofs.InputLaws.{outcomes-next, outcomes-done}
 use Rattle.number_text.specs.Numbers.{digitOf}
 use borrow.Author.Needs.{needs}
@@ -17,26 +18,8 @@ abbrev μ-loop : tie.MeasureT-loop
 loop-holds : tie.Need-loop-holds Inv-loop μ-loop
 loop-holds c = (search needs, refl, refl)
 
-shared-slice-read-digit : tie.Need-shared-slice-read-digit Inv-loop μ-loop
-shared-slice-read-digit c = search needs
-
-digit-requires : tie.Need-digit-requires Inv-loop μ-loop
-digit-requires c κs = search needs
-
-slice-write-to : tie.Need-slice-write-to Inv-loop μ-loop
-slice-write-to c = search needs
-
-add-i : tie.Need-add-i Inv-loop μ-loop
-add-i c = search needs
-
-loop-less : tie.Need-loop-less Inv-loop μ-loop
-loop-less c = search needs
-
 loop-again : tie.Need-loop-again Inv-loop μ-loop
 loop-again c = (search needs, search needs, outcomes-next (c .before .before .before .before .before .before .args .ds .now) (c .before .before .before .before .before .before .args .to .now) (c .before .before .before .loop .to) (c .before .before .before .loop .i) (c .before .before .loop-test .taken) (c .before .before .before .before .before .before .pre) (c .before .before .before .loop .inv .2) (c .digit .ensures))
-
-same-length : tie.Need-same-length Inv-loop μ-loop
-same-length c = search needs
 
 returns : tie.Need-returns Inv-loop μ-loop
 returns c = outcomes-done (c .before .before .before .before .args .ds .now) (c .before .before .before .before .args .to .now) (c .before .loop .to) (c .before .loop .i) (search needs) (c .before .loop .inv .2)
@@ -48,11 +31,11 @@ outcomes-spec =
     Inv-loop
     μ-loop
     loop-holds
-    shared-slice-read-digit
-    digit-requires
-    slice-write-to
-    add-i
-    loop-less
+    (λ c. search needs)
+    (λ c. λ κs. search needs)
+    (λ c. search needs)
+    (λ c. search needs)
+    (λ c. search needs)
     loop-again
-    same-length
+    (λ c. search needs)
     returns)

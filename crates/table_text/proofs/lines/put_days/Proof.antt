@@ -1,3 +1,4 @@
+-- `table_text::lines::put_days` meets its contract.
 use Rattle.table_text.proofs.LineLaws.{days-none, days-room, days-next, days-all}
 use Rattle.table_text.specs.Text.{dayLines}
 use Rattle.buffers.specs.Private.{Wrote}
@@ -17,32 +18,11 @@ abbrev μ-loop : tie.MeasureT-loop
 loop-holds : tie.Need-loop-holds Inv-loop μ-loop
 loop-holds c = (search needs, refl, days-none (c .before .before .args .at) (c .before .before .args .days .now) (c .before .before .args .out .now))
 
-mul-t8 : tie.Need-mul-t8 Inv-loop μ-loop
-mul-t8 c = search needs
-
-shared-slice-read-t11 : tie.Need-shared-slice-read-t11 Inv-loop μ-loop
-shared-slice-read-t11 c = search needs
-
-slice-aggregate-put-line : tie.Need-slice-aggregate-put-line Inv-loop μ-loop
-slice-aggregate-put-line c = search needs
-
-slice-aggregate-put-line-2 : tie.Need-slice-aggregate-put-line-2 Inv-loop μ-loop
-slice-aggregate-put-line-2 c = search needs
-
 put-line-requires : tie.Need-put-line-requires Inv-loop μ-loop
 put-line-requires c κs = days-room (c .before .before .before .before .before .before .before .before .args .at) (c .before .before .before .before .before .loop .i) (c .before .before .before .before .before .loop .next) _ (c .before .before .before .before .before .before .before .before .args .days .now) (c .before .before .before .before .before .before .before .before .args .out .now) (c .before .before .before .before .before .loop .out) (c .before .before .before .before .before .before .before .before .pre) (c .before .before .before .before .before .loop .inv .1) (c .before .before .before .before .before .loop .inv .2)
 
-add-i : tie.Need-add-i Inv-loop μ-loop
-add-i c = search needs
-
-loop-less : tie.Need-loop-less Inv-loop μ-loop
-loop-less c = search needs
-
 loop-again : tie.Need-loop-again Inv-loop μ-loop
 loop-again c = (search needs, search needs, days-next (c .before .before .before .before .before .before .before .before .before .before .before .args .at) (c .before .before .before .before .before .before .before .before .loop .i) (c .before .before .before .before .before .before .before .before .loop .next) (c .before .before .put-line .result) (c .before .before .before .before .before .before .before .before .before .before .before .args .days .now) (c .before .before .before .before .before .before .before .before .before .before .before .args .out .now) (c .before .before .before .before .before .before .before .before .loop .out) _ (c .before .before .before .before .before .before .before .loop-test .taken) (c .before .before .before .before .before .before .before .before .before .before .before .pre) (c .before .before .before .before .before .before .before .before .loop .inv .2) (c .before .before .put-line .ensures))
-
-same-length : tie.Need-same-length Inv-loop μ-loop
-same-length c = search needs
 
 returns : tie.Need-returns Inv-loop μ-loop
 returns c = days-all (c .before .before .before .before .args .at) (c .before .loop .i) (c .before .loop .next) (c .before .before .before .before .args .days .now) (c .before .before .before .before .args .out .now) (c .before .loop .out) (search needs) (c .before .loop .inv .2)
@@ -54,13 +34,13 @@ put-days-spec =
     Inv-loop
     μ-loop
     loop-holds
-    mul-t8
-    shared-slice-read-t11
-    slice-aggregate-put-line
-    slice-aggregate-put-line-2
+    (λ c. search needs)
+    (λ c. search needs)
+    (λ c. search needs)
+    (λ c. search needs)
     put-line-requires
-    add-i
-    loop-less
+    (λ c. search needs)
+    (λ c. search needs)
     loop-again
-    same-length
+    (λ c. search needs)
     returns)

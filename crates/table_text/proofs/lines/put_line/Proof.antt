@@ -1,3 +1,4 @@
+-- `table_text::lines::put_line` meets its contract.
 use mathlib.Core.Path.{_∙_}
 use lib.ListN.{length-set}
 use native.Mathlib.Omega.{arith}
@@ -5,12 +6,6 @@ use Rattle.table_text.proofs.LineLaws.{line-room, line-put}
 use borrow.Author.Needs.{needs}
 use Rattle.table_text.proofs.lines.put_line.Statement.{statement}
 use Rattle.table_text.proofs.lines.put_line.Tie as tie
-
-put-bytes-requires : tie.Need-put-bytes-requires
-put-bytes-requires c κs = search needs
-
-put-numbers-requires : tie.Need-put-numbers-requires
-put-numbers-requires c κs = search needs
 
 slice-write-out : tie.Need-slice-write-out
 slice-write-out c = line-room (c .before .before .before .before .before .before .before .before .before .before .before .args .at) (c .before .before .before .before .before .before .put-bytes .result) (c .before .before .put-numbers .result) _ (c .before .before .before .before .before .before .before .before .before .before .before .args .word .now) (c .before .before .before .before .before .before .before .before .before .before .before .args .numbers .now) (c .before .before .before .before .before .before .before .before .before .before .before .args .out .now) _ _ (c .before .before .before .before .before .before .before .before .before .before .before .pre) (c .before .before .put-numbers .kept .0 ∙ c .before .before .before .before .before .before .put-bytes .kept .0) (c .before .before .before .before .before .before .put-bytes .ensures) (c .before .before .put-numbers .ensures)
@@ -27,4 +22,4 @@ returns c = line-put (c .before .before .before .before .before .before .before 
 pub put-line-spec : {M : Type 1} → statement M
 put-line-spec =
     tie.close
-    (tie.spec put-bytes-requires put-numbers-requires slice-write-out add-result same-length returns)
+    (tie.spec (λ c. λ κs. search needs) (λ c. λ κs. search needs) slice-write-out add-result same-length returns)

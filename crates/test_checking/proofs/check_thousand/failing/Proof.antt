@@ -1,3 +1,4 @@
+-- `test_checking::check_thousand::failing` meets its contract.
 use borrow.Author.Needs.{needs}
 use Prim.Native.Nat.{_≤_, _-_}
 use lib.ListN.{length}

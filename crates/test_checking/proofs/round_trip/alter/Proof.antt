@@ -1,3 +1,4 @@
+-- `test_checking::round_trip::alter` meets its contract.
 use Prim.Native.Nat.{_-_, _≤_}
 use mathlib.Core.Path.{_≡_, refl}
 use lib.ListN.{length}

@@ -1,3 +1,4 @@
+-- `test_samples::days::fill` meets its contract.
 use borrow.Author.Needs.{needs}
 use Prim.Native.Nat.{_≤_, _-_}
 use mathlib.Core.Path.{_≡_}

@@ -1,3 +1,4 @@
+-- `test_samples::lent::kept` meets its contract.
 use borrow.Author.Needs.{needs}
 use Prim.Native.Nat.{_≤_}
 use lib.ListN.{length}

@@ -1,3 +1,4 @@
+-- `test_samples::print::hex` meets its contract.
 use Prim.Native.Nat.{_≤_, _-_}
 use lib.ListN.{length}
 use borrow.Author.Needs.{needs}
