@@ -2,5 +2,4 @@ pub mod RefusalLaws
 pub mod ValueLaws
 pub mod Through
 pub mod CallLaws
-pub mod CheckLaws
 pub mod Statements

@@ -1,10 +1,10 @@
 -- Laws of a message that comes in pieces: any cutting gives the digest of the whole.
 -- Assumes nothing.
-use Prim.Native.Nat.{ℕ, _+_, _-_, _*_, _/_, _%_, _≤_, _<_}
+use Prim.Native.Nat.{ℕ, _+_, _-_, _*_, _/_, _%_, _<_}
 use mathlib.Core.Path.{_≡_, refl, sym, ap, ap₂, _∙_}
 use mathlib.Core.List.{List, [], _∷_, _++_, append-assoc, append-nil}
 use native.Mathlib.Omega.{arith}
-use lib.ListN.{length, take, drop, replicate, length-append, length-drop, drop-of-length-le, length-replicate}
+use lib.ListN.{length, take, drop, replicate, length-append, length-drop, drop-of-length-le}
 use lib.Seq.{drop-append-le, drop-drop, take-at}
 use Rattle.sha256_words.specs.Words.{initial}
 use Rattle.sha256.specs.Sha256.{chunks, blocks, padding, hashed}
@@ -58,10 +58,6 @@ rest-cons x y p = sym (rest-rest x y) ∙ ap (λ (b : List ℕ). rest (b ++ y)) 
 pub take-filled : (l : List ℕ) (n : ℕ) → n ≡ length l → take n (filled l) ≡ l
 unfolding filled
 take-filled l n e = take-at l (replicate (64 - length l) 0) n (sym e)
-
-pub length-filled : (l : List ℕ) → length l ≤ 64 → length (filled l) ≡ 64
-unfolding filled
-length-filled l p = rw (length-append, length-replicate) (omega arith)
 
 -- ---- pieces
 

@@ -16,12 +16,9 @@ use Rattle.refusals.proofs.TestLaws.{none-fails, all-pass, pass-split, refused-
 use Rattle.buffers.specs.Private.{Wrote}
 use Rattle.layouts.specs.Layouts.{layoutTests, layoutRefusal, chains}
 use Rattle.acceptance.proofs.Runs.{keep-length}
-use Rattle.reading.specs.declared.Numbers.{Numbers}
-use Rattle.reading.specs.declared.Reading.{Reading}
-use Rattle.reading.specs.declared.Reading.the-variants.{Clean, Changed, Refused}
 use Rattle.reading.specs.Numbers.{lastGood}
 use Rattle.reading.specs.Contract as reading
-use Rattle.reading.specs.Contract.{reportOf, tableIn, outcomeTests, readRefusal, listedIn, found, readout}
+use Rattle.reading.specs.Contract.{tableIn, outcomeTests, readRefusal, listedIn, found, readout}
 use Rattle.reading.proofs.RefusalLaws.{table-refused}
 use Rattle.reading.proofs.Report.{readout-found}
 use Rattle.reading.proofs.Statements.{refusal-said, count-found}
@@ -63,19 +60,6 @@ module _ (s n f d count : ℕ) {r : ℕ} (e : r ≡ layoutRefusal s n f d) where
   extra-0 z q k h = extra-last z (le-leb count (length (chains s n d)) (omega arith))
 
 -- ---- what reading said
-
-pub report-clean : (d : ℕ) {a : Reading} → a ≡ Clean → ReportIs (reportOf d a) (record { refusal = 0; listed = 0; first = 0; low = 0; high = 0; «last_good» = d })
-unfolding reportOf
-report-clean d e = rw e (record { refusal-is = refl; listed-is = refl; first-is = refl; low-is = refl; high-is = refl; last-good-is = refl })
-
-pub report-changed : (d : ℕ) {a : Reading} {m : Numbers} → a ≡ Changed m →
-    ReportIs (reportOf d a) (record { refusal = 0; listed = m .listed; first = m .first; low = m .low; high = m .high; «last_good» = m .«last_good» })
-unfolding reportOf
-report-changed d e = rw e (record { refusal-is = refl; listed-is = refl; first-is = refl; low-is = refl; high-is = refl; last-good-is = refl })
-
-pub report-refused : (d : ℕ) {a : Reading} {x : ℕ} → a ≡ Refused x → ReportIs (reportOf d a) (record { refusal = x; listed = 0; first = 0; low = 0; high = 0; «last_good» = 0 })
-unfolding reportOf
-report-refused d e = rw e (record { refusal-is = refl; listed-is = refl; first-is = refl; low-is = refl; high-is = refl; last-good-is = refl })
 
 -- ---- room for the day lines
 
