@@ -59,8 +59,6 @@ module _ (s n f d count : ℕ) {r : ℕ} (e : r ≡ layoutRefusal s n f d) where
   pub extra-0 : r ≡ 0 → {v w : ℕ} → v ≡ length (chains s n d) → w ≡ v → count ≤ w → 0 ≡ firstRefusal (digitTests s n f d count)
   extra-0 z q k h = extra-last z (le-leb count (length (chains s n d)) (omega arith))
 
--- ---- what reading said
-
 -- ---- room for the day lines
 
 days-kept : (p : ℕ → Bool) (xs : List ℕ) → length (dayLines (keep p xs)) ≤ length (dayLines xs)
