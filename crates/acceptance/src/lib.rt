@@ -7,7 +7,8 @@ ghost use Prim.Native.Nat.{suc, _≤_, _<_};
 ghost use Rattle.lists.specs.Lists.{upFrom, every};
 ghost use Rattle.layouts.specs.Layouts as layout;
 ghost use Rattle.acceptance.specs.Private as rule;
-ghost use Rattle.acceptance.specs.Private.{Table, Interval, Chain, tileRule, blockRule, halvesRule, levelRule, levelsRule, blocksRule};
+ghost use Rattle.acceptance.specs.Private.{Table, Interval, Chain, tileRule, blockRule, halvesRule, levelRule};
+ghost use Rattle.acceptance.specs.Private.{levelsRule, blocksRule};
 
 fn implies(a: bool, b: bool) -> bool
     ensures { λ r. ⌜ r ≡ not a || b ⌝ }

@@ -9,7 +9,8 @@ ghost use lib.ListN.{length, take};
 ghost use Rattle.refusals.specs.Refusals.{bookLimit};
 ghost use Rattle.layouts.specs.Layouts.{allowedScheme, allowedN, namesOfDay};
 ghost use Rattle.chains.specs.Step as spec;
-ghost use Rattle.chains.specs.Step.{startValue, linked, linksSlot, storesSlot, storesBlack, linkSlot, restartSlot, linkedSlots, restarted, dayValues};
+ghost use Rattle.chains.specs.Step.{startValue, linked, linksSlot, storesSlot, storesBlack, linkSlot};
+ghost use Rattle.chains.specs.Step.{restartSlot, linkedSlots, restarted, dayValues};
 ghost use Rattle.chains.specs.Private.{Stepped};
 
 pub struct Value {

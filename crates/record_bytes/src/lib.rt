@@ -5,7 +5,8 @@ ghost use mathlib.Core.Path.{_≡_};
 ghost use mathlib.Core.List.{[], _∷_, _++_};
 ghost use Prim.Native.Nat.{_+_, _≤_, _<_};
 ghost use lib.ListN.{length, take, drop};
-ghost use Rattle.record_bytes.specs.Bytes.{hashAt, runningAt, blockAt, recordSize, numbersBytes, slotsBytes, recordBytes, numberAt, valueAt, slotsAt, recordOf};
+ghost use Rattle.record_bytes.specs.Bytes.{hashAt, runningAt, blockAt, recordSize, numbersBytes, slotsBytes};
+ghost use Rattle.record_bytes.specs.Bytes.{recordBytes, numberAt, valueAt, slotsAt, recordOf};
 
 // Where the open day's hash begins, after the five numbers.
 const HASH_AT: usize = 20;

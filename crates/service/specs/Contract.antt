@@ -5,7 +5,8 @@ use mathlib.Core.List.{List, [], _∷_, _++_}
 use Prim.Native.Nat.{ℕ, zero, suc, _+_, _*_}
 use lib.Dec.{leb, ltb}
 use lib.ListN.{length, replicate}
-use Rattle.refusals.specs.Refusals.{bookLimit, dayLimit, Test, _orRefuse_, firstRefusal, answerOf, unlessRefused, frontWritten}
+use Rattle.refusals.specs.Refusals.{bookLimit, dayLimit, Test, _orRefuse_, firstRefusal, answerOf, unlessRefused}
+use Rattle.refusals.specs.Refusals.{frontWritten}
 use Rattle.hasher.specs.declared.Hasher.{Hasher}
 use Rattle.hasher.specs.Hasher.{begun, absorbed, finished}
 use Rattle.layouts.specs.Layouts.{allowedScheme, allowedN, allowedF, setupRefusal, chainsOfDay}

@@ -6,7 +6,8 @@ mod records;
 use chains::Value;
 use refusals::Answer;
 ghost use mathlib.Core.Path.{_≡_};
-ghost use Rattle.service.specs.Contract.{opened, addRefusal, added, closeRefusal, closing, writingNumber, countOf};
+ghost use Rattle.service.specs.Contract.{opened, addRefusal, added, closeRefusal, closing, writingNumber};
+ghost use Rattle.service.specs.Contract.{countOf};
 
 // 01's five numbers, and the running hashes: of the open day (hash, block) and of the chains.
 pub struct Record {

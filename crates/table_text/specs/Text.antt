@@ -9,7 +9,8 @@ use Rattle.refusals.specs.Refusals.{Test, _orRefuse_, firstRefusal, unlessRefus
 use Rattle.layouts.specs.Layouts.{layoutTests, chains}
 use Rattle.reading.specs.Numbers.{lastGood}
 use Rattle.reading.specs.Contract.{Report, tableIn, outcomeTests, listedIn, found}
-use Rattle.number_text.specs.Numbers.{comma, lineFeed, digitOf, digits, afterDigits, isField, valueIn, afterField, commaNumbers}
+use Rattle.number_text.specs.Numbers.{comma, lineFeed, digitOf, digits, afterDigits, isField, valueIn, afterField}
+use Rattle.number_text.specs.Numbers.{commaNumbers}
 
 -- ---- the two lines (SPEC 12.1): `scheme,N,F,D`, and the outcomes
 
