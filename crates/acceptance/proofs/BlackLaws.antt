@@ -12,7 +12,8 @@ use lib.Seq.{getD-at}
 use borrow.Author.Tests.{eqb-true, eq-eqb}
 use Rattle.lists.specs.Lists.{_among_, upFrom}
 use Rattle.lists.proofs.Laws.{true-or-false, and-both, upFrom-mem, keep-mem, upFrom-snoc}
-use Rattle.layouts.specs.Layouts.{divides, lg, Name, black, tile, tree, lastDays, coveredDays, levels, storedOnce, namesOfDay, namesThrough, chains, position, blackAt}
+use Rattle.layouts.specs.Layouts.{divides, lg, Name, black, tile, tree, lastDays, coveredDays, levels, storedOnce, namesOfDay, namesThrough, chains, blackAt}
+use Rattle.layouts.specs.Private.{position}
 use Rattle.layouts.proofs.Coverage.{divisor-le, namesThrough-suc, namesThrough-add}
 use Rattle.layouts.proofs.Counts.{power-of}
 use Rattle.layouts.proofs.Positions.{levels-run, level-in, in-day, to-chains}

@@ -11,7 +11,8 @@ use lib.ListN.{length, getD, length-append, length-map}
 use Rattle.lists.specs.Lists.{_among_, upFrom}
 use Rattle.evidence.specs.Evidence.{days, Within, meets, setOutcome, tableOf, Gives}
 use Rattle.lists.proofs.Laws.{true-or-false, and-both, upFrom-mem, upFrom-bounds, keep-mem, mem-keep, map-same, length-upFrom, upFrom-append}
-use Rattle.layouts.specs.Layouts.{divides, lg, Name, black, tile, tree, lastDays, coveredDays, levels, storedOnce, namesOfDay, namesThrough, chains, position}
+use Rattle.layouts.specs.Layouts.{divides, lg, Name, black, tile, tree, lastDays, coveredDays, levels, storedOnce, namesOfDay, namesThrough, chains}
+use Rattle.layouts.specs.Private.{position}
 use Rattle.layouts.proofs.Coverage.{divisor-le, cond-mem, namesThrough-suc, namesThrough-at, namesThrough-in}
 use Rattle.layouts.proofs.Counts.{below-pow}
 use Rattle.layouts.proofs.Positions.{levels-run}

@@ -11,7 +11,8 @@ use lib.Pow.{pow-pos}
 use borrow.Author.Tests.{eq-eqb, ne-eqb, le-leb, lt-leb, not-true, not-false}
 use Rattle.lists.specs.Lists.{upFrom, every}
 use Rattle.lists.proofs.Laws.{upFrom-mem, every-more, every-fails}
-use Rattle.layouts.specs.Layouts.{divides, allowedScheme, allowedN, lg, Name, black, tile, tree, chains, position}
+use Rattle.layouts.specs.Layouts.{divides, allowedScheme, allowedN, lg, Name, black, tile, tree, chains}
+use Rattle.layouts.specs.Private.{position}
 use Rattle.layouts.proofs.AllowedLaws.{allowed-n-is, allowed-scheme-is}
 use Rattle.layouts.proofs.Coverage.{divisor-le, chains-front}
 use Rattle.layouts.proofs.Positions.{divides-half}

@@ -9,7 +9,8 @@ use lib.Dec.{eqb, leb}
 use lib.ListN.{length, getD}
 use Rattle.refusals.specs.Refusals.{bookLimit}
 use Rattle.lists.specs.Lists.{every, upFrom}
-use Rattle.layouts.specs.Layouts.{divides, allowedScheme, allowedN, lg, Name, black, tile, tree, chains, position}
+use Rattle.layouts.specs.Layouts.{divides, allowedScheme, allowedN, lg, Name, black, tile, tree, chains}
+use Rattle.layouts.specs.Private.{position}
 
 -- what the tests 1 2 3 7 12 leave of a table
 pub record Table (scheme n d : ℕ) (t : List ℕ) : Type 0 where

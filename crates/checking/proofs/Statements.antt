@@ -15,7 +15,8 @@ use Rattle.refusals.specs.declared.Answer.the-variants.{Done}
 use Rattle.refusals.specs.Refusals.{dayLimit, firstRefusal, answerOf, frontWritten}
 use Rattle.refusals.proofs.TestLaws.{same-refusal}
 use Rattle.layouts.specs.Layouts.{layoutTests, chains}
-use Rattle.ledger.specs.Ledger.{startOf, endOf, goodEnds, endsTests, endsRefusal, daysOf, EndsHold}
+use Rattle.ledger.specs.Ledger.{startOf, endOf, goodEnds, endsTests, endsRefusal, daysOf}
+use Rattle.ledger.specs.Private.{EndsHold}
 use Rattle.ledger.proofs.EndLaws.{good-at, at-good, good-end, end-good, refusal-read, start-ascends}
 use Rattle.ledger.proofs.DayLaws.{days-read}
 use Rattle.sha256.specs.Sha256.{sha256}

@@ -8,7 +8,7 @@ use lib.ListN.{length, take, drop}
 use Rattle.lists.specs.Lists.{same}
 use Rattle.refusals.specs.Refusals.{bookLimit}
 use Rattle.layouts.specs.Layouts.{allowedScheme, allowedN, namesOfDay, chains}
-use Rattle.ledger.specs.Ledger.{EndsHold}
+use Rattle.ledger.specs.Private.{EndsHold}
 use Rattle.sha256_words.specs.Words.{bytesOf}
 use Rattle.chains.specs.declared.Value.{Value}
 

@@ -14,7 +14,8 @@ use Rattle.refusals.proofs.TestLaws.{all-pass}
 use Rattle.evidence.specs.Evidence.{days, dayOf}
 use Rattle.layouts.specs.Layouts.{setupRefusal, chains, chainsOfDay}
 use Rattle.layouts.proofs.Coverage.{chains-suc, chains-front}
-use Rattle.ledger.specs.Ledger.{dayAt, daysOf, EndsHold}
+use Rattle.ledger.specs.Ledger.{dayAt, daysOf}
+use Rattle.ledger.specs.Private.{EndsHold}
 use Rattle.ledger.proofs.DayLaws.{days-none, days-snoc, days-length, days-at, days-at-length}
 use Rattle.chains.specs.Book.{bookOf}
 use Rattle.service.specs.Contract.{opened}

@@ -101,13 +101,13 @@ module _ (H : List ℕ → List ℕ) (sized : (x : List ℕ) → length (H x) �
   DaysTold A B c = (g : ℕ) → g among c → digest H (dayOf A g) ≡ digest H (dayOf B g) → dayOf A g ≡ dayOf B g
 
   -- values that agree come from values and days that agree
-  back : (A B : List (List ℕ)) (c : List ℕ) (v w : List ℕ) → length v ≡ 32 → length w ≡ 32 → DaysTold A B c →
+  agree-back : (A B : List (List ℕ)) (c : List ℕ) (v w : List ℕ) → length v ≡ 32 → length w ≡ 32 → DaysTold A B c →
       NoCollision H (linkInputs H v A c) (linkInputs H w B c) →
       value H v A c ≡ value H w B c → (v ≡ w) × ((g : ℕ) → g among c → dayOf A g ≡ dayOf B g)
-  back A B [] v w hv hw day nc e = (e, λ g m. elim m [ ])
-  back A B (g ∷ c) v w hv hw day nc e =
+  agree-back A B [] v w hv hw day nc e = (e, λ g m. elim m [ ])
+  agree-back A B (g ∷ c) v w hv hw day nc e =
       step
-      (back A B c (H (linkInput H A v g)) (H (linkInput H B w g)) (sized (linkInput H A v g)) (sized (linkInput H B w g)) (λ x m. day x (List·Memᴰ·tail m))
+      (agree-back A B c (H (linkInput H A v g)) (H (linkInput H B w g)) (sized (linkInput H A v g)) (sized (linkInput H B w g)) (λ x m. day x (List·Memᴰ·tail m))
       (λ x y mx my. nc x y (List·Memᴰ·tail mx) (List·Memᴰ·tail my)) e)
     where
       a : List ℕ
@@ -145,7 +145,7 @@ module _ (H : List ℕ → List ℕ) (sized : (x : List ℕ) → length (H x) �
     pub value-iff : (c : List ℕ) → c among chains → (value H start A c ≡ value H start B c) ↔ ((g : ℕ) → g among c → dayOf A g ≡ dayOf B g)
     unfolding inputs
     value-iff c m = (
-      λ e. back A B c start start started started (told c m)
+      λ e. agree-back A B c start start started started (told c m)
           (λ x y mx my.
           nc x y (Memᴰ·append-right (dayParts d A) (chain-inputs-mem H start A m x mx)) (Memᴰ·append-right (dayParts d B) (chain-inputs-mem H start B m y my))) e .1,
       λ f. value-same H A B c start f,

@@ -17,7 +17,8 @@ use Rattle.lists.proofs.Laws.{split, true-or-false, and-both, has-mem, upFrom-m
 use Rattle.refusals.specs.Refusals.{bookLimit, _orRefuse_}
 use Rattle.refusals.proofs.TestLaws.{Pass, none-fails, pass-split, refused-before, refused-after}
 use Rattle.layouts.specs.Statements.{ValuesCounted, BookFront}
-use Rattle.layouts.specs.Layouts.{divides, allowedScheme, allowedN, allowedF, allowedD, setupTests, layoutTests, setupRefusal, layoutRefusal, lg, black, covers, namesThrough, coveredDays, chainsOfDay, chains, position}
+use Rattle.layouts.specs.Layouts.{divides, allowedScheme, allowedN, allowedF, allowedD, setupTests, layoutTests, setupRefusal, layoutRefusal, lg, black, covers, namesThrough, coveredDays, chainsOfDay, chains}
+use Rattle.layouts.specs.Private.{position}
 use Rattle.layouts.proofs.Coverage.{divisor-le, chains-suc, chains-front}
 use Rattle.layouts.proofs.Counts.{lg-unique, ones-small, digits, digits-small, through, count-through, values-length}
 
@@ -210,11 +211,11 @@ tree-sum n g e l =
 
 pub record TreeSum (n g : ℕ) : Type 0 where
   pub positive : 0 < n
-  pub first : ones g ≤ 2 * g
-  pub second : 2 * g - ones g + g / n < 2 ^ 32
-  pub third : leadingZeros 32 (g / n) ≤ 32
-  pub fourth : 32 - leadingZeros 32 (g / n) ≤ 2 * g - ones g + g / n
-  pub whole : 2 * g - ones g + g / n - (32 - leadingZeros 32 (g / n)) ≡ length (chains 3 n g)
+  pub ones-less : ones g ≤ 2 * g
+  pub sum-fits : 2 * g - ones g + g / n < 2 ^ 32
+  pub zeros-most : leadingZeros 32 (g / n) ≤ 32
+  pub digits-less : 32 - leadingZeros 32 (g / n) ≤ 2 * g - ones g + g / n
+  pub sum-is : 2 * g - ones g + g / n - (32 - leadingZeros 32 (g / n)) ≡ length (chains 3 n g)
 
 pub tree-sum-is : (n g : ℕ) → allowedN n ≡ true → g ≤ 65536 → TreeSum n g
 tree-sum-is n g e l =
@@ -225,11 +226,11 @@ tree-sum-is n g e l =
     let k = digits-small (g / n) in
     record {
       positive = p .some;
-      first = omega arith;
-      second = omega arith;
-      third = w .0;
-      fourth = omega (arith, w .1);
-      whole = sym (tree-sum n g e l);
+      ones-less = omega arith;
+      sum-fits = omega arith;
+      zeros-most = w .0;
+      digits-less = omega (arith, w .1);
+      sum-is = sym (tree-sum n g e l);
     }
 
 pub tile-bound : (n g : ℕ) → allowedN n ≡ true → g ≤ 65536 → g / n * (2 + lg n) < 2 ^ 32

@@ -13,7 +13,8 @@ use lib.Seq.{getD-append-add}
 use borrow.Author.Tests.{eqb-true, eq-eqb}
 use Rattle.lists.specs.Lists.{_among_, upFrom, keep}
 use Rattle.lists.proofs.Laws.{split, true-or-false, upFrom-mem, upFrom-bounds, mem-keep, length-upFrom}
-use Rattle.layouts.specs.Layouts.{divides, lg, Name, black, tile, tree, coveredDays, levels, storesBlackOfTree, namesOfDay, namesThrough, chains, position}
+use Rattle.layouts.specs.Layouts.{divides, lg, Name, black, tile, tree, coveredDays, levels, storesBlackOfTree, namesOfDay, namesThrough, chains}
+use Rattle.layouts.specs.Private.{position}
 use Rattle.layouts.proofs.Coverage.{divisor-le, namesThrough-suc, namesThrough-add}
 use Rattle.layouts.proofs.Counts.{below-pow}
 

@@ -5,7 +5,6 @@ use mathlib.Core.List.{List, [], _∷_, _++_, map, flatMap}
 use Prim.Native.Nat.{ℕ, zero, suc, pred, _+_, _-_, _*_, _/_, _%_, _^_}
 use lib.Count.{ones}
 use lib.Dec.{eqb, leb}
-use lib.ListN.{length}
 use Rattle.lists.specs.Lists.{has, upFrom, keep}
 use Rattle.evidence.specs.Evidence.{days}
 use Rattle.refusals.specs.Refusals.{bookLimit, Test, _orRefuse_, firstRefusal}
@@ -105,12 +104,6 @@ valueCount (suc zero) n d = d / n
 valueCount (suc (suc zero)) n d = d / n * (2 + lg n)
 valueCount (suc (suc (suc zero))) n d = 2 * d - ones d + d / n - (1 + lg (d / n))
 valueCount (suc (suc (suc (suc s)))) n d = 0
-
--- a value's place in the book (SPEC 4.11), from 0: after the values of the days before, by index or level; black last
-abbrev pub position : ℕ → ℕ → Name → ℕ
-position scheme n (black g) = pred (length (namesThrough scheme n g))
-position scheme n (tile i g) = length (namesThrough scheme n (pred g)) + i
-position scheme n (tree l g) = length (namesThrough scheme n (pred g)) + l
 
 -- ---- refusals
 

@@ -6,7 +6,8 @@ ghost use Prim.Native.Nat.{_/_, _^_, _≤_, _<_};
 ghost use lib.ListN.{length};
 ghost use Rattle.refusals.specs.Refusals.{bookLimit};
 ghost use Rattle.layouts.specs.Layouts.{allowedScheme, allowedN, allowedF, allowedD, setupRefusal};
-ghost use Rattle.layouts.specs.Layouts.{layoutRefusal, black, tile, tree, chains, chainsOfDay, position};
+ghost use Rattle.layouts.specs.Layouts.{layoutRefusal, black, tile, tree, chains, chainsOfDay};
+ghost use Rattle.layouts.specs.Private.{position};
 ghost use Rattle.layouts.specs.Layouts as spec;
 
 fn allowed_scheme(scheme: u32) -> bool

@@ -7,7 +7,8 @@ use native.Mathlib.Nat.{eq-or-lt-of-le, le-refl}
 use native.Mathlib.Omega.{arith}
 use lib.ListN.{length, getD, take, drop, length-append, length-drop, List·getD-append}
 use lib.Seq.{take-take, getD-take, getD-at, length-take-le}
-use Rattle.ledger.specs.Ledger.{startOf, endOf, dayAt, upTo, daysOf, EndsHold}
+use Rattle.ledger.specs.Ledger.{startOf, endOf, dayAt, upTo, daysOf}
+use Rattle.ledger.specs.Private.{EndsHold}
 use Rattle.ledger.proofs.EndLaws.{start-ascends, start-front}
 
 -- ---- one after the other

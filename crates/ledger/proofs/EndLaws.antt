@@ -14,7 +14,8 @@ use borrow.Author.Tests.{leb-true, leb-false, le-leb, lt-leb}
 use Rattle.refusals.specs.Refusals.{dayLimit}
 use Rattle.lists.proofs.Laws.{true-or-false, and-both}
 use Rattle.refusals.proofs.TestLaws.{none-fails}
-use Rattle.ledger.specs.Ledger.{startOf, endOf, goodEnd, goodEnds, endsTests, endsRefusal, EndsHold}
+use Rattle.ledger.specs.Ledger.{startOf, endOf, goodEnd, goodEnds, endsTests, endsRefusal}
+use Rattle.ledger.specs.Private.{EndsHold}
 
 -- ---- one end
 

@@ -2,7 +2,7 @@
 -- Day 1 has the index 0: the day of index i is day i + 1.
 use mathlib.Core.Bool.{Bool, true, _&&_}
 use mathlib.Core.List.{List, [], _∷_, _++_, map}
-use Prim.Native.Nat.{ℕ, zero, suc, _+_, _-_, _≤_, _<_}
+use Prim.Native.Nat.{ℕ, zero, suc, _+_, _-_}
 use lib.Dec.{leb}
 use lib.ListN.{length, getD, take, drop}
 use Rattle.layouts.specs.Layouts.{layoutTests}
@@ -57,10 +57,3 @@ ledgerTests scheme n f d ends size = layoutTests scheme n f d ++ endsTests d end
 
 unfoldable pub ledgerRefusal : ℕ → ℕ → ℕ → ℕ → List ℕ → ℕ → ℕ
 ledgerRefusal scheme n f d ends size = firstRefusal (ledgerTests scheme n f d ends size)
-
--- what no refusal says; the laws `refusal-none` and `none-refusal`: it is this exactly
-pub record EndsHold (d : ℕ) (ends : List ℕ) (size : ℕ) : Type 0 where
-  pub enough : d ≤ length ends
-  pub ascend : (i : ℕ) → i < d → startOf ends i ≤ endOf ends i
-  pub within : (i : ℕ) → i < d → endOf ends i ≤ size
-  pub limited : (i : ℕ) → i < d → endOf ends i - startOf ends i ≤ dayLimit

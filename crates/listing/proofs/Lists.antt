@@ -64,8 +64,8 @@ tile-start n g k at m h l e =
     let p : 2 ^ k ≡ n = ap (λ (x : ℕ). 2 ^ x) e ∙ sym (w .power) in
     (record { at = h; level = omega arith; fits = omega arith }, omega arith)
 
-pub second : (s : ℕ) → allowedScheme s ≡ true → s ≤ 2 → (s ≡ 1 → ⊥) → s ≡ 2
-second s a l f = go s (allowed-scheme-is s a) l f
+pub scheme-is-2 : (s : ℕ) → allowedScheme s ≡ true → s ≤ 2 → (s ≡ 1 → ⊥) → s ≡ 2
+scheme-is-2 s a l f = go s (allowed-scheme-is s a) l f
   where
     go : (x : ℕ) → (1 ≤ x) × (x ≤ 3) → x ≤ 2 → (x ≡ 1 → ⊥) → x ≡ 2
     go zero b u v = absurd (omega (arith, b .0))
@@ -88,17 +88,17 @@ isListed-as s n t xs k e = rw e
 
 -- ---- the intervals in turn
 
-few : (p : ℕ → Bool) (d : ℕ) → length (keep p (days d)) ≤ d
-few p d = let a = keep-length p (days d) in let b = length-upFrom 1 d in omega arith
+kept-within : (p : ℕ → Bool) (d : ℕ) → length (keep p (days d)) ≤ d
+kept-within p d = let a = keep-length p (days d) in let b = length-upFrom 1 d in omega arith
 
 pub none-yet : (p : ℕ → Bool) (x : ℕ) (l : List ℕ) → x ≡ 0 → Wrote 0 (keep p (days x)) l 0 l
 none-yet p x l e = wrote-none 0 (keep p (days x)) l (ap (λ (y : ℕ). keep p (days y)) e)
 
 pub so-far-length : (p : ℕ → Bool) (x d r : ℕ) (l m : List ℕ) → x ≤ d → d ≤ length l → Wrote 0 (keep p (days x)) l r m → length m ≡ length l
-so-far-length p x d r l m a b u = let c = few p x in wrote-length 0 r (keep p (days x)) l m u (omega arith)
+so-far-length p x d r l m a b u = let c = kept-within p x in wrote-length 0 r (keep p (days x)) l m u (omega arith)
 
 pub so-far-place : (p : ℕ → Bool) (x r : ℕ) (l m : List ℕ) → Wrote 0 (keep p (days x)) l r m → r ≤ x
-so-far-place p x r l m u = let c = few p x in omega (arith, u .count)
+so-far-place p x r l m u = let c = kept-within p x in omega (arith, u .count)
 
 pub next-place : (p : ℕ → Bool) (n d k r : ℕ) (l m : List ℕ) → k < d / n → d ≤ length l → Wrote 0 (keep p (days (k * n))) l r m → r + n ≤ length m
 next-place p n d k r l m a b u =
@@ -113,7 +113,7 @@ pub next-interval : (p : ℕ → Bool) (n d k b r : ℕ) (l m y : List ℕ) → 
 next-interval p n d k b r l m y a h u v =
     let e : k + 1 ≡ suc k = omega arith in
     let c = interval-end n d (suc k) a in
-    let f = few p (suc k * n) in
+    let f = kept-within p (suc k * n) in
     let w : Wrote b (keep p (lastDays n (suc k * n))) m r y = rw e at v in
     rw e (wrote-join 0 (keep p (days (suc k * n))) (keep p (days (k * n))) (keep p (lastDays n (suc k * n))) l m y b r (days-block p n k) (omega arith) u w)
 
@@ -217,7 +217,7 @@ pub next-level : (n d : ℕ) (t : List ℕ) → d ≤ 65536 → levelsRule n d t
 next-level n d t small h l b r k m y a c u v =
     let e : suc (l - 1) ≡ l = omega arith in
     let f : d / 2 ^ (l - 1) * 2 ^ (l - 1) ≤ d = div-mul-le-self d (2 ^ (l - 1)) in
-    let g = few (isListed 3 n t) (d / 2 ^ (l - 1) * 2 ^ (l - 1)) in
+    let g = kept-within (isListed 3 n t) (d / 2 ^ (l - 1) * 2 ^ (l - 1)) in
     let q = top-step n d t small h (l - 1) in
     wrote-join 0 (keep (isListed 3 n t) (days (d / 2 ^ (l - 1) * 2 ^ (l - 1)))) (keep (isListed 3 n t) (days (d / 2 ^ l * 2 ^ l))) (topDays n d t (l - 1)) k m y b r
     (rw e at q) (omega arith) u v

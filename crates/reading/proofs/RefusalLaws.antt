@@ -17,8 +17,8 @@ use Rattle.layouts.proofs.AllowedLaws.{allowed-n-is, allowed-d-is, divides-fact
 use Rattle.layouts.proofs.Coverage.{divisor-le}
 use Rattle.acceptance.specs.Private.{Table, rules}
 use Rattle.acceptance.proofs.Accepted.{accepted-rules}
-use Rattle.reading.specs.Contract.{tableIn, bits, tableTests, readTests, readRefusal, Layout}
-use Rattle.reading.specs.Private.{least, givenTests, Given}
+use Rattle.reading.specs.Contract.{tableIn, bits, tableTests, readTests, readRefusal}
+use Rattle.reading.specs.Private.{Layout, least, givenTests, Given}
 use Rattle.reading.proofs.BitLaws.{bits-at, pass-accepted}
 
 -- ---- tests 13 14

@@ -1,13 +1,12 @@
 -- 01's reading (SPEC 8): its tests, what it says, and the list after it. Definitions only.
-use mathlib.Core.Path.{_≡_}
 use mathlib.Core.Bool.{Bool, true, false, _&&_, _||_}
 use mathlib.Core.List.{List, [], _∷_, _++_}
-use Prim.Native.Nat.{ℕ, _≤_}
+use Prim.Native.Nat.{ℕ}
 use lib.Dec.{eqb, leb}
 use lib.ListN.{length, take}
 use Rattle.evidence.specs.Evidence.{listing, accepted}
-use Rattle.refusals.specs.Refusals.{bookLimit, Test, _orRefuse_, firstRefusal, unlessRefused, frontWritten}
-use Rattle.layouts.specs.Layouts.{divides, allowedScheme, allowedN, layoutTests, chains}
+use Rattle.refusals.specs.Refusals.{Test, _orRefuse_, firstRefusal, unlessRefused, frontWritten}
+use Rattle.layouts.specs.Layouts.{layoutTests, chains}
 use Rattle.reading.specs.Numbers.{lowOf, lastGood}
 use Rattle.reading.specs.declared.Reading.{Reading}
 use Rattle.reading.specs.declared.Reading.the-variants.{Clean, Changed, Refused}
@@ -79,14 +78,6 @@ readTests scheme n f d outcomes places = layoutTests scheme n f d ++ tableTests 
 
 unfoldable pub readRefusal : ℕ → ℕ → ℕ → ℕ → List ℕ → ℕ → ℕ
 readRefusal scheme n f d outcomes places = firstRefusal (readTests scheme n f d outcomes places)
-
--- what the tests 1 2 3 7 leave for those after them
-pub record Layout (scheme n d : ℕ) : Type 0 where
-  pub scheme-ok : allowedScheme scheme ≡ true
-  pub n-ok : allowedN n ≡ true
-  pub some : 1 ≤ d
-  pub most : d ≤ bookLimit
-  pub whole : divides n d ≡ true
 
 -- ---- the call
 

@@ -5,12 +5,20 @@ use mathlib.Core.Bool.{true}
 use mathlib.Core.List.{List, [], _∷_}
 use Prim.Native.Nat.{ℕ, _-_, _*_, _/_, _≤_, min, max}
 use Rattle.evidence.specs.Evidence.{accepted}
-use Rattle.refusals.specs.Refusals.{Test, _orRefuse_}
-use Rattle.layouts.specs.Layouts.{chains}
+use Rattle.refusals.specs.Refusals.{bookLimit, Test, _orRefuse_}
+use Rattle.layouts.specs.Layouts.{divides, allowedScheme, allowedN, chains}
 use Rattle.acceptance.specs.Private.{Table}
 use Rattle.reading.specs.Numbers.{lowOf}
 use Rattle.reading.specs.Contract.{Report, bits}
 use Rattle.reading.specs.declared.Numbers.{Numbers}
+
+-- what the tests 1 2 3 7 leave for those after them
+pub record Layout (scheme n d : ℕ) : Type 0 where
+  pub scheme-ok : allowedScheme scheme ≡ true
+  pub n-ok : allowedN n ≡ true
+  pub some : 1 ≤ d
+  pub most : d ≤ bookLimit
+  pub whole : divides n d ≡ true
 
 -- each outcome in turn joins what the ones before it gave
 abbrev pub inTurn : (ℕ → ℕ → ℕ) → ℕ → List ℕ → ℕ

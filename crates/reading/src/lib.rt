@@ -11,9 +11,9 @@ ghost use Rattle.layouts.specs.Layouts.{chains};
 ghost use Rattle.acceptance.specs.Private.{Table};
 ghost use Rattle.reading.specs.Numbers.{lowOf, lastGood};
 ghost use Rattle.reading.specs.Contract as answer;
-ghost use Rattle.reading.specs.Contract.{reportOf, Layout, tableTests, readRefusal, found, readout};
+ghost use Rattle.reading.specs.Contract.{reportOf, tableTests, readRefusal, found, readout};
+ghost use Rattle.reading.specs.Private.{Layout, givenTests, Given, numbersOf};
 ghost use Rattle.reading.specs.Private as private;
-ghost use Rattle.reading.specs.Private.{givenTests, Given, numbersOf};
 
 // 01's numbers of a changed table.
 pub struct Numbers {

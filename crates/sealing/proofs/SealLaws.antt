@@ -18,7 +18,8 @@ use Rattle.sha256.specs.Sha256.{sha256}
 use Rattle.layouts.specs.Layouts.{allowedD, setupTests, layoutTests, setupRefusal, chains, chainsOfDay}
 use Rattle.layouts.proofs.AllowedLaws.{layout-passed, allowed-d-is}
 use Rattle.layouts.proofs.Coverage.{chains-front}
-use Rattle.ledger.specs.Ledger.{dayAt, daysOf, endsTests, endsRefusal, ledgerTests, ledgerRefusal, EndsHold}
+use Rattle.ledger.specs.Ledger.{dayAt, daysOf, endsTests, endsRefusal, ledgerTests, ledgerRefusal}
+use Rattle.ledger.specs.Private.{EndsHold}
 use Rattle.ledger.proofs.EndLaws.{refusal-none}
 use Rattle.ledger.proofs.DayLaws.{days-none, days-snoc, days-length, day-length}
 use Rattle.chains.specs.Book.{start, bookOf}

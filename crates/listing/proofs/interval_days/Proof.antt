@@ -1,6 +1,6 @@
 -- `listing::interval_days` meets its contract.
 use Rattle.layouts.specs.Layouts.{lastDays}
-use Rattle.listing.proofs.Lists.{second, isListed-as}
+use Rattle.listing.proofs.Lists.{scheme-is-2, isListed-as}
 use Rattle.buffers.proofs.Writes.{wrote-as}
 use Rattle.acceptance.proofs.Steps.{interval-as}
 use borrow.Author.Needs.{needs}
@@ -18,13 +18,13 @@ returns c =
 tile-days-requires : tie.Need-tile-days-requires
 tile-days-requires c κs =
     let pre = c .before .before .before .before .pre in
-    (interval-as 2 (second _ (pre .0 .has .scheme-ok) (pre .2) (c .before .if1 .left)) (pre .0), pre .1)
+    (interval-as 2 (scheme-is-2 _ (pre .0 .has .scheme-ok) (pre .2) (c .before .if1 .left)) (pre .0), pre .1)
 
 returns-2 : tie.Need-returns-2
 returns-2 c =
     let args = c .before .before .before .before .before .before .before .args in
     let pre = c .before .before .before .before .before .before .before .pre in
-    wrote-as _ (isListed-as _ (args .n) (args .t .now) (lastDays (args .n) (args .g)) 2 (second _ (pre .0 .has .scheme-ok) (pre .2) (c .before .before .before .before .if1 .left))) (c .before .before .tile-days .ensures)
+    wrote-as _ (isListed-as _ (args .n) (args .t .now) (lastDays (args .n) (args .g)) 2 (scheme-is-2 _ (pre .0 .has .scheme-ok) (pre .2) (c .before .before .before .before .if1 .left))) (c .before .before .tile-days .ensures)
 
 pub interval-days-spec : {M : Type 1} → statement M
 interval-days-spec =
