@@ -19,7 +19,7 @@ use Rattle.reading.specs.Numbers.{lastGood}
 use Rattle.reading.specs.Contract.{Report, reportOf, refusedReport, tableIn, bits, readRefusal, listedIn, found, readout}
 use Rattle.reading.specs.Private.{givenTests}
 use Rattle.reading.specs.Statements.{Supplied, SomeSet, ReadIfGiven, SaysNoSet, ListsDaysOfSets, OutcomesRead, CaseOf, CaseTold, OneAnswer}
-use Rattle.reading.proofs.RefusalLaws.{table-given, table-refused, read-given}
+use Rattle.reading.proofs.RefusalLaws.{set-read, table-given, table-refused, read-given}
 use Rattle.reading.proofs.Report.{readout-found}
 
 -- ---- what a call says, by its refusal and the days listed
@@ -67,10 +67,10 @@ module _ (s n f d : ℕ) (o l : List ℕ) (u : Supplied s n f d o l) where
   accepted-set : accepted (chains s n d) d (tableIn s n d o) ≡ true → SomeSet s n d o
   accepted-set e = given-iff-accepted (chains s n d) d (tableIn s n d o) .1 e
 
-passed : (b a : Bool) → b ≡ true → _≡_ {A = ℕ} (cond b (cond a 0 14) 13) 0 → a ≡ true
-passed true true q e = refl
-passed true false q e = absurd (omega arith)
-passed false a q e = absurd (omega arith)
+passed : (b a : Bool) → _≡_ {A = ℕ} (cond b (cond a 0 14) 13) 0 → a ≡ true
+passed true true e = refl
+passed true false e = absurd (omega arith)
+passed false a e = absurd (omega arith)
 
 failed : (b a : Bool) → _≡_ {A = ℕ} (cond b (cond a 0 14) 13) 14 → (b ≡ true) × (a ≡ false)
 failed true true e = absurd (omega arith)
@@ -78,9 +78,9 @@ failed true false e = (refl, refl)
 failed false a e = absurd (omega arith)
 
 pub read-if-given : ReadIfGiven
-read-if-given s n f d o l u b = (
-  λ e. accepted-set s n f d o l u (passed (bits (tableIn s n d o)) (accepted (chains s n d) d (tableIn s n d o)) b (sym (by-given s n f d o l u) ∙ e)),
-  λ h. by-given s n f d o l u ∙ rw (b, set-accepted s n f d o l u h),
+read-if-given s n f d o l u = (
+  λ e. accepted-set s n f d o l u (passed (bits (tableIn s n d o)) (accepted (chains s n d) d (tableIn s n d o)) (sym (by-given s n f d o l u) ∙ e)),
+  λ h. refusal-said s n f d o l ∙ set-read s n f d o (length l) (h .0) (u .layout) (u .places) (u .enough) (h .1),
 )
 
 pub says-no-set : SaysNoSet

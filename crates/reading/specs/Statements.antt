@@ -25,11 +25,10 @@ pub record Supplied (scheme n f d : ℕ) (outcomes list : List ℕ) : Type 0 whe
 abbrev pub SomeSet : ℕ → ℕ → ℕ → List ℕ → Type 0
 SomeSet scheme n d outcomes = (S : List ℕ) × Gives (chains scheme n d) d S (tableIn scheme n d outcomes)
 
--- a table of 0 and 1 is read exactly if some set gives it
+-- a table is read exactly if some set gives it; one that is not of 0 and 1 no set gives
 abbrev pub ReadIfGiven : Type 0
 ReadIfGiven =
     (scheme n f d : ℕ) (outcomes list : List ℕ) → Supplied scheme n f d outcomes list →
-    bits (tableIn scheme n d outcomes) ≡ true →
     (readout scheme n f d outcomes list .report .refusal ≡ 0) ↔ SomeSet scheme n d outcomes
 
 -- 14 is said exactly if the outcomes needed are 0 and 1 and no set gives them

@@ -1,7 +1,7 @@
 // What calls answer: done, or refused with 01's number. The tests of a call, its limits and what a refusal leaves are
 // in specs/.
 ghost use mathlib.Core.Path.{_≡_};
-ghost use Rattle.refusals.specs.Refusals.{numberOf, answerOf};
+ghost use Rattle.refusals.specs.Refusals.{numberOf};
 
 pub enum Answer {
     Done,
@@ -22,14 +22,4 @@ pub fn number_of(a: Answer) -> u32
         Answer::Done => 0,
         Answer::Refused(x) => x,
     }
-}
-
-// The answer by the refusal's number, 0 for none.
-pub fn answer_of(x: u32) -> Answer
-    ensures { λ r. ⌜ r ≡ answerOf x ⌝ }
-{
-    if x == 0 {
-        return Answer::Done;
-    }
-    Answer::Refused(x)
 }
