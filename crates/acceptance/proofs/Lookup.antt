@@ -80,7 +80,8 @@ positions s n zero = refl
 positions s n (suc d) =
     ap (map (position s n)) (namesThrough-suc s n d) ∙ map-append (position s n) (namesThrough s n d) (namesOfDay s n (suc d)) ∙
     ap (λ (r : List ℕ). r ++ map (position s n) (namesOfDay s n (suc d))) (positions s n d) ∙
-    ap (λ (r : List ℕ). upFrom 0 (length (namesThrough s n d)) ++ r) (day-positions s n d ∙ ap (λ (x : ℕ). upFrom x (length (namesOfDay s n (suc d)))) (sym (zero-add (length (namesThrough s n d))))) ∙
+    ap (λ (r : List ℕ). upFrom 0 (length (namesThrough s n d)) ++ r)
+    (day-positions s n d ∙ ap (λ (x : ℕ). upFrom x (length (namesOfDay s n (suc d)))) (sym (zero-add (length (namesThrough s n d))))) ∙
     sym (upFrom-append 0 (length (namesThrough s n d)) (length (namesOfDay s n (suc d)))) ∙
     ap (upFrom 0) (sym (ap length (namesThrough-suc s n d) ∙ length-append (namesThrough s n d) (namesOfDay s n (suc d))))
 

@@ -27,7 +27,11 @@ wrote-length at r F l k h b =
 
 pub wrote-join : (at : ℕ) (F A B l m k : List ℕ) (b r : ℕ) → F ≡ A ++ B → at + length F ≤ length l → Wrote at A l b m → Wrote b B m r k → Wrote at F l r k
 wrote-join at F A B l m k b r f h u v =
-    record { count = omega (arith, length-append A B, ap length f, u .count, v .count); list = v .list ∙ ap (λ (x : List ℕ). x ++ (B ++ drop r m)) front ∙ ap (λ (x : List ℕ). (take at l ++ A) ++ (B ++ x)) back ∙ whole }
+    record {
+      count = omega (arith, length-append A B, ap length f, u .count, v .count);
+      list = v .list ∙ ap (λ (x : List ℕ). x ++ (B ++ drop r m)) front ∙ ap
+          (λ (x : List ℕ). (take at l ++ A) ++ (B ++ x)) back ∙ whole;
+    }
   where
     n : at + (length A + length B) ≤ length l
     n = omega (arith, length-append A B, ap length f)

@@ -67,5 +67,6 @@ pub link-of : (v h : List ℕ) {i m n g r : List ℕ} → m ≡ front v h → n 
 link-of v h em en ei eg er lv lh =
     er ∙ ap₂ compress (eg ∙ ap₂ compress ei em) en
     ∙ ap₂ (λ (a b : List ℕ). compress (compress initial (front a b)) (back b)) (eight v lv) (eight h lh)
-    ∙ two-blocks (getD v 0 0) (getD v 1 0) (getD v 2 0) (getD v 3 0) (getD v 4 0) (getD v 5 0) (getD v 6 0) (getD v 7 0) (getD h 0 0) (getD h 1 0) (getD h 2 0) (getD h 3 0) (getD h 4 0) (getD h 5 0) (getD h 6 0) (getD h 7 0)
+    ∙ two-blocks (getD v 0 0) (getD v 1 0) (getD v 2 0) (getD v 3 0) (getD v 4 0) (getD v 5 0) (getD v 6 0) (getD v 7 0) (getD h 0 0) (getD h 1 0) (getD h 2 0) (getD h 3 0) (getD h 4 0)
+    (getD h 5 0) (getD h 6 0) (getD h 7 0)
     ∙ sym (ap₂ (λ (a b : List ℕ). hashed (1 ∷ (bytesOf a ++ bytesOf b))) (eight v lv) (eight h lh))

@@ -113,7 +113,8 @@ tile-grown n d i u = rw u (go (covers n i (offset n (suc d))) refl)
     q : ℕ → Bool
     q x = covers n i (offset n x)
 
-    go : (b : Bool) → q (suc d) ≡ b → cond b (keep (λ x. covers n i (offset n x)) (since n d) ++ (suc d ∷ [])) (keep (λ x. covers n i (offset n x)) (since n d)) ≡ keep (λ x. covers n i (offset n x)) (since n d ++ (suc d ∷ []))
+    go : (b : Bool) → q (suc d) ≡ b → cond b (keep (λ x. covers n i (offset n x)) (since n d) ++ (suc d ∷ [])) (keep (λ x. covers n i (offset n x)) (since n d)) ≡ keep
+        (λ x. covers n i (offset n x)) (since n d ++ (suc d ∷ []))
     go true e = sym (keep-append (λ x. covers n i (offset n x)) (since n d) (suc d ∷ []) ∙ rw e)
     go false e = sym (keep-append (λ x. covers n i (offset n x)) (since n d) (suc d ∷ []) ∙ rw (e, append-nil))
 
@@ -247,7 +248,8 @@ module _ (s n : ℕ) (E : List (List ℕ)) (day : List ℕ) where
     slot-after i z u =
         let l : i < length (linkedSlots s n (suc d) h slots) = omega (arith, linked-size, used-small s n i a u) in
         ap (λ (v : Value). bytesOf (v .words))
-        (getD-each (restartSlot s n (suc d) (startValue s n)) 0 i (linkedSlots s n (suc d) h slots) z l ∙ ap (λ (k : ℕ). restartSlot s n (suc d) (startValue s n) k (getD (linkedSlots s n (suc d) h slots) i z)) (zero-add i)) ∙
+        (getD-each (restartSlot s n (suc d) (startValue s n)) 0 i (linkedSlots s n (suc d) h slots) z l ∙ ap
+        (λ (k : ℕ). restartSlot s n (suc d) (startValue s n) k (getD (linkedSlots s n (suc d) h slots) i z)) (zero-add i)) ∙
         go (storesSlot s n (suc d) i) refl
       where
         go : (c : Bool) → storesSlot s n (suc d) i ≡ c → bytesOf (cond c (startValue s n) (getD (linkedSlots s n (suc d) h slots) i z) .words) ≡ value sha256 (start s n) F (openDays s n (suc d) i)

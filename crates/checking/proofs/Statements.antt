@@ -125,7 +125,8 @@ module _ (s n f d : ℕ) (ledger ends book work outcomes : List ℕ) where
   abbrev read : List ℕ
   read = take (startOf ends d) ledger
 
-  refusal-same : checkRefusal s n f d ends (length ledger) (length book) (length work) (length outcomes) ≡ checkRefusal s n f d (take d ends) (length read) (length front) (length work) (length outcomes)
+  refusal-same : checkRefusal s n f d ends (length ledger) (length book) (length work) (length outcomes) ≡ checkRefusal s n f d (take d ends) (length read) (length front) (length work)
+      (length outcomes)
   unfolding checkRefusal
   refusal-same =
       same-refusal (layoutTests s n f d) (layoutTests s n f d) (endsTests d ends (length ledger) ++ roomTests s n d (length book) (length work) (length outcomes))
@@ -147,7 +148,8 @@ pub reads-only : ReadsOnly
 unfolding checked
 reads-only s n f d ledger ends book work outcomes =
     go (checkRefusal s n f d ends (length ledger) (length book) (length work) (length outcomes)) refl ∙
-    ap (λ (r : ℕ). leaves r (digestsOf (take (startOf ends d) ledger) (take d ends) d) (outcomesOf s n d (take (startOf ends d) ledger) (take d ends) (take (32 * length (chains s n d)) book)) work outcomes)
+    ap (λ (r : ℕ). leaves r (digestsOf (take (startOf ends d) ledger) (take d ends) d) (outcomesOf s n d (take (startOf ends d) ledger) (take d ends) (take (32 * length (chains s n d)) book)) work
+    outcomes)
     (refusal-same s n f d ledger ends book work outcomes)
   where
     go : (r : ℕ) → checkRefusal s n f d ends (length ledger) (length book) (length work) (length outcomes) ≡ r →

@@ -57,7 +57,8 @@ outcomes-append first L [] ds book = refl
 outcomes-append first L (c ∷ cs) ds book =
     let e : 32 + 32 * length cs ≡ 32 * suc (length cs) = omega arith in
     ap (λ (r : List ℕ). cond (same (take 32 book) (value sha256 first L c)) 1 0 ∷ r)
-    (outcomes-append first L cs ds (drop 32 book) ∙ ap (λ (r : List ℕ). checkOutcomes sha256 first L cs (drop 32 book) ++ checkOutcomes sha256 first L ds r) (drop-drop (32 * length cs) 32 book ∙ ap (λ (k : ℕ). drop k book) e))
+    (outcomes-append first L cs ds (drop 32 book) ∙ ap (λ (r : List ℕ). checkOutcomes sha256 first L cs (drop 32 book) ++ checkOutcomes sha256 first L ds r)
+    (drop-drop (32 * length cs) 32 book ∙ ap (λ (k : ℕ). drop k book) e))
 
 outcomes-same : (first : List ℕ) (A B cs : List (List ℕ)) (book : List ℕ) → ((c : List ℕ) → c among cs → value sha256 first A c ≡ value sha256 first B c) →
     checkOutcomes sha256 first A cs book ≡ checkOutcomes sha256 first B cs book
@@ -71,7 +72,8 @@ checkOutcomes-length first L (c ∷ cs) book = ap suc (checkOutcomes-length firs
 
 -- values of named chains, compared
 compared-names : (n : ℕ) (first : List ℕ) (F : List (List ℕ)) (b : Value) (l : List Value) (xs : List Name) (book : List ℕ) →
-    ((x : Name) → x among xs → bytesOf (current b l x .words) ≡ value sha256 first F (coveredDays n x)) → compared (map (current b l) xs) book ≡ checkOutcomes sha256 first F (map (coveredDays n) xs) book
+    ((x : Name) → x among xs → bytesOf (current b l x .words) ≡ value sha256 first F (coveredDays n x)) → compared (map (current b l) xs) book ≡ checkOutcomes sha256 first F
+    (map (coveredDays n) xs) book
 unfolding compared
 compared-names n first F b l [] book f = refl
 compared-names n first F b l (x ∷ xs) book f =
@@ -79,10 +81,12 @@ compared-names n first F b l (x ∷ xs) book f =
 
 compared-day : (s n : ℕ) (E : List (List ℕ)) (day : List ℕ) (a : allowedN n ≡ true) (b : Value) (slots : List Value) (h : List ℕ) → Holds s n E b slots → bytesOf h ≡ digest sha256 day →
     suc (length E) ≤ 65536 → (book : List ℕ) →
-    compared (dayValues s n (suc (length E)) (linked b h) (linkedSlots s n (suc (length E)) h slots)) book ≡ checkOutcomes sha256 (start s n) (E ++ (day ∷ [])) (chainsOfDay s n (suc (length E))) book
+    compared (dayValues s n (suc (length E)) (linked b h) (linkedSlots s n (suc (length E)) h slots)) book ≡ checkOutcomes sha256 (start s n) (E ++ (day ∷ [])) (chainsOfDay s n (suc (length E)))
+    book
 unfolding dayValues chainsOfDay
 compared-day s n E day a b slots h held hash few book =
-    compared-names n (start s n) (E ++ (day ∷ [])) (linked b h) (linkedSlots s n (suc (length E)) h slots) (namesOfDay s n (suc (length E))) book (namesOfDay-right s n E day a b slots h held hash few)
+    compared-names n (start s n) (E ++ (day ∷ [])) (linked b h) (linkedSlots s n (suc (length E)) h slots) (namesOfDay s n (suc (length E))) book
+    (namesOfDay-right s n E day a b slots h held hash few)
 
 -- ---- the lengths of what a check writes
 
@@ -148,7 +152,8 @@ module _ {s n d : ℕ} {ledger ends book oldWork oldOutcomes : List ℕ} {i at :
     next-count = ap length (chains-suc s n i) ∙ length-append (chains s n i) (chainsOfDay s n (suc i)) ∙ ap (λ (x : ℕ). length (chains s n i) + x) (chainsOfDay-length s n (suc i))
 
     -- what the day's call asks
-    pub day-needs : {g : ℕ} → g ≡ i + 1 → DayReady s n g (length (take (length book - 32 * at) (drop (32 * at) book))) (length (midOf (32 * i) (length work - 32 * i) work)) (length (midOf at (length outs - at) outs))
+    pub day-needs : {g : ℕ} → g ≡ i + 1 → DayReady s n g (length (take (length book - 32 * at) (drop (32 * at) book))) (length (midOf (32 * i) (length work - 32 * i) work))
+        (length (midOf at (length outs - at) outs))
     day-needs e =
         let f = chains-most s n (suc i) d h in
         let c = next-count in
@@ -191,12 +196,14 @@ module _ {s n d : ℕ} {ledger ends book oldWork oldOutcomes : List ℕ} {i at :
     digests-size : length (digestsOf ledger ends i) ≡ 32 * i
     digests-size = digests-length ledger ends i
 
-    outcomes-next : outcomesOf s n (suc i) ledger ends book ≡ outcomesOf s n i ledger ends book ++ checkOutcomes sha256 (start s n) (E i ++ (day ∷ [])) (chainsOfDay s n (suc (length (E i)))) (drop (32 * at) book)
+    outcomes-next : outcomesOf s n (suc i) ledger ends book ≡ outcomesOf s n i ledger ends book ++ checkOutcomes sha256 (start s n) (E i ++ (day ∷ [])) (chainsOfDay s n (suc (length (E i))))
+        (drop (32 * at) book)
     unfolding outcomesOf
     outcomes-next =
         ap (λ (cs : List (List ℕ)). checkOutcomes sha256 (start s n) (E (suc i)) cs book) (chains-suc s n i) ∙
         outcomes-append (start s n) (E (suc i)) (chains s n i) (chainsOfDay s n (suc i)) book ∙
-        ap₂ (λ (p q : List ℕ). p ++ q) (outcomes-same (start s n) (E (suc i)) (E i) (chains s n i) book (λ c m. value-same sha256 (E (suc i)) (E i) c (start s n) (λ g k. old-days g (chains-within s n i c m g k))))
+        ap₂ (λ (p q : List ℕ). p ++ q) (outcomes-same (start s n) (E (suc i)) (E i) (chains s n i) book
+        (λ c m. value-same sha256 (E (suc i)) (E i) c (start s n) (λ g k. old-days g (chains-within s n i c m g k))))
         (ap₂ (λ (L : List (List ℕ)) (k : ℕ). checkOutcomes sha256 (start s n) L (chainsOfDay s n (suc k)) (drop (32 * length (chains s n i)) book)) snoc (sym days-are) ∙
         ap (λ (k : ℕ). checkOutcomes sha256 (start s n) (E i ++ (day ∷ [])) (chainsOfDay s n (suc (length (E i)))) (drop (32 * k) book)) (sym (t .at-is)))
 
@@ -223,7 +230,8 @@ module _ {s n d : ℕ} {ledger ends book oldWork oldOutcomes : List ℕ} {i at :
       count-is : at + r .count ≡ length (chains s n (suc i))
       count-is = omega (arith, t .at-is, next-count, stepped′ .count-is ∙ ap (λ (x : ℕ). length (namesOfDay s n (suc x))) days-are)
 
-      found-is : compared (take (r .count) (r .values)) (take (length book - 32 * at) (drop (32 * at) book)) ≡ checkOutcomes sha256 (start s n) (E i ++ (day ∷ [])) (chainsOfDay s n (suc (length (E i)))) (drop (32 * at) book)
+      found-is : compared (take (r .count) (r .values)) (take (length book - 32 * at) (drop (32 * at) book)) ≡ checkOutcomes sha256 (start s n) (E i ++ (day ∷ []))
+          (chainsOfDay s n (suc (length (E i)))) (drop (32 * at) book)
       found-is =
           ap₂ compared (stepped′ .values-are) (to-end book (32 * at)) ∙ compared-day s n (E i) day (ok .n-ok) b slots (hashed (0 ∷ bytes)) (t .holds) hash room (drop (32 * at) book)
 
@@ -247,7 +255,8 @@ module _ {s n d : ℕ} {ledger ends book oldWork oldOutcomes : List ℕ} {i at :
       pub outcomes-fit : at + r .count ≤ length oldOutcomes
       outcomes-fit = let f = chains-most s n (suc i) d h in omega (arith, count-is, ok .outcomes-long)
 
-      pub through-next : Through s n ledger ends book oldWork oldOutcomes (i + 1) (at + r .count) (r .black) (r .slots) (putMid (32 * i) (length work - 32 * i) work w) (putMid at (length outs - at) outs o)
+      pub through-next : Through s n ledger ends book oldWork oldOutcomes (i + 1) (at + r .count) (r .black) (r .slots) (putMid (32 * i) (length work - 32 * i) work w)
+          (putMid at (length outs - at) outs o)
       through-next =
           rw (add-one i) (record {
             holds = rw snoc (holds-next s n (E i) day (ok .n-ok) b slots (hashed (0 ∷ bytes)) (t .holds) hash (stepped′ .black-is) (stepped′ .slots-are));

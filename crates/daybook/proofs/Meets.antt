@@ -51,7 +51,15 @@ limited : (s n : ℕ) (cs : List Call) → Limited (journalOf s n cs)
 limited s n cs = limited-after s n (map argumentOf cs) empty (record { entries-limited = λ e m. elim m [ ]; day-limited = omega arith })
 
 pub premises-met : PremisesMet
-premises-met s n f opens cs a = (x, record { premises = fit; same-days = days-joined E; reads-clean = unaltered-clean s n f opens cs d x fit (λ g m. ap (λ (l : List (List ℕ)). getD l (pred g) []) (sym (days-joined E))) })
+premises-met s n f opens cs a = (
+  x,
+  record {
+    premises = fit;
+    same-days = days-joined E;
+    reads-clean = unaltered-clean s n f opens cs d x fit
+        (λ g m. ap (λ (l : List (List ℕ)). getD l (pred g) []) (sym (days-joined E)));
+  },
+)
   where
     E : List (List ℕ)
     E = sealed s n cs

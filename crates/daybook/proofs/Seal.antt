@@ -67,7 +67,8 @@ module _ (s n f d : ℕ) (ledger ends book : List ℕ) (ok : Sealable s n f d le
     count-is = days-length ledger ends i
 
     add-taken : refusalOf s n (sealedTo i) (adds day) ≡ 0
-    add-taken = all-pass (testsOf s n (sealedTo i) (adds day)) (lt-ltb (length (daysOf ledger ends i)) bookLimit (omega (arith, count-is, ok .days-most)), (le-leb (0 + length day) dayLimit (let w = day-fits in omega arith), tt))
+    add-taken = all-pass (testsOf s n (sealedTo i) (adds day))
+        (lt-ltb (length (daysOf ledger ends i)) bookLimit (omega (arith, count-is, ok .days-most)), (le-leb (0 + length day) dayLimit (let w = day-fits in omega arith), tt))
 
     room : 32 * length (chainsOfDay s n (suc (length (daysOf ledger ends i)))) ≤ length (rest i)
     room =
@@ -81,8 +82,10 @@ module _ (s n f d : ℕ) (ledger ends book : List ℕ) (ok : Sealable s n f d le
 
     close-taken : refusalOf s n grown (closes (length (rest i))) ≡ 0
     close-taken =
-        all-pass (testsOf s n grown (closes (length (rest i))))
-        (lt-ltb (length (daysOf ledger ends i)) bookLimit (omega (arith, count-is, ok .days-most)), (le-leb (32 * length (chainsOfDay s n (suc (length (daysOf ledger ends i))))) (length (rest i)) room, tt))
+        all-pass (testsOf s n grown (closes (length (rest i)))) (
+          lt-ltb (length (daysOf ledger ends i)) bookLimit (omega (arith, count-is, ok .days-most)),
+          (le-leb (32 * length (chainsOfDay s n (suc (length (daysOf ledger ends i))))) (length (rest i)) room, tt),
+        )
 
     day-more : journalAfter s n (sealedTo i) (map argumentOf (dayCalls s n D book (suc i))) ≡ sealedTo (suc i)
     day-more =
@@ -94,7 +97,8 @@ module _ (s n f d : ℕ) (ledger ends book : List ℕ) (ok : Sealable s n f d le
   calls-more i =
       let e : 1 + i ≡ suc i = omega arith in
       ap (λ (l : List ℕ). map argumentOf (flatMap (dayCalls s n D book) l)) (upFrom-snoc 1 i ∙ ap (λ (x : ℕ). days i ++ (x ∷ [])) e) ∙
-      ap (map argumentOf) (flat-append (dayCalls s n D book) (days i) (suc i ∷ []) ∙ ap (λ (l : List Call). flatMap (dayCalls s n D book) (days i) ++ l) (append-nil (dayCalls s n D book (suc i)))) ∙
+      ap (map argumentOf) (flat-append (dayCalls s n D book) (days i) (suc i ∷ []) ∙ ap (λ (l : List Call). flatMap (dayCalls s n D book) (days i) ++ l) (append-nil (dayCalls s n D book (suc i))))
+      ∙
       map-append argumentOf (flatMap (dayCalls s n D book) (days i)) (dayCalls s n D book (suc i))
 
   sealed-to : (i : ℕ) → i ≤ d → journalAfter s n empty (argumentsTo i) ≡ sealedTo i

@@ -41,7 +41,8 @@ module _ (b piece : List ℕ) (s : Record) (o : Added) (x : ℕ) (decoded : s �
 
 -- ---- close
 
-module _ (b part : List ℕ) (old : ℕ) (s : Record) (o : Closed) (p : List ℕ) (x : ℕ) (decoded : s ≡ recordOf b) (call : o ≡ closing s part .result) (left : p ≡ closing s part .part) (number : x ≡ writingNumber (o .answer)) where
+module _ (b part : List ℕ) (old : ℕ) (s : Record) (o : Closed) (p : List ℕ) (x : ℕ) (decoded : s ≡ recordOf b) (call : o ≡ closing s part .result) (left : p ≡ closing s part .part)
+    (number : x ≡ writingNumber (o .answer)) where
   abbrev C : Closing
   C = closing (recordOf b) part
 

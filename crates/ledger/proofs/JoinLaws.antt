@@ -41,7 +41,8 @@ module _ (E : List (List ℕ)) where
   grows : (i : ℕ) → i < length E → total E (suc i) ≡ total E i + length (getD E i [])
   unfolding total
   grows i h =
-      ap (λ (l : List (List ℕ)). length (joined l)) (take-suc E i [] h) ∙ ap length (joined-append (take i E) (getD E i [] ∷ []) ∙ ap (λ (r : List ℕ). joined (take i E) ++ r) (joined-single (getD E i []))) ∙
+      ap (λ (l : List (List ℕ)). length (joined l)) (take-suc E i [] h) ∙ ap length
+      (joined-append (take i E) (getD E i [] ∷ []) ∙ ap (λ (r : List ℕ). joined (take i E) ++ r) (joined-single (getD E i []))) ∙
       length-append (joined (take i E)) (getD E i [])
 
   parts : (i : ℕ) → i < length E → joined E ≡ joined (take i E) ++ (getD E i [] ++ joined (drop (suc i) E))

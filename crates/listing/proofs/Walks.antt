@@ -35,7 +35,8 @@ run-all n k t e =
 
 bits-suc : (p : ℕ → Bool) (l x : ℕ) → bitsRule p (suc l) x ≡ bitsRule p l x && bitRule p x l
 unfolding bitsRule
-bits-suc p l x = ap (every (bitRule p x)) (upFrom-snoc 0 l) ∙ every-append (bitRule p x) (upFrom 0 l) ((0 + l) ∷ []) ∙ (let e : 0 + l ≡ l = omega arith in rw e (unit (bitsRule p l x) (bitRule p x l)))
+bits-suc p l x = ap (every (bitRule p x)) (upFrom-snoc 0 l) ∙ every-append (bitRule p x) (upFrom 0 l) ((0 + l) ∷ []) ∙
+    (let e : 0 + l ≡ l = omega arith in rw e (unit (bitsRule p l x) (bitRule p x l)))
   where
     unit : (a b : Bool) → a && (b && true) ≡ a && b
     unit true true = refl

@@ -25,7 +25,8 @@ run-start first at l = let e : first - first ≡ 0 = omega arith in wrote-none a
 run-bound : (first day at : ℕ) (l : List ℕ) → at + (day - first) ≤ length l → at + length (upFrom first (day - first)) ≤ length l
 run-bound first day at l h = omega (arith, length-upFrom first (day - first))
 
-pub run-place : (first day end at p : ℕ) (l m : List ℕ) → first ≤ day → day < end → at + (end - first) ≤ length l → Wrote at (upFrom first (day - first)) l p m → (p < length m) × (length m ≡ length l)
+pub run-place : (first day end at p : ℕ) (l m : List ℕ) → first ≤ day → day < end → at + (end - first) ≤ length l → Wrote at (upFrom first (day - first)) l p m → (p < length m) ×
+    (length m ≡ length l)
 run-place first day end at p l m a b h u =
     let c = run-bound first day at l (omega arith) in
     let e = wrote-length at p (upFrom first (day - first)) l m u c in

@@ -75,7 +75,8 @@ digits-most-in : (k j x : ℕ) → 1 ≤ j → x < 10 ^ j → length (decimalIn 
 digits-most-in zero j x p h = omega arith
 digits-most-in (suc k) j x p h = go (ltb x 10) refl (λ i q g. digits-most-in k i (x / 10) q g) j p h
   where
-    go : (b : Bool) → ltb x 10 ≡ b → ((i : ℕ) → 1 ≤ i → x / 10 < 10 ^ i → length (decimalIn k (x / 10)) ≤ i) → (i : ℕ) → 1 ≤ i → x < 10 ^ i → length (cond b ((48 + x) ∷ []) (decimalIn k (x / 10) ++ ((48 + x % 10) ∷ []))) ≤ i
+    go : (b : Bool) → ltb x 10 ≡ b → ((i : ℕ) → 1 ≤ i → x / 10 < 10 ^ i → length (decimalIn k (x / 10)) ≤ i) → (i : ℕ) → 1 ≤ i → x < 10 ^ i → length
+        (cond b ((48 + x) ∷ []) (decimalIn k (x / 10) ++ ((48 + x % 10) ∷ []))) ≤ i
     go true e rec i q g = omega arith
     go false e rec zero q g = absurd (omega arith)
     go false e rec (suc zero) q g = let l = ltb-false x 10 e in absurd (omega arith)

@@ -53,14 +53,16 @@ module _ (b : List ℕ) (below : Below b) where
   numbers-run zero i l = refl
   numbers-run (suc k) i l =
       let e : 4 + k * 4 ≡ suc k * 4 = omega arith in
-      runs-join b (numbersBytes (numberAt b i ∷ [])) i 4 (k * 4) (number-run i (omega arith)) (numbersBytes (numbersAt k b (i + 4))) (numbers-run k (i + 4) (omega arith)) ∙ ap (λ (x : ℕ). take x (drop i b)) e
+      runs-join b (numbersBytes (numberAt b i ∷ [])) i 4 (k * 4) (number-run i (omega arith)) (numbersBytes (numbersAt k b (i + 4))) (numbers-run k (i + 4) (omega arith)) ∙ ap
+      (λ (x : ℕ). take x (drop i b)) e
 
   slots-run : (k i : ℕ) → i + k * 32 ≤ length b → slotsBytes (slotsAt k b i) ≡ take (k * 32) (drop i b)
   unfolding slotsAt slotsBytes valueAt
   slots-run zero i l = refl
   slots-run (suc k) i l =
       let e : 32 + k * 32 ≡ suc k * 32 = omega arith in
-      runs-join b (numbersBytes (numbersAt 8 b i)) i 32 (k * 32) (numbers-run 8 i (omega arith)) (slotsBytes (slotsAt k b (i + 32))) (slots-run k (i + 32) (omega arith)) ∙ ap (λ (x : ℕ). take x (drop i b)) e
+      runs-join b (numbersBytes (numbersAt 8 b i)) i 32 (k * 32) (numbers-run 8 i (omega arith)) (slotsBytes (slotsAt k b (i + 32))) (slots-run k (i + 32) (omega arith)) ∙ ap
+      (λ (x : ℕ). take x (drop i b)) e
 
   run-and-rest : (i m : ℕ) {x y : List ℕ} → x ≡ take m (drop i b) → y ≡ drop (i + m) b → x ++ y ≡ drop i b
   run-and-rest i m e q = ap₂ (λ (s t : List ℕ). s ++ t) e (q ∙ sym (drop-drop m i b)) ∙ take-append-drop m (drop i b)
@@ -185,7 +187,8 @@ record-round-trip r fits =
     ap (λ (k : ℕ). slotsAt k b runningAt) (sym (fits .running-many)) ∙ sym (ap₂ (λ (l : List ℕ) (i : ℕ). slotsAt (length (r .running)) l i) b₃ p₃)
     ∙ slots-read (r .running) ((cs ++ hs) ++ ks) (r .block) (fits .running-fit) in
     let block : take 64 (drop blockAt b) ≡ r .block =
-    ap (λ (l : List ℕ). take 64 (drop blockAt l)) (sym b₄) ∙ ap (take 64) (drop-at (((cs ++ hs) ++ ks) ++ ss) (r .block) blockAt p₄) ∙ take-all 64 (r .block) (let e = fits .block-many in omega arith) in
+    ap (λ (l : List ℕ). take 64 (drop blockAt l)) (sym b₄) ∙ ap (take 64) (drop-at (((cs ++ hs) ++ ks) ++ ss) (r .block) blockAt p₄) ∙ take-all 64 (r .block)
+    (let e = fits .block-many in omega arith) in
     same-record b r (n .0) (n .1) (n .2) (n .3) (n .4) hash block black running
 
 -- a refused open's record, as bytes

@@ -16,7 +16,8 @@ use Rattle.record_bytes.specs.Bytes.{hashAt, blackAt, runningAt, blockAt
 -- k elements read one by one from place i on
 pub copy-next : (b r : List ℕ) (i k : ℕ) → k < length r → i + k < length b → take k r ≡ take k (drop i b) → take (k + 1) (set r k (getD b (i + k) 0)) ≡ take (k + 1) (drop i b)
 copy-next b r i k lr lb e =
-    rw (add-one) (take-suc-set r k (getD b (i + k) 0) lr ∙ ap₂ (λ (x y : List ℕ). x ++ y) e (ap (λ (x : ℕ). x ∷ []) (sym (getD-drop i b k 0))) ∙ sym (take-suc (drop i b) k 0 (rw (length-drop i b) (omega arith))))
+    rw (add-one) (take-suc-set r k (getD b (i + k) 0) lr ∙ ap₂ (λ (x y : List ℕ). x ++ y) e (ap (λ (x : ℕ). x ∷ []) (sym (getD-drop i b k 0))) ∙ sym
+    (take-suc (drop i b) k 0 (rw (length-drop i b) (omega arith))))
 
 slots-snoc : (k : ℕ) (b : List ℕ) (i : ℕ) → slotsAt k b i ++ (valueAt b (i + k * 32) ∷ []) ≡ slotsAt (suc k) b i
 unfolding slotsAt
@@ -67,11 +68,13 @@ words-next p q s w k l e f =
     front-grows p q s (numbersBytes (take k w)) (numbersBytes (getD w k 0 ∷ [])) e f
     ∙ ap (λ (x : List ℕ). p ++ x) (sym (numbers-append (take k w) (getD w k 0 ∷ [])) ∙ rw (add-one) (ap numbersBytes (sym (take-suc w k 0 l))))
 
-pub slots-put-next : (p q s : List ℕ) (w : List Value) (k : ℕ) (d : Value) → k < length w → q ≡ p ++ slotsBytes (take k w) → s ≡ q ++ numbersBytes (getD w k d .words) → s ≡ p ++ slotsBytes (take (k + 1) w)
+pub slots-put-next : (p q s : List ℕ) (w : List Value) (k : ℕ) (d : Value) → k < length w → q ≡ p ++ slotsBytes (take k w) → s ≡ q ++ numbersBytes (getD w k d .words) → s ≡ p ++ slotsBytes
+    (take (k + 1) w)
 unfolding slotsBytes
 slots-put-next p q s w k d l e f =
     front-grows p q s (slotsBytes (take k w)) (numbersBytes (getD w k d .words)) e f
-    ∙ ap (λ (x : List ℕ). p ++ x) (ap (λ (x : List ℕ). slotsBytes (take k w) ++ x) (sym (append-nil (numbersBytes (getD w k d .words)))) ∙ sym (slots-append (take k w) (getD w k d ∷ [])) ∙ rw (add-one) (ap slotsBytes (sym (take-suc w k d l))))
+    ∙ ap (λ (x : List ℕ). p ++ x) (ap (λ (x : List ℕ). slotsBytes (take k w) ++ x) (sym (append-nil (numbersBytes (getD w k d .words)))) ∙ sym (slots-append (take k w) (getD w k d ∷ [])) ∙ rw
+    (add-one) (ap slotsBytes (sym (take-suc w k d l))))
 
 -- all of an array, once k has reached its length
 pub array-filled : {A : Type 0} (r : List A) (f : ℕ → List A) (n k : ℕ) → k ≤ n → n ≤ k → length r ≡ n → take k r ≡ f k → r ≡ f n
@@ -123,7 +126,8 @@ pub record-of : (b : List ℕ) (v : Value) {scheme n f days bytes : ℕ} {block 
 unfolding recordOf valueAt
 record-of b v e₁ e₂ e₃ e₄ e₅ e₆ e₇ e₈ e₉ = rw (e₁, e₂, e₃, e₄, e₅, e₆, e₇, e₈, e₉)
 
-pub counts-of : {p q r s : List ℕ} (b : List ℕ) (t : Record) → p ≡ numbersBytes (t .scheme ∷ []) → q ≡ p ++ numbersBytes (t .n ∷ []) → r ≡ q ++ numbersBytes (t .f ∷ []) → s ≡ r ++ numbersBytes (t .days ∷ [])
+pub counts-of : {p q r s : List ℕ} (b : List ℕ) (t : Record) → p ≡ numbersBytes (t .scheme ∷ []) → q ≡ p ++ numbersBytes (t .n ∷ []) → r ≡ q ++ numbersBytes (t .f ∷ []) → s ≡ r ++ numbersBytes
+    (t .days ∷ [])
     → b ≡ s ++ numbersBytes (t .bytes ∷ []) → b ≡ numbersBytes (t .scheme ∷ t .n ∷ t .f ∷ t .days ∷ t .bytes ∷ [])
 unfolding numbersBytes
 counts-of b t e₁ e₂ e₃ e₄ e₅ = rw (e₅, e₄, e₃, e₂, e₁)

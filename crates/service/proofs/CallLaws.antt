@@ -96,8 +96,11 @@ module _ (r : Record) (part : List ℕ) {x : ℕ} (e : x ≡ closeRefusal r (len
   pub closing-refused : (x ≡ 0 → ⊥) → (record { answer = writing.Refused x; state = r } ≡ closing r part .result) × (part ≡ closing r part .part)
   unfolding closing
   closing-refused h =
-      let refusal = closeRefusal r (length part) in
-      (ap₂ {C = Closed} (λ a t. record { answer = a; state = t }) (writing-refused refusal (dayCount r) e h) (old-stays refusal (nextDay r) r e h), old-stays refusal (dayBytes r ++ drop (length (dayBytes r)) part) part e h)
+      let refusal = closeRefusal r (length part) in (
+        ap₂ {C = Closed} (λ a t. record { answer = a; state = t }) (writing-refused refusal (dayCount r) e h) (old-stays refusal (nextDay r) r e h),
+        old-stays refusal
+            (dayBytes r ++ drop (length (dayBytes r)) part) part e h,
+      )
 
   pub closing-done : {k : ℕ} {state : Record} {next : List ℕ} → x ≡ 0 → k ≡ dayCount r → state ≡ nextDay r → Wrote 0 (dayBytes r) part (32 * k) next →
       (record { answer = writing.Wrote k; state = state } ≡ closing r part .result) × (next ≡ closing r part .part)

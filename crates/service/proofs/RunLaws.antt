@@ -235,7 +235,8 @@ module _ {s n f : ℕ} {j : Journal} {r : Record} (k : Keeps s n f j r) where
     unfolding closing
     taken-count = rw (close-same k (length part), e) (count-kept k)
 
-    pub taken-part : closing r part .part ≡ values sha256 (start s n) (j .entries ++ (j .day ∷ [])) (chainsOfDay s n (suc (length (j .entries)))) ++ drop (32 * length (chainsOfDay s n (suc (length (j .entries))))) part
+    pub taken-part : closing r part .part ≡ values sha256 (start s n) (j .entries ++ (j .day ∷ [])) (chainsOfDay s n (suc (length (j .entries)))) ++ drop
+        (32 * length (chainsOfDay s n (suc (length (j .entries))))) part
     unfolding closing
     taken-part =
         rw (close-same k (length part), e)

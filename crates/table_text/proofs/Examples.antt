@@ -12,7 +12,8 @@ use Rattle.table_text.specs.Text.{isFormed, outcomesIn, textRefusal, lin
 pub paper :
     textOf (50 ∷ 44 ∷ 52 ∷ 44 ∷ 49 ∷ 44 ∷ 56 ∷ 10 ∷ 49 ∷ 49 ∷ 49 ∷ 49 ∷ 48 ∷ 48 ∷ 49 ∷ 48 ∷ 10 ∷ []) ≡
     82 ∷ 69 ∷ 70 ∷ 44 ∷ 50 ∷ 44 ∷ 50 ∷ 44 ∷ 54 ∷ 44 ∷ 53 ∷ 44 ∷ 56 ∷ 44 ∷ 52 ∷ 10 ∷ 68 ∷ 65 ∷ 89 ∷ 44 ∷ 54 ∷ 10 ∷ 68 ∷ 65 ∷ 89 ∷ 44 ∷ 56 ∷ 10 ∷ []
-unfolding textOf textRefusal isFormed isField isNumber afterDigits afterField valueIn outcomesIn tableLines found listedIn listing accepted tableOf lastGood chains chainsOfDay namesThrough flatMap lg refLine dayLines line decimal
+unfolding textOf textRefusal isFormed isField isNumber afterDigits afterField valueIn outcomesIn tableLines found listedIn listing accepted tableOf lastGood chains chainsOfDay namesThrough flatMap
+    lg refLine dayLines line decimal
 paper = refl
 
 -- `1,2,1,2` and `22` print `NO,15`: the extra digit is found before the digit over 1

@@ -29,7 +29,8 @@ line-most word xs =
 pub line-room : (at r t n : ℕ) (word xs l m k : List ℕ) → at + (length word + (11 * length xs + 1)) ≤ length l → n ≡ length l → Wrote at word l r m → Wrote r (commaNumbers xs) m t k → t < n
 line-room at r t n word xs l m k h e w v = let f = numbers-most xs in omega (arith, w .count, v .count)
 
-pub line-put : (at r t : ℕ) (word xs l m k : List ℕ) → at + (length word + (11 * length xs + 1)) ≤ length l → length m ≡ length l → length k ≡ length m → Wrote at word l r m → Wrote r (commaNumbers xs) m t k →
+pub line-put : (at r t : ℕ) (word xs l m k : List ℕ) → at + (length word + (11 * length xs + 1)) ≤ length l → length m ≡ length l → length k ≡ length m → Wrote at word l r m → Wrote r
+    (commaNumbers xs) m t k →
     Wrote at (line word xs) l (t + 1) (set k t 10)
 unfolding line
 line-put at r t word xs l m k h a b w v =

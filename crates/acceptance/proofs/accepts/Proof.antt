@@ -17,5 +17,4 @@ returns-3 : tie.Need-returns-3
 returns-3 c = rules-tree _ _ _ _ (c .before .before .before .block-rules .ensures) (c .before .before .if1 .left) (c .before .if2 .left) (c .level-rules .ensures)
 
 pub accepts-spec : {M : Type 1} → statement M
-accepts-spec =
-    tie.close (tie.spec (λ c. λ κs. search needs) returns returns-2 level-rules-requires returns-3)
+accepts-spec = tie.close (tie.spec (λ c. λ κs. search needs) returns returns-2 level-rules-requires returns-3)

@@ -24,12 +24,5 @@ returns-3 : tie.Need-returns-3
 returns-3 c = rule-as _ _ _ _ 3 (third _ (c .before .before .before .before .pre .has .scheme-ok) (c .before .before .if1 .left) (c .before .if2 .left)) (c .tree-block .ensures)
 
 pub block-rule-spec : {M : Type 1} → statement M
-block-rule-spec =
-    tie.close
-    (tie.spec
-    black-falls-requires
-    returns
-    tile-block-requires
-    returns-2
-    tree-block-requires
+block-rule-spec = tie.close (tie.spec black-falls-requires returns tile-block-requires returns-2 tree-block-requires
     returns-3)

@@ -38,13 +38,17 @@ block-rule-requires c κs = interval-of _ (c .before .before .before .pre) (omeg
 returns : tie.Need-returns Inv-loop μ-loop
 returns c =
     let args = c .before .before .before .before .before .args in
-    blocks-by _ _ _ _ (every-stop (blockAt (args .scheme) (args .n) (args .t .now)) 1 (args .d / args .n) (c .before .before .before .loop .k + 1) (omega arith) (omega arith) (block-at-by _ _ _ _ (c .before .block-rule .ensures)) (c .if1 .taken))
+    blocks-by _ _ _ _ (every-stop (blockAt (args .scheme) (args .n) (args .t .now)) 1 (args .d / args .n) (c .before .before .before .loop .k + 1) (omega arith) (omega arith)
+    (block-at-by _ _ _ _ (c .before .block-rule .ensures)) (c .if1 .taken))
 
 loop-again : tie.Need-loop-again Inv-loop μ-loop
 loop-again c =
     let args = c .before .before .before .before .before .args in
-    let loop = c .before .before .before .loop in
-    (omega arith, every-next (blockAt (args .scheme) (args .n) (args .t .now)) 1 (loop .k) (loop .k + 1) (omega arith) (loop .inv .1) (block-at-by _ _ _ _ (c .before .block-rule .ensures)) (c .if1 .left))
+    let loop = c .before .before .before .loop in (
+      omega arith,
+      every-next (blockAt (args .scheme) (args .n) (args .t .now)) 1 (loop .k) (loop .k + 1) (omega arith) (loop .inv .1) (block-at-by _ _ _ _ (c .before .block-rule .ensures))
+          (c .if1 .left),
+    )
 
 returns-2 : tie.Need-returns-2 Inv-loop μ-loop
 returns-2 c =
@@ -53,17 +57,5 @@ returns-2 c =
     blocks-by _ _ _ _ (every-done (blockAt (args .scheme) (args .n) (args .t .now)) 1 (loop .k) _ (loop .inv .0) (c .loop-test .left) (loop .inv .1))
 
 pub block-rules-spec : {M : Type 1} → statement M
-block-rules-spec =
-    tie.close
-    (tie.spec
-    Inv-loop
-    μ-loop
-    div-m
-    loop-holds
-    add-k
-    mul-block-rule
-    block-rule-requires
-    returns
-    (λ c. omega arith)
-    loop-again
-    returns-2)
+block-rules-spec = tie.close (tie.spec Inv-loop μ-loop div-m loop-holds add-k mul-block-rule block-rule-requires returns
+    (λ c. omega arith) loop-again returns-2)

@@ -17,18 +17,10 @@ tree-passes-requires-3 : tie.Need-tree-passes-requires-3
 tree-passes-requires-3 c κs = chain-right (c .before .before .before .before .pre)
 
 returns : tie.Need-returns
-returns c = halves-by _ _ _ _ (c .before .before .before .before .size .ensures) (c .before .before .before .before .before .tree-passes .ensures) (c .before .before .before .tree-passes2 .ensures) (c .before .before .tree-passes3 .ensures) (c .before .both .ensures) (c .alike .ensures)
+returns c = halves-by _ _ _ _ (c .before .before .before .before .size .ensures) (c .before .before .before .before .before .tree-passes .ensures)
+    (c .before .before .before .tree-passes2 .ensures) (c .before .before .tree-passes3 .ensures) (c .before .both .ensures) (c .alike .ensures)
 
 pub halves-rule-spec : {M : Type 1} → statement M
-halves-rule-spec =
-    tie.close
-    (tie.spec
-    (λ c. search needs)
-    tree-passes-requires
-    (λ c. λ κs. search needs)
-    sub-tree-passes
-    tree-passes-requires-2
-    tree-passes-requires-3
-    (λ c. λ κs. search needs)
-    (λ c. λ κs. search needs)
+halves-rule-spec = tie.close (tie.spec (λ c. search needs) tree-passes-requires (λ c. λ κs. search needs)
+    sub-tree-passes tree-passes-requires-2 tree-passes-requires-3 (λ c. λ κs. search needs) (λ c. λ κs. search needs)
     returns)

@@ -23,10 +23,16 @@ loop-holds : tie.Need-loop-holds Inv-loop μ-loop
 loop-holds c = (omega arith, refl)
 
 add-k : tie.Need-add-k Inv-loop μ-loop
-add-k c = record { fits = count-fits (c .before .before .size .result) (c .before .before .before .before .args .d) (c .before .loop .k) (c .loop-test .taken) (c .before .before .before .before .pre .0 .most) }
+add-k c = record {
+  fits = count-fits (c .before .before .size .result) (c .before .before .before .before .args .d) (c .before .loop .k) (c .loop-test .taken)
+      (c .before .before .before .before .pre .0 .most);
+}
 
 mul-halves-rule : tie.Need-mul-halves-rule Inv-loop μ-loop
-mul-halves-rule c = record { fits = product-fits (c .before .before .size .result) (c .before .before .before .before .args .d) (c .before .loop .k + 1) (omega arith) (c .before .before .before .before .pre .0 .most) }
+mul-halves-rule c = record {
+  fits = product-fits (c .before .before .size .result) (c .before .before .before .before .args .d) (c .before .loop .k + 1) (omega arith)
+      (c .before .before .before .before .pre .0 .most);
+}
 
 halves-rule-requires : tie.Need-halves-rule-requires Inv-loop μ-loop
 halves-rule-requires c κs =
@@ -36,13 +42,18 @@ halves-rule-requires c κs =
 returns : tie.Need-returns Inv-loop μ-loop
 returns c =
     let args = c .before .before .before .before .before .before .args in
-    level-by _ _ _ _ _ (c .before .before .before .before .size .ensures) (every-stop (halvesAt (args .n) (args .t .now) (args .l)) 1 (args .d / c .before .before .before .before .size .result) (c .before .before .before .loop .k + 1) (omega arith) (omega arith) (halves-at-by _ _ _ _ _ (c .before .before .before .before .size .ensures) (c .before .halves-rule .ensures)) (c .if1 .taken))
+    level-by _ _ _ _ _ (c .before .before .before .before .size .ensures)
+    (every-stop (halvesAt (args .n) (args .t .now) (args .l)) 1 (args .d / c .before .before .before .before .size .result) (c .before .before .before .loop .k + 1) (omega arith) (omega arith)
+    (halves-at-by _ _ _ _ _ (c .before .before .before .before .size .ensures) (c .before .halves-rule .ensures)) (c .if1 .taken))
 
 loop-again : tie.Need-loop-again Inv-loop μ-loop
 loop-again c =
     let args = c .before .before .before .before .before .before .args in
-    let loop = c .before .before .before .loop in
-    (omega arith, every-next (halvesAt (args .n) (args .t .now) (args .l)) 1 (loop .k) (loop .k + 1) (omega arith) (loop .inv .1) (halves-at-by _ _ _ _ _ (c .before .before .before .before .size .ensures) (c .before .halves-rule .ensures)) (c .if1 .left))
+    let loop = c .before .before .before .loop in (
+      omega arith,
+      every-next (halvesAt (args .n) (args .t .now) (args .l)) 1 (loop .k) (loop .k + 1) (omega arith) (loop .inv .1)
+          (halves-at-by _ _ _ _ _ (c .before .before .before .before .size .ensures) (c .before .halves-rule .ensures)) (c .if1 .left),
+    )
 
 returns-2 : tie.Need-returns-2 Inv-loop μ-loop
 returns-2 c =
@@ -51,19 +62,5 @@ returns-2 c =
     level-by _ _ _ _ _ (c .before .before .size .ensures) (every-done (halvesAt (args .n) (args .t .now) (args .l)) 1 (loop .k) _ (loop .inv .0) (c .loop-test .left) (loop .inv .1))
 
 pub level-rule-spec : {M : Type 1} → statement M
-level-rule-spec =
-    tie.close
-    (tie.spec
-    Inv-loop
-    μ-loop
-    (λ c. search needs)
-    (λ c. λ κs. search needs)
-    div-m
-    loop-holds
-    add-k
-    mul-halves-rule
-    halves-rule-requires
-    returns
-    (λ c. omega arith)
-    loop-again
-    returns-2)
+level-rule-spec = tie.close (tie.spec Inv-loop μ-loop (λ c. search needs) (λ c. λ κs. search needs) div-m loop-holds
+    add-k mul-halves-rule halves-rule-requires returns (λ c. omega arith) loop-again returns-2)

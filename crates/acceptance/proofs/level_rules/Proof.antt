@@ -24,7 +24,8 @@ level-rule-requires c κs = (c .before .before .before .pre, c .loop-test .taken
 returns : tie.Need-returns Inv-loop μ-loop
 returns c =
     let args = c .before .before .before .before .before .args in
-    levels-by _ _ _ (every-stop (levelRule (args .n) (args .d) (args .t .now)) 0 16 (c .before .before .before .loop .l) (omega arith) (omega arith) (c .before .level-rule .ensures) (c .if1 .taken))
+    levels-by _ _ _ (every-stop (levelRule (args .n) (args .d) (args .t .now)) 0 16 (c .before .before .before .loop .l) (omega arith) (omega arith) (c .before .level-rule .ensures)
+    (c .if1 .taken))
 
 loop-again : tie.Need-loop-again Inv-loop μ-loop
 loop-again c =
@@ -39,15 +40,5 @@ returns-2 c =
     levels-by _ _ _ (every-done (levelRule (args .n) (args .d) (args .t .now)) 0 (loop .l) 16 (loop .inv .0) (c .loop-test .left) (loop .inv .1))
 
 pub level-rules-spec : {M : Type 1} → statement M
-level-rules-spec =
-    tie.close
-    (tie.spec
-    Inv-loop
-    μ-loop
-    loop-holds
-    level-rule-requires
-    returns
-    (λ c. omega arith)
-    (λ c. omega arith)
-    loop-again
-    returns-2)
+level-rules-spec = tie.close (tie.spec Inv-loop μ-loop loop-holds level-rule-requires returns (λ c. omega arith)
+    (λ c. omega arith) loop-again returns-2)

@@ -29,7 +29,8 @@ tile-rule-requires c κs = (c .before .before .before .before .pre, omega (arith
 returns : tie.Need-returns Inv-loop μ-loop
 returns c =
     let args = c .before .before .before .before .before .before .args in
-    every-stop (tileRule (args .n) (args .t .now) (args .g)) 1 (lg (args .n)) (c .before .before .before .loop .i + 1) (omega arith) (omega (arith, c .before .before .before .before .lg .ensures)) (c .before .tile-rule .ensures) (c .if1 .taken)
+    every-stop (tileRule (args .n) (args .t .now) (args .g)) 1 (lg (args .n)) (c .before .before .before .loop .i + 1) (omega arith) (omega (arith, c .before .before .before .before .lg .ensures))
+    (c .before .tile-rule .ensures) (c .if1 .taken)
 
 loop-again : tie.Need-loop-again Inv-loop μ-loop
 loop-again c =
@@ -41,19 +42,9 @@ returns-2 : tie.Need-returns-2 Inv-loop μ-loop
 returns-2 c =
     let args = c .before .before .before .before .args in
     let loop = c .before .loop in
-    every-done (tileRule (args .n) (args .t .now) (args .g)) 1 (loop .i) (lg (args .n)) (omega (arith, c .before .before .lg .ensures)) (omega (arith, c .before .before .lg .ensures)) (loop .inv .1)
+    every-done (tileRule (args .n) (args .t .now) (args .g)) 1 (loop .i) (lg (args .n)) (omega (arith, c .before .before .lg .ensures)) (omega (arith, c .before .before .lg .ensures))
+    (loop .inv .1)
 
 pub tile-rules-spec : {M : Type 1} → statement M
-tile-rules-spec =
-    tie.close
-    (tie.spec
-    Inv-loop
-    μ-loop
-    lg-requires
-    loop-holds
-    (λ c. omega arith)
-    tile-rule-requires
-    returns
-    (λ c. omega arith)
-    loop-again
-    returns-2)
+tile-rules-spec = tie.close (tie.spec Inv-loop μ-loop lg-requires loop-holds (λ c. omega arith) tile-rule-requires
+    returns (λ c. omega arith) loop-again returns-2)

@@ -21,20 +21,10 @@ loop-again : tie.Need-loop-again Inv-loop μ-loop
 loop-again c = (search needs, search needs, put-next _ _ _ _ _ (c .before .loop .inv .2) (search needs) (search needs))
 
 returns : tie.Need-returns Inv-loop μ-loop
-returns c = put-done (c .before .loop .part) (c .before .before .args .part .now) (c .before .before .args .at) (c .before .before .args .t3) (c .before .loop .j) (c .before .loop .inv .2) (search needs) (search needs) (search needs)
+returns c =
+    let a = c .before .before .args in let l = c .before .loop in
+    put-done (l .part) (a .part .now) (a .at) (a .t3) (l .j) (l .inv .2) (search needs) (search needs) (search needs)
 
 pub put-spec : {M : Type 1} → statement M
-put-spec =
-    tie.close
-    (tie.spec
-    Inv-loop
-    μ-loop
-    loop-holds
-    (λ c. search needs)
-    (λ c. search needs)
-    (λ c. search needs)
-    (λ c. search needs)
-    (λ c. search needs)
-    loop-again
-    (λ c. search needs)
-    returns)
+put-spec = tie.close (tie.spec Inv-loop μ-loop loop-holds (λ c. search needs) (λ c. search needs) (λ c. search needs)
+    (λ c. search needs) (λ c. search needs) loop-again (λ c. search needs) returns)

@@ -21,21 +21,11 @@ loop-again : tie.Need-loop-again Inv-loop μ-loop
 loop-again c = (search needs, search needs, upto-next _ _ _ _ _ _ (c .before .before .before .loop .inv .2) (c .slot-linked .ensures) (search needs))
 
 returns : tie.Need-returns Inv-loop μ-loop
-returns c = linked-done (c .before .before .args .scheme) (c .before .before .args .n) (c .before .before .args .g) (c .before .before .args .h) (c .before .loop .i) (c .before .before .args .slots) (c .before .loop .inv .2) (search needs) (search needs)
+returns c =
+    let a = c .before .before .args in let l = c .before .loop in
+    linked-done (a .scheme) (a .n) (a .g) (a .h) (l .i) (a .slots) (l .inv .2) (search needs) (search needs)
 
 pub link-slots-spec : {M : Type 1} → statement M
-link-slots-spec =
-    tie.close
-    (tie.spec
-    Inv-loop
-    μ-loop
-    loop-holds
-    (λ c. search needs)
-    (λ c. search needs)
-    (λ c. λ κs. search needs)
-    (λ c. search needs)
-    (λ c. search needs)
-    (λ c. search needs)
-    (λ c. search needs)
-    loop-again
+link-slots-spec = tie.close (tie.spec Inv-loop μ-loop loop-holds (λ c. search needs) (λ c. search needs)
+    (λ c. λ κs. search needs) (λ c. search needs) (λ c. search needs) (λ c. search needs) (λ c. search needs) loop-again
     returns)

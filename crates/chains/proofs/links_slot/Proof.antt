@@ -25,6 +25,5 @@ returns-3 : tie.Need-returns-3
 returns-3 c = links-other _ _ _ _ (c .if1 .left)
 
 pub links-slot-spec : {M : Type 1} → statement M
-links-slot-spec =
-    tie.close
+links-slot-spec = tie.close
     (tie.spec lg-requires returns (λ c. search needs) rem-covers covers-requires returns-2 returns-3)

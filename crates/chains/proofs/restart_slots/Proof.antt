@@ -21,21 +21,11 @@ loop-again : tie.Need-loop-again Inv-loop μ-loop
 loop-again c = (search needs, search needs, upto-next _ _ _ _ _ _ (c .before .before .before .loop .inv .2) (c .slot-restarted .ensures) (search needs))
 
 returns : tie.Need-returns Inv-loop μ-loop
-returns c = restarted-done (c .before .before .args .scheme) (c .before .before .args .n) (c .before .before .args .g) (c .before .before .args .start) (c .before .loop .i) (c .before .before .args .slots) (c .before .loop .inv .2) (search needs) (search needs)
+returns c =
+    let a = c .before .before .args in let l = c .before .loop in
+    restarted-done (a .scheme) (a .n) (a .g) (a .start) (l .i) (a .slots) (l .inv .2) (search needs) (search needs)
 
 pub restart-slots-spec : {M : Type 1} → statement M
-restart-slots-spec =
-    tie.close
-    (tie.spec
-    Inv-loop
-    μ-loop
-    loop-holds
-    (λ c. search needs)
-    (λ c. search needs)
-    (λ c. λ κs. search needs)
-    (λ c. search needs)
-    (λ c. search needs)
-    (λ c. search needs)
-    (λ c. search needs)
-    loop-again
+restart-slots-spec = tie.close (tie.spec Inv-loop μ-loop loop-holds (λ c. search needs) (λ c. search needs)
+    (λ c. λ κs. search needs) (λ c. search needs) (λ c. search needs) (λ c. search needs) (λ c. search needs) loop-again
     returns)

@@ -11,5 +11,5 @@ returns-2 : tie.Need-returns-2
 returns-2 c = rw (sym (c .before .links-slot .ensures) ∙ c .if1 .left)
 
 pub slot-linked-spec : {M : Type 1} → statement M
-slot-linked-spec =
-    tie.close (tie.spec (λ c. search needs) (λ c. λ κs. search needs) (λ c. λ κs. search needs) returns returns-2)
+slot-linked-spec = tie.close
+    (tie.spec (λ c. search needs) (λ c. λ κs. search needs) (λ c. λ κs. search needs) returns returns-2)

@@ -18,8 +18,10 @@ size-requires : tie.Need-size-requires
 size-requires c κs = lg-day _ _ (c .before .before .before .pre .2) (c .before .before .before .pre .3) (c .lg .ensures)
 
 returns-3 : tie.Need-returns-3
-returns-3 c = black-tree (c .before .before .before .before .args .scheme) (c .before .before .before .before .args .n) (c .before .before .before .before .args .g) _ _ (c .before .before .if2 .left) (c .before .before .before .before .pre .2) (c .before .before .before .if1 .left) (c .before .lg .ensures) (c .size .ensures)
+returns-3 c =
+    let a = c .before .before .before .before .args in
+    black-tree (a .scheme) (a .n) (a .g) _ _ (c .before .before .if2 .left) (c .before .before .before .before .pre .2) (c .before .before .before .if1 .left) (c .before .lg .ensures)
+    (c .size .ensures)
 
 pub stores-black-spec : {M : Type 1} → statement M
-stores-black-spec =
-    tie.close (tie.spec rem-if1 returns returns-2 (λ c. λ κs. search needs) size-requires returns-3)
+stores-black-spec = tie.close (tie.spec rem-if1 returns returns-2 (λ c. λ κs. search needs) size-requires returns-3)

@@ -28,14 +28,5 @@ returns-4 : tie.Need-returns-4
 returns-4 c = stores-none _ _ _ _ (c .before .if1 .left) (c .if3 .left)
 
 pub stores-slot-spec : {M : Type 1} → statement M
-stores-slot-spec =
-    tie.close
-    (tie.spec
-    lg-requires
-    returns
-    rem-result
-    returns-2
-    (λ c. λ κs. search needs)
-    rem-result-2
-    returns-3
-    returns-4)
+stores-slot-spec = tie.close (tie.spec lg-requires returns rem-result returns-2 (λ c. λ κs. search needs) rem-result-2
+    returns-3 returns-4)

@@ -18,15 +18,9 @@ returns-2 : tie.Need-returns-2
 returns-2 c =
     let a = c .before .before .before .before .before .before .before .before .before .before .before .before .before .before .args in
     let w = c .before .before .before .before .check-days .ensures in
-    checked-done _ _ _ _ (a .ledger .now) _ (a .book .now) (a .work .now) (a .outcomes .now) (c .before .before .before .before .before .before .before .before .check-refusal .ensures) (c .before .before .before .before .before .before .before .if1 .left) (w .0) (w .1)
+    checked-done _ _ _ _ (a .ledger .now) _ (a .book .now) (a .work .now) (a .outcomes .now) (c .before .before .before .before .before .before .before .before .check-refusal .ensures)
+    (c .before .before .before .before .before .before .before .if1 .left) (w .0) (w .1)
 
 pub check-spec : {M : Type 1} → statement M
-check-spec =
-    tie.close
-    (tie.spec
-    (λ c. λ κs. search needs)
-    returns
-    check-days-requires
-    (λ c. search needs)
-    (λ c. search needs)
-    returns-2)
+check-spec = tie.close (tie.spec (λ c. λ κs. search needs) returns check-days-requires (λ c. search needs)
+    (λ c. search needs) returns-2)

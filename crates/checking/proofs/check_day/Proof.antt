@@ -15,18 +15,15 @@ all-requires c κs =
 
 returns : tie.Need-returns
 returns c =
-    let digest = c .before .before .before .before .before .before .before .before .before .before .before .digest .ensures in
-    (rw (← digest) (c .before .before .before .before .before .step .ensures), (rw (← digest, ← (c .before .before .before .before .before .before .before .before .before .bytes .ensures)) (c .before .before .before .before .before .before .before .before .put .ensures), c .before .before .all .ensures))
+    let digest = c .before .before .before .before .before .before .before .before .before .before .before .digest .ensures in (
+      rw (← digest) (c .before .before .before .before .before .step .ensures),
+      (
+        rw (← digest, ← (c .before .before .before .before .before .before .before .before .before .bytes .ensures))
+            (c .before .before .before .before .before .before .before .before .put .ensures),
+        c .before .before .all .ensures,
+      ),
+    )
 
 pub check-day-spec : {M : Type 1} → statement M
-check-day-spec =
-    tie.close
-    (tie.spec
-    (λ c. λ κs. search needs)
-    (λ c. λ κs. search needs)
-    (λ c. λ κs. search needs)
-    (λ c. λ κs. search needs)
-    all-requires
-    (λ c. search needs)
-    (λ c. search needs)
-    returns)
+check-day-spec = tie.close (tie.spec (λ c. λ κs. search needs) (λ c. λ κs. search needs) (λ c. λ κs. search needs)
+    (λ c. λ κs. search needs) all-requires (λ c. search needs) (λ c. search needs) returns)

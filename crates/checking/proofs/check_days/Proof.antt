@@ -24,11 +24,18 @@ turn c = omega (arith, c .loop-test .taken, c .before .loop .inv .1)
 
 -- where the parts that it lends begin
 begin : (c : tie.In-loop Inv-loop μ-loop) →
-    (32 * c .before .loop .at ≤ length (c .before .before .before .before .before .before .before .before .before .args .book .now)) × (32 * c .before .loop .i ≤ length (c .before .loop .work)) × (c .before .loop .at ≤ length (c .before .loop .outcomes))
+    (32 * c .before .loop .at ≤ length (c .before .before .before .before .before .before .before .before .before .args .book .now)) × (32 * c .before .loop .i ≤ length (c .before .loop .work)) ×
+    (c .before .loop .at ≤ length (c .before .loop .outcomes))
 begin c = parts-within (c .before .before .before .before .before .before .before .before .before .pre) (c .before .loop .inv .3) (c .before .loop .inv .0)
 
 loop-holds : tie.Need-loop-holds Inv-loop μ-loop
-loop-holds c = (omega arith, c .wide .ensures, c .before .start .ensures, through-none _ _ _ _ _ _ _ _ (c .before .before .before .before .before .before .before .pre .n-ok) (c .before .start .ensures))
+loop-holds c = (
+  omega arith,
+  c .wide .ensures,
+  c .before .start .ensures,
+  through-none _ _ _ _ _ _ _ _ (c .before .before .before .before .before .before .before .pre .n-ok)
+      (c .before .start .ensures),
+)
 
 start-of-requires : tie.Need-start-of-requires Inv-loop μ-loop
 start-of-requires c κs = omega (arith, turn c, c .before .before .before .before .before .before .before .before .before .pre .ends-hold .enough)
@@ -46,13 +53,24 @@ day-number-requires : tie.Need-day-number-requires Inv-loop μ-loop
 day-number-requires c κs = omega (arith, turn (c .before .before), c .before .before .before .before .before .before .before .before .before .before .before .pre .days-most)
 
 sub-check-day : tie.Need-sub-check-day Inv-loop μ-loop
-sub-check-day c = omega (arith, c .before .before .start-of .ensures, c .before .end-of .ensures, c .before .before .before .before .before .before .before .before .before .before .before .before .pre .ends-hold .ascend (c .before .before .before .before .loop .i) (turn (c .before .before .before)))
+sub-check-day c = omega (
+  arith,
+  c .before .before .start-of .ensures,
+  c .before .end-of .ensures,
+  c .before .before .before .before .before .before .before .before .before .before .before .before .pre .ends-hold .ascend (c .before .before .before .before .loop .i)
+      (turn (c .before .before .before)),
+)
 
 part-check-day-start : tie.Need-part-check-day-start Inv-loop μ-loop
 part-check-day-start c = sub-check-day c
 
 part-check-day-end : tie.Need-part-check-day-end Inv-loop μ-loop
-part-check-day-end c = omega (arith, c .before .end-of .ensures, c .before .before .before .before .before .before .before .before .before .before .before .before .pre .ends-hold .within (c .before .before .before .before .loop .i) (turn (c .before .before .before)))
+part-check-day-end c = omega (
+  arith,
+  c .before .end-of .ensures,
+  c .before .before .before .before .before .before .before .before .before .before .before .before .pre .ends-hold .within
+      (c .before .before .before .before .loop .i) (turn (c .before .before .before)),
+)
 
 sub-check-day-2 : tie.Need-sub-check-day-2 Inv-loop μ-loop
 sub-check-day-2 c = begin (c .before .before .before .before) .0
@@ -73,11 +91,16 @@ part-check-day-start-4 : tie.Need-part-check-day-start-4 Inv-loop μ-loop
 part-check-day-start-4 c = begin (c .before .before .before .before .before .before) .2
 
 check-day-requires : tie.Need-check-day-requires Inv-loop μ-loop
-check-day-requires c κs = day-needs (c .before .before .before .before .before .before .before .before .before .before .before .before .before .before .before .before .pre) (c .before .before .before .before .before .before .before .before .loop .inv .3) (turn (c .before .before .before .before .before .before .before)) (c .before .before .before .before .day-number .ensures)
+check-day-requires c κs = day-needs (c .before .before .before .before .before .before .before .before .before .before .before .before .before .before .before .before .pre)
+    (c .before .before .before .before .before .before .before .before .loop .inv .3) (turn (c .before .before .before .before .before .before .before))
+    (c .before .before .before .before .day-number .ensures)
 
 -- the day's bytes are those between its start and its end
 is-day : (c : tie.After-wide2 Inv-loop μ-loop) →
-    take (c .before .before .before .before .before .before .before .before .before .before .before .before .before .end-of .result - c .before .before .before .before .before .before .before .before .before .before .before .before .before .before .start-of .result) (drop (c .before .before .before .before .before .before .before .before .before .before .before .before .before .before .start-of .result) (c .before .before .before .before .before .before .before .before .before .before .before .before .before .before .before .before .before .before .before .before .before .before .before .before .args .ledger .now)) ≡
+    take (c .before .before .before .before .before .before .before .before .before .before .before .before .before .end-of .result -
+    c .before .before .before .before .before .before .before .before .before .before .before .before .before .before .start-of .result)
+    (drop (c .before .before .before .before .before .before .before .before .before .before .before .before .before .before .start-of .result)
+    (c .before .before .before .before .before .before .before .before .before .before .before .before .before .before .before .before .before .before .before .before .before .before .before .before .args .ledger .now)) ≡
     dayAt (c .before .before .before .before .before .before .before .before .before .before .before .before .before .before .before .before .before .before .before .before .before .before .before .before .args .ledger .now) (c .before .before .before .before .before .before .before .before .before .before .before .before .before .before .before .before .before .before .before .before .before .before .before .before .args .ends .now) (c .before .before .before .before .before .before .before .before .before .before .before .before .before .before .before .before .loop .i)
 is-day c = ap₂ (λ (x y : ℕ). take (y - x) (drop x (c .before .before .before .before .before .before .before .before .before .before .before .before .before .before .before .before .before .before .before .before .before .before .before .before .args .ledger .now))) (c .before .before .before .before .before .before .before .before .before .before .before .before .before .before .start-of .ensures) (c .before .before .before .before .before .before .before .before .before .before .before .before .before .end-of .ensures)
 
@@ -95,40 +118,14 @@ loop-again c = (
 )
 
 returns : tie.Need-returns Inv-loop μ-loop
-returns c = through-all (c .before .before .before .before .before .before .before .before .before .pre) (c .before .loop .inv .3) (omega (arith, c .before .loop .inv .0, c .before .loop .inv .1, c .loop-test .left))
+returns c =
+    let l = c .before .loop in
+    through-all (c .before .before .before .before .before .before .before .before .before .pre) (l .inv .3) (omega (arith, l .inv .0, l .inv .1, c .loop-test .left))
 
 pub check-days-spec : {M : Type 1} → statement M
-check-days-spec =
-    tie.close
-    (tie.spec
-    Inv-loop
-    μ-loop
-    (λ c. λ κs. search needs)
-    (λ c. λ κs. search needs)
-    loop-holds
-    start-of-requires
-    end-of-requires
-    mul-from
-    mul-done
-    day-number-requires
-    sub-check-day
-    part-check-day-start
-    part-check-day-end
-    sub-check-day-2
-    part-check-day-start-2
-    (λ c. search needs)
-    sub-check-day-3
-    part-check-day-start-3
-    (λ c. search needs)
-    sub-check-day-4
-    part-check-day-start-4
-    (λ c. search needs)
-    check-day-requires
-    (λ c. λ κs. search needs)
-    add-at
-    (λ c. search needs)
-    (λ c. search needs)
-    loop-again
-    (λ c. search needs)
-    (λ c. search needs)
-    returns)
+check-days-spec = tie.close (tie.spec Inv-loop μ-loop (λ c. λ κs. search needs) (λ c. λ κs. search needs) loop-holds
+    start-of-requires end-of-requires mul-from mul-done day-number-requires sub-check-day part-check-day-start
+    part-check-day-end sub-check-day-2 part-check-day-start-2 (λ c. search needs) sub-check-day-3 part-check-day-start-3
+    (λ c. search needs) sub-check-day-4 part-check-day-start-4 (λ c. search needs) check-day-requires
+    (λ c. λ κs. search needs) add-at (λ c. search needs) (λ c. search needs) loop-again (λ c. search needs)
+    (λ c. search needs) returns)

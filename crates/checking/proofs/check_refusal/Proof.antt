@@ -36,17 +36,5 @@ returns-5 c =
     (room-0 _ _ _ _ _ _ k (c .before .before .wide2 .ensures) (c .before .before .before .if2 .left) (c .before .if3 .left) (c .if4 .left))
 
 pub check-refusal-spec : {M : Type 1} → statement M
-check-refusal-spec =
-    tie.close
-    (tie.spec
-    (λ c κs. search needs)
-    returns
-    values-through-requires
-    (λ c κs. search needs)
-    (λ c. search needs)
-    returns-2
-    (λ c κs. search needs)
-    (λ c. search needs)
-    returns-3
-    returns-4
-    returns-5)
+check-refusal-spec = tie.close (tie.spec (λ c κs. search needs) returns values-through-requires (λ c κs. search needs)
+    (λ c. search needs) returns-2 (λ c κs. search needs) (λ c. search needs) returns-3 returns-4 returns-5)

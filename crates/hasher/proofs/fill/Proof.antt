@@ -29,33 +29,20 @@ loop-again : tie.Need-loop-again Inv-loop μ-loop Inv-loop2 μ-loop2
 loop-again c = (search needs, search needs, fill-first _ _ _ (let lb : length (c .before .before .args .t1) ≡ 64 = search needs in omega arith) (omega arith) (c .before .loop .inv .2))
 
 loop2-holds : tie.Need-loop2-holds Inv-loop μ-loop Inv-loop2 μ-loop2
-loop2-holds c = (search needs, search needs, fill-begin (c .before .before .args .t1) (c .before .loop .r) (c .before .before .args .at) (c .before .loop .i) (omega arith) (let lb : length (c .before .before .args .t1) ≡ 64 = search needs in omega arith) (c .before .loop .inv .2))
+loop2-holds c =
+    let a = c .before .before .args in let l = c .before .loop in
+    (search needs, search needs, fill-begin (a .t1) (l .r) (a .at) (l .i) (omega arith) (let lb : length (a .t1) ≡ 64 = search needs in omega arith) (l .inv .2))
 
 loop2-again : tie.Need-loop2-again Inv-loop μ-loop Inv-loop2 μ-loop2
 loop2-again c = (search needs, search needs, fill-second _ _ _ _ _ (omega arith) (omega arith) (omega arith) (c .before .before .loop2 .inv .2))
 
 returns : tie.Need-returns Inv-loop μ-loop Inv-loop2 μ-loop2
-returns c = fill-whole (c .before .before .before .before .args .t1) (c .before .before .before .loop .r) _ (c .before .before .before .before .args .s .now) (c .before .before .before .before .args .at) (c .before .before .before .loop .i) (c .before .loop2 .j) (omega arith) (let lb : length (c .before .before .before .before .args .t1) ≡ 64 = search needs in omega arith) (c .before .before .before .loop .inv .2) (omega arith) (c .before .loop2 .inv .2)
+returns c =
+    let a = c .before .before .before .before .args in let l = c .before .before .before .loop in
+    fill-whole (a .t1) (l .r) _ (a .s .now) (a .at) (l .i) (c .before .loop2 .j) (omega arith) (let lb : length (a .t1) ≡ 64 = search needs in omega arith) (l .inv .2) (omega arith)
+    (c .before .loop2 .inv .2)
 
 pub fill-spec : {M : Type 1} → statement M
-fill-spec =
-    tie.close
-    (tie.spec
-    Inv-loop
-    μ-loop
-    Inv-loop2
-    μ-loop2
-    loop-holds
-    (λ c. search needs)
-    (λ c. search needs)
-    (λ c. search needs)
-    (λ c. search needs)
-    loop-again
-    loop2-holds
-    (λ c. search needs)
-    (λ c. search needs)
-    (λ c. search needs)
-    (λ c. search needs)
-    (λ c. search needs)
-    loop2-again
-    returns)
+fill-spec = tie.close (tie.spec Inv-loop μ-loop Inv-loop2 μ-loop2 loop-holds (λ c. search needs) (λ c. search needs)
+    (λ c. search needs) (λ c. search needs) loop-again loop2-holds (λ c. search needs) (λ c. search needs)
+    (λ c. search needs) (λ c. search needs) (λ c. search needs) loop2-again returns)

@@ -8,6 +8,5 @@ returns : tie.Need-returns
 returns c = onward-of _ _ _ _ (c .before .before .blocks2 .ensures) (c .fill .ensures)
 
 pub onward-spec : {M : Type 1} → statement M
-onward-spec =
-    tie.close
+onward-spec = tie.close
     (tie.spec (λ c. λ κs. search needs) (λ c. search needs) (λ c. search needs) (λ c. search needs) (λ c. search needs) (λ c. λ κs. search needs) returns)

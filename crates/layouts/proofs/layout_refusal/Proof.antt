@@ -18,5 +18,4 @@ returns-3 : tie.Need-returns-3
 returns-3 c = layout-0 _ _ _ _ (c .before .before .before .setup-refusal .ensures) (c .before .before .if1 .left) (c .before .allowed-d .ensures) (c .if2 .left)
 
 pub layout-refusal-spec : {M : Type 1} → statement M
-layout-refusal-spec =
-    tie.close (tie.spec (λ c. λ κs. search needs) returns allowed-d-requires returns-2 returns-3)
+layout-refusal-spec = tie.close (tie.spec (λ c. λ κs. search needs) returns allowed-d-requires returns-2 returns-3)

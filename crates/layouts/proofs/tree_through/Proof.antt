@@ -20,13 +20,5 @@ returns : tie.Need-returns
 returns c = rw (c .intervals .ensures) (tree-sum-is (c .before .args .n) (c .before .args .g) (c .before .pre .0) (c .before .pre .1) .sum-is)
 
 pub tree-through-spec : {M : Type 1} → statement M
-tree-through-spec =
-    tie.close
-    (tie.spec
-    (λ c. λ κs. search needs)
-    (λ c. search needs)
-    sub-result
-    add-result
-    sub-result-2
-    sub-result-3
-    returns)
+tree-through-spec = tie.close (tie.spec (λ c. λ κs. search needs) (λ c. search needs) sub-result add-result sub-result-2
+    sub-result-3 returns)

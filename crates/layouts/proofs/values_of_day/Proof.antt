@@ -11,11 +11,5 @@ returns : tie.Need-returns
 returns c = day-values _ _ _ (c .before .before .pre .2) (c .before .values-through .ensures) (c .values-through2 .ensures) .1
 
 pub values-of-day-spec : {M : Type 1} → statement M
-values-of-day-spec =
-    tie.close
-    (tie.spec
-    (λ c. λ κs. search needs)
-    (λ c. search needs)
-    (λ c. λ κs. search needs)
-    sub-result
-    returns)
+values-of-day-spec = tie.close (tie.spec (λ c. λ κs. search needs) (λ c. search needs) (λ c. λ κs. search needs)
+    sub-result returns)

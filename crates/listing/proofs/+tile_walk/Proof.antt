@@ -125,8 +125,14 @@ tile-walk-tile-walk-requires : (t : ℕ) → tile-walk-lts.Need-tile-walk-requir
   tile-walk.Post,
 ) (tile-walk-at t) tile-walk.Post
 tile-walk-tile-walk-requires t c κs =
-    let pre = c .before .before .before .before .before .before .before .pre in
-    (level-less _ _ (pre .0) (c .before .before .before .before .if1 .left), (upper-tile (pre .1 .0) (c .before .before .before .before .if1 .left) (c .before .before .before .size .ensures), left-place _ _ _ (c .before .before .before .before .if1 .left) (pre .1 .1)))
+    let pre = c .before .before .before .before .before .before .before .pre in (
+      level-less _ _ (pre .0) (c .before .before .before .before .if1 .left),
+      (
+        upper-tile (pre .1 .0) (c .before .before .before .before .if1 .left) (c .before .before .before .size .ensures),
+        left-place _ _ _ (c .before .before .before .before .if1 .left)
+            (pre .1 .1),
+      ),
+    )
 
 tile-walk-same-length-2 : (t : ℕ) → tile-walk-lts.Need-same-length-2 (
   size-reads.Asked,
@@ -148,7 +154,9 @@ tile-walk-returns-2 : (t : ℕ) → tile-walk-lts.Need-returns-2 (
 ) (tile-walk-at t) tile-walk.Post
 tile-walk-returns-2 t c =
     let args = c .before .before .before .before .before .before .before .before .before .before .args in
-    wrote-as _ (tile-upper (tileBit (args .n) (args .t .now) (args .g)) (args .level) (args .day) (c .before .before .before .before .before .before .size .result) (c .before .before .before .before .before .tile-bit .ensures) (c .before .before .before .before .if2 .taken) (c .before .before .before .before .before .before .before .if1 .left) (c .before .before .before .before .before .before .size .ensures)) (c .before .before .tile-walk .ensures)
+    wrote-as _ (tile-upper (tileBit (args .n) (args .t .now) (args .g)) (args .level) (args .day) (c .before .before .before .before .before .before .size .result)
+    (c .before .before .before .before .before .tile-bit .ensures) (c .before .before .before .before .if2 .taken) (c .before .before .before .before .before .before .before .if1 .left)
+    (c .before .before .before .before .before .before .size .ensures)) (c .before .before .tile-walk .ensures)
 
 tile-walk-tile-walk-requires-2 : (t : ℕ) → tile-walk-lts.Need-tile-walk-requires-2 (
   size-reads.Asked,
@@ -159,8 +167,14 @@ tile-walk-tile-walk-requires-2 : (t : ℕ) → tile-walk-lts.Need-tile-walk-requ
   tile-walk.Post,
 ) (tile-walk-at t) tile-walk.Post
 tile-walk-tile-walk-requires-2 t c κs =
-    let pre = c .before .before .before .before .before .before .before .pre in
-    (level-less _ _ (pre .0) (c .before .before .before .before .if1 .left), (lower-tile (pre .1 .0) (c .before .before .before .before .if1 .left) (c .before .before .before .size .ensures), left-place _ _ _ (c .before .before .before .before .if1 .left) (pre .1 .1)))
+    let pre = c .before .before .before .before .before .before .before .pre in (
+      level-less _ _ (pre .0) (c .before .before .before .before .if1 .left),
+      (
+        lower-tile (pre .1 .0) (c .before .before .before .before .if1 .left) (c .before .before .before .size .ensures),
+        left-place _ _ _ (c .before .before .before .before .if1 .left)
+            (pre .1 .1),
+      ),
+    )
 
 tile-walk-add-tile-walk-2 : (t : ℕ) → tile-walk-lts.Need-add-tile-walk-2 (
   size-reads.Asked,
@@ -170,7 +184,10 @@ tile-walk-add-tile-walk-2 : (t : ℕ) → tile-walk-lts.Need-add-tile-walk-2 (
   tile-walk-below t,
   tile-walk.Post,
 ) (tile-walk-at t) tile-walk.Post
-tile-walk-add-tile-walk-2 t c = record { fits = tile-sum (c .before .before .before .before .before .before .before .before .before .before .pre .1 .0) (c .before .before .before .before .before .before .before .if1 .left) (c .before .before .before .before .before .before .size .ensures) }
+tile-walk-add-tile-walk-2 t c = record {
+  fits = tile-sum (c .before .before .before .before .before .before .before .before .before .before .pre .1 .0)
+      (c .before .before .before .before .before .before .before .if1 .left) (c .before .before .before .before .before .before .size .ensures);
+}
 
 tile-walk-tile-walk-requires-3 : (t : ℕ) → tile-walk-lts.Need-tile-walk-requires-3 (
   size-reads.Asked,
@@ -182,8 +199,15 @@ tile-walk-tile-walk-requires-3 : (t : ℕ) → tile-walk-lts.Need-tile-walk-requ
 ) (tile-walk-at t) tile-walk.Post
 tile-walk-tile-walk-requires-3 t c κs =
     let args = c .before .before .before .before .before .before .before .before .before .before .before .args in
-    let pre = c .before .before .before .before .before .before .before .before .before .before .before .pre in
-    (level-less _ _ (pre .0) (c .before .before .before .before .before .before .before .before .if1 .left), (upper-tile (pre .1 .0) (c .before .before .before .before .before .before .before .before .if1 .left) (c .before .before .before .before .before .before .before .size .ensures), tile-right-place (tileBit (args .n) (args .t .now) (args .g)) (args .level) (args .day) (args .at) (c .before .before .before .tile-walk2 .result) _ (args .list .now) _ (c .before .before .before .before .before .before .before .before .if1 .left) (pre .1 .1) (c .before .before .before .tile-walk2 .ensures) (c .before .before .before .tile-walk2 .kept .1 .1 .1 .1 .1 .0)))
+    let pre = c .before .before .before .before .before .before .before .before .before .before .before .pre in (
+      level-less _ _ (pre .0) (c .before .before .before .before .before .before .before .before .if1 .left),
+      (
+        upper-tile (pre .1 .0) (c .before .before .before .before .before .before .before .before .if1 .left) (c .before .before .before .before .before .before .before .size .ensures),
+        tile-right-place (tileBit (args .n) (args .t .now) (args .g)) (args .level) (args .day) (args .at) (c .before .before .before .tile-walk2 .result) _ (args .list .now) _
+            (c .before .before .before .before .before .before .before .before .if1 .left) (pre .1 .1) (c .before .before .before .tile-walk2 .ensures)
+            (c .before .before .before .tile-walk2 .kept .1 .1 .1 .1 .1 .0),
+      ),
+    )
 
 tile-walk-same-length-3 : (t : ℕ) → tile-walk-lts.Need-same-length-3 (
   size-reads.Asked,
@@ -205,7 +229,13 @@ tile-walk-returns-3 : (t : ℕ) → tile-walk-lts.Need-returns-3 (
 ) (tile-walk-at t) tile-walk.Post
 tile-walk-returns-3 t c =
     let args = c .before .before .before .before .before .before .before .before .before .before .before .before .before .before .args in
-    tile-join (tileBit (args .n) (args .t .now) (args .g)) (args .level) (args .day) (c .before .before .before .before .before .before .before .before .before .before .size .result) (args .at) (c .before .before .before .before .before .before .tile-walk2 .result) (c .before .before .tile-walk3 .result) (args .list .now) _ _ (c .before .before .before .before .before .before .before .before .before .tile-bit .ensures) (c .before .before .before .before .before .before .before .before .if2 .left) (c .before .before .before .before .before .before .before .before .before .before .before .if1 .left) (c .before .before .before .before .before .before .before .before .before .before .size .ensures) (c .before .before .before .before .before .before .before .before .before .before .before .before .before .before .pre .1 .1) (c .before .before .before .before .before .before .tile-walk2 .ensures) (c .before .before .tile-walk3 .ensures)
+    tile-join (tileBit (args .n) (args .t .now) (args .g)) (args .level) (args .day) (c .before .before .before .before .before .before .before .before .before .before .size .result) (args .at)
+    (c .before .before .before .before .before .before .tile-walk2 .result) (c .before .before .tile-walk3 .result) (args .list .now) _ _
+    (c .before .before .before .before .before .before .before .before .before .tile-bit .ensures) (c .before .before .before .before .before .before .before .before .if2 .left)
+    (c .before .before .before .before .before .before .before .before .before .before .before .if1 .left)
+    (c .before .before .before .before .before .before .before .before .before .before .size .ensures)
+    (c .before .before .before .before .before .before .before .before .before .before .before .before .before .before .pre .1 .1)
+    (c .before .before .before .before .before .before .tile-walk2 .ensures) (c .before .before .tile-walk3 .ensures)
 
 pub +tile-walk-spec : {M : Type 1} → statement M
 +tile-walk-spec = close μ-tile-walk λ t. tile-walk-lts.spec (

@@ -95,7 +95,8 @@ walk-returns-2 : (t : ℕ) → walk-lts.Need-returns-2 (
   walk-below t,
   walk.Post,
 ) (walk-at t) walk.Post
-walk-returns-2 t c = wrote-one _ _ _ _ (tree-day _ _ _ _ (c .before .before .tree-passes .ensures) (c .before .if1 .left) (c .if2 .taken)) (place-one _ _ _ (c .before .before .before .before .before .pre .1 .1))
+walk-returns-2 t c = wrote-one _ _ _ _ (tree-day _ _ _ _ (c .before .before .tree-passes .ensures) (c .before .if1 .left) (c .if2 .taken))
+    (place-one _ _ _ (c .before .before .before .before .before .pre .1 .1))
 
 walk-sub-l : (t : ℕ) → walk-lts.Need-sub-l (
   tree-passes-reads.Asked,
@@ -136,8 +137,14 @@ walk-walk-requires : (t : ℕ) → walk-lts.Need-walk-requires (
   walk.Post,
 ) (walk-at t) walk.Post
 walk-walk-requires t c κs =
-    let pre = c .before .before .before .before .before .before .before .pre in
-    (level-less _ _ (pre .0) (c .before .before .if2 .left), (left-chain (pre .1 .0) (c .before .before .if2 .left) (c .before .size .ensures), left-place _ _ _ (c .before .before .if2 .left) (pre .1 .1)))
+    let pre = c .before .before .before .before .before .before .before .pre in (
+      level-less _ _ (pre .0) (c .before .before .if2 .left),
+      (
+        left-chain (pre .1 .0) (c .before .before .if2 .left) (c .before .size .ensures),
+        left-place _ _ _ (c .before .before .if2 .left)
+            (pre .1 .1),
+      ),
+    )
 
 walk-walk-requires-2 : (t : ℕ) → walk-lts.Need-walk-requires-2 (
   tree-passes-reads.Asked,
@@ -149,8 +156,15 @@ walk-walk-requires-2 : (t : ℕ) → walk-lts.Need-walk-requires-2 (
 ) (walk-at t) walk.Post
 walk-walk-requires-2 t c κs =
     let args = c .before .before .before .before .before .before .before .before .before .before .before .args in
-    let pre = c .before .before .before .before .before .before .before .before .before .before .before .pre in
-    (level-less _ _ (pre .0) (c .before .before .before .before .before .before .if2 .left), (right-chain (pre .1 .0) (c .before .before .before .before .before .before .if2 .left) (c .before .before .before .before .before .size .ensures), tree-right-place (args .n) (args .level) (args .g - c .before .before .before .before .before .size .result) (args .at) (c .before .before .before .walk .result) _ (args .t .now) (args .list .now) _ (c .before .before .before .before .before .before .if2 .left) (pre .1 .1) (c .before .before .before .walk .ensures) (c .before .before .before .walk .kept .1 .1 .1 .1 .0)))
+    let pre = c .before .before .before .before .before .before .before .before .before .before .before .pre in (
+      level-less _ _ (pre .0) (c .before .before .before .before .before .before .if2 .left),
+      (
+        right-chain (pre .1 .0) (c .before .before .before .before .before .before .if2 .left) (c .before .before .before .before .before .size .ensures),
+        tree-right-place (args .n) (args .level)
+            (args .g - c .before .before .before .before .before .size .result) (args .at) (c .before .before .before .walk .result) _ (args .t .now) (args .list .now) _
+            (c .before .before .before .before .before .before .if2 .left) (pre .1 .1) (c .before .before .before .walk .ensures) (c .before .before .before .walk .kept .1 .1 .1 .1 .0),
+      ),
+    )
 
 walk-same-length-2 : (t : ℕ) → walk-lts.Need-same-length-2 (
   tree-passes-reads.Asked,
@@ -172,7 +186,13 @@ walk-returns-3 : (t : ℕ) → walk-lts.Need-returns-3 (
 ) (walk-at t) walk.Post
 walk-returns-3 t c =
     let args = c .before .before .before .before .before .before .before .before .before .before .before .before .before .before .args in
-    tree-join (args .n) (args .level) (args .g) (c .before .before .before .before .before .before .before .before .size .result) (args .at) (c .before .before .before .before .before .before .walk .result) (c .before .before .walk2 .result) (args .t .now) (args .list .now) _ _ (c .before .before .before .before .before .before .before .before .before .before .before .tree-passes .ensures) (c .before .before .before .before .before .before .before .before .before .before .if1 .left) (c .before .before .before .before .before .before .before .before .before .if2 .left) (c .before .before .before .before .before .before .before .before .size .ensures) (c .before .before .before .before .before .before .before .before .before .before .before .before .before .before .pre .1 .1) (c .before .before .before .before .before .before .walk .ensures) (c .before .before .walk2 .ensures)
+    tree-join (args .n) (args .level) (args .g) (c .before .before .before .before .before .before .before .before .size .result) (args .at)
+    (c .before .before .before .before .before .before .walk .result) (c .before .before .walk2 .result) (args .t .now) (args .list .now) _ _
+    (c .before .before .before .before .before .before .before .before .before .before .before .tree-passes .ensures)
+    (c .before .before .before .before .before .before .before .before .before .before .if1 .left) (c .before .before .before .before .before .before .before .before .before .if2 .left)
+    (c .before .before .before .before .before .before .before .before .size .ensures)
+    (c .before .before .before .before .before .before .before .before .before .before .before .before .before .before .pre .1 .1)
+    (c .before .before .before .before .before .before .walk .ensures) (c .before .before .walk2 .ensures)
 
 pub +walk-spec : {M : Type 1} → statement M
 +walk-spec = close μ-walk λ t. walk-lts.spec (

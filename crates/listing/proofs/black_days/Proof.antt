@@ -12,17 +12,9 @@ sub-run : tie.Need-sub-run
 sub-run c = interval-room (c .before .before .before .before .pre .0)
 
 returns-2 : tie.Need-returns-2
-returns-2 c = wrote-as _ (black-all _ _ _ (c .before .before .before .before .before .before .before .before .pre .0) (c .before .before .before .before .before .black-passes .ensures) (c .before .before .before .before .if1 .left)) (c .before .before .run .ensures)
+returns-2 c = wrote-as _ (black-all _ _ _ (c .before .before .before .before .before .before .before .before .pre .0) (c .before .before .before .before .before .black-passes .ensures)
+    (c .before .before .before .before .if1 .left)) (c .before .before .run .ensures)
 
 pub black-days-spec : {M : Type 1} → statement M
-black-days-spec =
-    tie.close
-    (tie.spec
-    (λ c. λ κs. search needs)
-    returns
-    sub-run
-    (λ c. search needs)
-    (λ c. search needs)
-    (λ c. λ κs. search needs)
-    (λ c. search needs)
-    returns-2)
+black-days-spec = tie.close (tie.spec (λ c. λ κs. search needs) returns sub-run (λ c. search needs) (λ c. search needs)
+    (λ c. λ κs. search needs) (λ c. search needs) returns-2)

@@ -24,9 +24,9 @@ returns-2 : tie.Need-returns-2
 returns-2 c =
     let args = c .before .before .before .before .before .before .before .args in
     let pre = c .before .before .before .before .before .before .before .pre in
-    wrote-as _ (isListed-as _ (args .n) (args .t .now) (lastDays (args .n) (args .g)) 2 (scheme-is-2 _ (pre .0 .has .scheme-ok) (pre .2) (c .before .before .before .before .if1 .left))) (c .before .before .tile-days .ensures)
+    wrote-as _ (isListed-as _ (args .n) (args .t .now) (lastDays (args .n) (args .g)) 2 (scheme-is-2 _ (pre .0 .has .scheme-ok) (pre .2) (c .before .before .before .before .if1 .left)))
+    (c .before .before .tile-days .ensures)
 
 pub interval-days-spec : {M : Type 1} → statement M
-interval-days-spec =
-    tie.close
+interval-days-spec = tie.close
     (tie.spec black-days-requires (λ c. search needs) returns tile-days-requires (λ c. search needs) returns-2)

@@ -40,39 +40,37 @@ interval-days-requires : tie.Need-interval-days-requires Inv-loop μ-loop
 interval-days-requires c κs =
     let args = c .before .before .before .before .before .args in
     let loop = c .before .before .loop in
-    let pre = c .before .before .before .before .before .pre in
-    (interval-of _ (pre .0) (omega arith) (omega arith), next-place (isListed (args .scheme) (args .n) (args .t .now)) (args .n) (args .d) (loop .k) (loop .at) (args .list .now) (loop .list) (c .before .loop-test .taken) (pre .1) (loop .inv .1), pre .2)
+    let pre = c .before .before .before .before .before .pre in (
+      interval-of _ (pre .0) (omega arith) (omega arith),
+      next-place (isListed (args .scheme) (args .n) (args .t .now)) (args .n) (args .d) (loop .k) (loop .at) (args .list .now) (loop .list)
+          (c .before .loop-test .taken) (pre .1) (loop .inv .1),
+      pre .2,
+    )
 
 loop-again : tie.Need-loop-again Inv-loop μ-loop
 loop-again c =
     let args = c .before .before .before .before .before .before .before .before .args in
-    let loop = c .before .before .before .before .before .loop in
-    (omega arith, next-interval (isListed (args .scheme) (args .n) (args .t .now)) (args .n) (args .d) (loop .k) (loop .at) (c .before .before .interval-days .result) (args .list .now) (loop .list) _ (c .before .before .before .before .loop-test .taken) (c .before .before .before .before .before .before .before .before .pre .1) (loop .inv .1) (c .before .before .interval-days .ensures))
+    let loop = c .before .before .before .before .before .loop in (
+      omega arith,
+      next-interval (isListed (args .scheme) (args .n) (args .t .now)) (args .n) (args .d) (loop .k) (loop .at) (c .before .before .interval-days .result) (args .list .now)
+          (loop .list) _ (c .before .before .before .before .loop-test .taken) (c .before .before .before .before .before .before .before .before .pre .1) (loop .inv .1)
+          (c .before .before .interval-days .ensures),
+    )
 
 same-length : tie.Need-same-length Inv-loop μ-loop
 same-length c =
     let args = c .before .before .before .before .args in
     let loop = c .before .loop in
-    so-far-length (isListed (args .scheme) (args .n) (args .t .now)) (loop .k * args .n) (args .d) (loop .at) (args .list .now) (loop .list) (interval-end (args .n) (args .d) (loop .k) (loop .inv .0)) (c .before .before .before .before .pre .1) (loop .inv .1)
+    so-far-length (isListed (args .scheme) (args .n) (args .t .now)) (loop .k * args .n) (args .d) (loop .at) (args .list .now) (loop .list)
+    (interval-end (args .n) (args .d) (loop .k) (loop .inv .0)) (c .before .before .before .before .pre .1) (loop .inv .1)
 
 returns : tie.Need-returns Inv-loop μ-loop
 returns c =
     let args = c .before .before .before .before .args in
     let loop = c .before .loop in
-    all-intervals (isListed (args .scheme) (args .n) (args .t .now)) (args .n) (args .d) (loop .k) (loop .at) (args .list .now) (loop .list) (c .before .before .before .before .pre .0 .whole) (loop .inv .0) (c .loop-test .left) (loop .inv .1)
+    all-intervals (isListed (args .scheme) (args .n) (args .t .now)) (args .n) (args .d) (loop .k) (loop .at) (args .list .now) (loop .list) (c .before .before .before .before .pre .0 .whole)
+    (loop .inv .0) (c .loop-test .left) (loop .inv .1)
 
 pub interval-walk-spec : {M : Type 1} → statement M
-interval-walk-spec =
-    tie.close
-    (tie.spec
-    Inv-loop
-    μ-loop
-    div-m
-    loop-holds
-    add-k
-    mul-interval-days
-    interval-days-requires
-    (λ c. omega arith)
-    loop-again
-    same-length
-    returns)
+interval-walk-spec = tie.close (tie.spec Inv-loop μ-loop div-m loop-holds add-k mul-interval-days interval-days-requires
+    (λ c. omega arith) loop-again same-length returns)

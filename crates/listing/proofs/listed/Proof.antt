@@ -23,12 +23,5 @@ interval-walk-requires c κs =
     (pre .0, pre .1, below-third _ (pre .0 .scheme-ok) (c .before .if1 .left))
 
 pub listed-spec : {M : Type 1} → statement M
-listed-spec =
-    tie.close
-    (tie.spec
-    tree-walk-requires
-    (λ c. search needs)
-    returns
-    interval-walk-requires
-    (λ c. search needs)
-    (λ c. search needs))
+listed-spec = tie.close (tie.spec tree-walk-requires (λ c. search needs) returns interval-walk-requires
+    (λ c. search needs) (λ c. search needs))

@@ -21,7 +21,8 @@ mul-list : tie.Need-mul-list Inv-loop μ-loop
 mul-list c =
     let args = c .before .before .args in
     let loop = c .before .loop in
-    let q = run-place (args .first) (loop .day) (args .end) (args .at) (loop .p) (args .list .now) (loop .list) (loop .inv .0) (c .loop-test .taken) (c .before .before .pre .1) (loop .inv .2) in omega (arith, q .0, q .1, c .before .before .good .1 .1 .0 .1)
+    let q = run-place (args .first) (loop .day) (args .end) (args .at) (loop .p) (args .list .now) (loop .list) (loop .inv .0) (c .loop-test .taken) (c .before .before .pre .1) (loop .inv .2) in
+    omega (arith, q .0, q .1, c .before .before .good .1 .1 .0 .1)
 
 slice-write-list : tie.Need-slice-write-list Inv-loop μ-loop
 slice-write-list c =
@@ -33,13 +34,18 @@ add-p : tie.Need-add-p Inv-loop μ-loop
 add-p c =
     let args = c .before .before .args in
     let loop = c .before .loop in
-    let q = run-place (args .first) (loop .day) (args .end) (args .at) (loop .p) (args .list .now) (loop .list) (loop .inv .0) (c .loop-test .taken) (c .before .before .pre .1) (loop .inv .2) in omega (arith, q .0, q .1, c .before .before .good .1 .1 .0 .1)
+    let q = run-place (args .first) (loop .day) (args .end) (args .at) (loop .p) (args .list .now) (loop .list) (loop .inv .0) (c .loop-test .taken) (c .before .before .pre .1) (loop .inv .2) in
+    omega (arith, q .0, q .1, c .before .before .good .1 .1 .0 .1)
 
 loop-again : tie.Need-loop-again Inv-loop μ-loop
 loop-again c =
     let args = c .before .before .args in
-    let loop = c .before .loop in
-    (omega arith, omega arith, run-next (args .first) (loop .day) (args .end) (args .at) (loop .p) (args .list .now) (loop .list) (loop .inv .0) (c .loop-test .taken) (c .before .before .pre .1) (loop .inv .2))
+    let loop = c .before .loop in (
+      omega arith,
+      omega arith,
+      run-next (args .first) (loop .day) (args .end) (args .at) (loop .p) (args .list .now) (loop .list) (loop .inv .0) (c .loop-test .taken) (c .before .before .pre .1)
+          (loop .inv .2),
+    )
 
 same-length : tie.Need-same-length Inv-loop μ-loop
 same-length c =
@@ -54,17 +60,5 @@ returns c =
     run-end (args .first) (loop .day) (args .end) (args .at) (loop .p) (args .list .now) (loop .list) (loop .inv .1) (c .loop-test .left) (loop .inv .2)
 
 pub run-spec : {M : Type 1} → statement M
-run-spec =
-    tie.close
-    (tie.spec
-    Inv-loop
-    μ-loop
-    loop-holds
-    mul-list
-    slice-write-list
-    add-p
-    (λ c. search needs)
-    (λ c. omega arith)
-    loop-again
-    same-length
-    returns)
+run-spec = tie.close (tie.spec Inv-loop μ-loop loop-holds mul-list slice-write-list add-p (λ c. search needs)
+    (λ c. omega arith) loop-again same-length returns)

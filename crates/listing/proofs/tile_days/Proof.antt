@@ -21,17 +21,10 @@ tile-walk-requires c κs =
     tile-start _ _ _ _ _ (pre .0) (pre .1) (c .before .lg .ensures)
 
 returns-2 : tie.Need-returns-2
-returns-2 c = wrote-as _ (tile-failed _ _ _ (c .before .before .before .before .before .before .before .before .before .pre .0) (c .before .before .before .before .before .before .tile-passes .ensures) (c .before .before .before .before .before .if1 .left) (c .before .before .before .before .lg .ensures)) (c .before .before .tile-walk .ensures)
+returns-2 c = wrote-as _ (tile-failed _ _ _ (c .before .before .before .before .before .before .before .before .before .pre .0)
+    (c .before .before .before .before .before .before .tile-passes .ensures) (c .before .before .before .before .before .if1 .left) (c .before .before .before .before .lg .ensures))
+    (c .before .before .tile-walk .ensures)
 
 pub tile-days-spec : {M : Type 1} → statement M
-tile-days-spec =
-    tie.close
-    (tie.spec
-    (λ c. λ κs. search needs)
-    returns
-    lg-requires
-    sub-tile-walk
-    (λ c. search needs)
-    tile-walk-requires
-    (λ c. search needs)
-    returns-2)
+tile-days-spec = tie.close (tie.spec (λ c. λ κs. search needs) returns lg-requires sub-tile-walk (λ c. search needs)
+    tile-walk-requires (λ c. search needs) returns-2)

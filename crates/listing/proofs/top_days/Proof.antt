@@ -24,5 +24,5 @@ returns-2 : tie.Need-returns-2
 returns-2 c = wrote-as _ (top-chain _ _ _ _ _ (c .before .before .before .before .before .size .ensures) (c .before .before .before .before .if1 .left)) (c .before .before .walk .ensures)
 
 pub top-days-spec : {M : Type 1} → statement M
-top-days-spec =
-    tie.close (tie.spec (λ c. λ κs. search needs) div-k returns mul-walk walk-requires (λ c. search needs) returns-2)
+top-days-spec = tie.close
+    (tie.spec (λ c. λ κs. search needs) div-k returns mul-walk walk-requires (λ c. search needs) returns-2)

@@ -22,15 +22,23 @@ top-days-requires : tie.Need-top-days-requires Inv-loop μ-loop
 top-days-requires c κs =
     let args = c .before .before .before .before .before .args in
     let loop = c .before .before .loop in
-    let pre = c .before .before .before .before .before .pre in
-    (pre .0, level-place (isListed 3 (args .n) (args .t .now)) (args .d) (loop .level) (loop .at) (args .list .now) (loop .list) (c .before .loop-test .taken) (pre .1) (loop .inv .1) .0, omega arith, level-place (isListed 3 (args .n) (args .t .now)) (args .d) (loop .level) (loop .at) (args .list .now) (loop .list) (c .before .loop-test .taken) (pre .1) (loop .inv .1) .1)
+    let pre = c .before .before .before .before .before .pre in (
+      pre .0,
+      level-place (isListed 3 (args .n) (args .t .now)) (args .d) (loop .level) (loop .at) (args .list .now) (loop .list) (c .before .loop-test .taken) (pre .1) (loop .inv .1) .0,
+      omega
+          arith,
+      level-place (isListed 3 (args .n) (args .t .now)) (args .d) (loop .level) (loop .at) (args .list .now) (loop .list) (c .before .loop-test .taken) (pre .1) (loop .inv .1) .1,
+    )
 
 loop-again : tie.Need-loop-again Inv-loop μ-loop
 loop-again c =
     let args = c .before .before .before .before .before .before .before .before .args in
     let loop = c .before .before .before .before .before .loop in
-    let pre = c .before .before .before .before .before .before .before .before .pre in
-    (omega arith, next-level (args .n) (args .d) (args .t .now) (pre .0 .most) (pre .2) (loop .level) (loop .at) (c .before .before .top-days .result) (args .list .now) (loop .list) _ (c .before .before .before .before .loop-test .taken) (pre .1) (loop .inv .1) (c .before .before .top-days .ensures))
+    let pre = c .before .before .before .before .before .before .before .before .pre in (
+      omega arith,
+      next-level (args .n) (args .d) (args .t .now) (pre .0 .most) (pre .2) (loop .level) (loop .at) (c .before .before .top-days .result) (args .list .now) (loop .list) _
+          (c .before .before .before .before .loop-test .taken) (pre .1) (loop .inv .1) (c .before .before .top-days .ensures),
+    )
 
 same-length : tie.Need-same-length Inv-loop μ-loop
 same-length c =
@@ -45,15 +53,5 @@ returns c =
     all-levels (isListed 3 (args .n) (args .t .now)) (args .d) (loop .level) (loop .at) (args .list .now) (loop .list) (c .loop-test .left) (loop .inv .1)
 
 pub tree-walk-spec : {M : Type 1} → statement M
-tree-walk-spec =
-    tie.close
-    (tie.spec
-    Inv-loop
-    μ-loop
-    loop-holds
-    (λ c. omega arith)
-    top-days-requires
-    (λ c. omega arith)
-    loop-again
-    same-length
-    returns)
+tree-walk-spec = tie.close (tie.spec Inv-loop μ-loop loop-holds (λ c. omega arith) top-days-requires (λ c. omega arith)
+    loop-again same-length returns)

@@ -18,5 +18,4 @@ returns-4 : tie.Need-returns-4
 returns-4 c = number-more (c .before .before .before .before .args .ds .now) (c .before .before .before .if1 .left) (c .before .before .if2 .left) (c .before .if3 .left)
 
 pub is-number-spec : {M : Type 1} → statement M
-is-number-spec =
-    tie.close (tie.spec returns returns-2 returns-3 (λ c. search needs) returns-4)
+is-number-spec = tie.close (tie.spec returns returns-2 returns-3 (λ c. search needs) returns-4)

@@ -19,30 +19,36 @@ loop-holds : tie.Need-loop-holds Inv-loop μ-loop
 loop-holds c = (search needs, search needs, refl)
 
 mul-v : tie.Need-mul-v Inv-loop μ-loop
-mul-v c = record { fits = omega (arith, number-fits (c .before .before .before .before .loop .i) (c .before .before .before .before .loop .v) (length (c .before .before .before .before .before .before .args .ds .now)) (c .before .before .before .before .loop .inv .1) (c .before .before .before .loop-test .taken) (c .before .before .before .before .before .before .pre) (c .wide .ensures .1)) }
+mul-v c =
+    let l = c .before .before .before .before .loop in
+    record {
+      fits = omega (
+        arith,
+        number-fits (l .i) (l .v) (length (c .before .before .before .before .before .before .args .ds .now)) (l .inv .1) (c .before .before .before .loop-test .taken)
+            (c .before .before .before .before .before .before .pre) (c .wide .ensures .1),
+      );
+    }
 
 add-v : tie.Need-add-v Inv-loop μ-loop
-add-v c = record { fits = number-fits (c .before .before .before .before .loop .i) (c .before .before .before .before .loop .v) (length (c .before .before .before .before .before .before .args .ds .now)) (c .before .before .before .before .loop .inv .1) (c .before .before .before .loop-test .taken) (c .before .before .before .before .before .before .pre) (c .wide .ensures .1) }
+add-v c =
+    let l = c .before .before .before .before .loop in
+    record {
+      fits = number-fits (l .i) (l .v) (length (c .before .before .before .before .before .before .args .ds .now)) (l .inv .1) (c .before .before .before .loop-test .taken)
+          (c .before .before .before .before .before .before .pre) (c .wide .ensures .1);
+    }
 
 loop-again : tie.Need-loop-again Inv-loop μ-loop
-loop-again c = (search needs, number-stays (c .before .before .before .before .loop .i) (c .before .before .before .before .loop .v) (c .before .before .before .before .loop .inv .1) (c .wide .ensures .1), number-next (c .before .before .before .before .before .before .args .ds .now) (c .before .before .before .before .loop .i) (c .before .before .before .before .loop .v) (c .before .before .before .loop-test .taken) (c .before .before .before .before .loop .inv .2) (c .before .digit .ensures) (c .wide .ensures .0))
+loop-again c =
+    let l = c .before .before .before .before .loop in (
+      search needs,
+      number-stays (l .i) (l .v) (l .inv .1) (c .wide .ensures .1),
+      number-next (c .before .before .before .before .before .before .args .ds .now) (l .i) (l .v)
+          (c .before .before .before .loop-test .taken) (l .inv .2) (c .before .digit .ensures) (c .wide .ensures .0),
+    )
 
 returns : tie.Need-returns Inv-loop μ-loop
 returns c = number-done (c .before .before .before .args .ds .now) (c .before .loop .i) (c .before .loop .v) (c .loop-test .left) (c .before .loop .inv .2)
 
 pub number-spec : {M : Type 1} → statement M
-number-spec =
-    tie.close
-    (tie.spec
-    Inv-loop
-    μ-loop
-    loop-holds
-    (λ c. search needs)
-    (λ c. λ κs. search needs)
-    (λ c. λ κs. search needs)
-    mul-v
-    add-v
-    (λ c. search needs)
-    (λ c. search needs)
-    loop-again
-    returns)
+number-spec = tie.close (tie.spec Inv-loop μ-loop loop-holds (λ c. search needs) (λ c. λ κs. search needs)
+    (λ c. λ κs. search needs) mul-v add-v (λ c. search needs) (λ c. search needs) loop-again returns)

@@ -17,5 +17,5 @@ number-requires-2 : tie.Need-number-requires-2
 number-requires-2 c κs = omega (arith, length-take-le 5 (c .before .before .before .args .ds .now) (search needs))
 
 pub value-spec : {M : Type 1} → statement M
-value-spec =
-    tie.close (tie.spec (λ c. λ κs. search needs) returns slice-aggregate-number number-requires-2 (λ c. search needs))
+value-spec = tie.close
+    (tie.spec (λ c. λ κs. search needs) returns slice-aggregate-number number-requires-2 (λ c. search needs))

@@ -17,11 +17,13 @@ values-through-requires c κs = values-need _ _ _ _ _ (c .before .before .before
 slice-aggregate-read-table : tie.Need-slice-aggregate-read-table
 slice-aggregate-read-table c =
     part-length _ _
-    (values-within _ _ _ _ _ (c .before .before .before .before .before .before .before .args .list .now) (c .before .before .before .before .refusal .ensures) (c .before .before .before .if1 .left) (c .before .before .values-through .ensures) (c .before .wide .ensures))
+    (values-within _ _ _ _ _ (c .before .before .before .before .before .before .before .args .list .now) (c .before .before .before .before .refusal .ensures)
+    (c .before .before .before .if1 .left) (c .before .before .values-through .ensures) (c .before .wide .ensures))
 
 read-table-requires : tie.Need-read-table-requires
 read-table-requires c κs =
-    values-given _ _ _ _ _ (c .before .before .before .before .before .before .before .before .args .list .now) (c .before .before .before .before .before .refusal .ensures) (c .before .before .before .before .if1 .left) (c .before .before .before .values-through .ensures) (c .before .before .wide .ensures)
+    values-given _ _ _ _ _ (c .before .before .before .before .before .before .before .before .args .list .now) (c .before .before .before .before .before .refusal .ensures)
+    (c .before .before .before .before .if1 .left) (c .before .before .before .values-through .ensures) (c .before .before .wide .ensures)
 
 returns-2 : tie.Need-returns-2
 returns-2 c =
@@ -34,14 +36,5 @@ returns-2 c =
     (report-read _ _ _ _ _ list e z v x (c .before .before .read-table .result) (r .0), list-after _ _ _ _ _ list e z v x (r .1))
 
 pub read-spec : {M : Type 1} → statement M
-read-spec =
-    tie.close
-    (tie.spec
-    (λ c. λ κs. search needs)
-    returns
-    values-through-requires
-    (λ c. λ κs. search needs)
-    slice-aggregate-read-table
-    read-table-requires
-    (λ c. search needs)
-    returns-2)
+read-spec = tie.close (tie.spec (λ c. λ κs. search needs) returns values-through-requires (λ c. λ κs. search needs)
+    slice-aggregate-read-table read-table-requires (λ c. search needs) returns-2)

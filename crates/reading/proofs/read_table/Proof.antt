@@ -14,13 +14,15 @@ returns c =
     (report-clean _ _ _ _ _ _ G _ _ w (c .if1 .taken), list-read _ _ _ _ _ _ G _ _ w)
 
 slice-read-first : tie.Need-slice-read-first
-slice-read-first c = first-place _ _ _ _ _ _ (c .before .before .before .before .before .before .before .before .pre) _ _ (c .before .before .before .before .listed .ensures) (c .before .before .before .before .listed .kept .1 .1 .1 .1 .0)
+slice-read-first c = first-place _ _ _ _ _ _ (c .before .before .before .before .before .before .before .before .pre) _ _ (c .before .before .before .before .listed .ensures)
+    (c .before .before .before .before .listed .kept .1 .1 .1 .1 .0)
 
 narrow-requires : tie.Need-narrow-requires
 narrow-requires c κs = listed-most _ _ _ _ _ _ (c .before .before .before .before .before .before .before .before .pre) _ _ (c .before .before .before .before .listed .ensures)
 
 changed-requires : tie.Need-changed-requires
-changed-requires c κs = numbers-need _ _ _ _ _ _ (c .before .before .before .before .before .before .before .before .before .pre) _ _ (c .before .before .before .before .before .listed .ensures) (c .before .before .if1 .left)
+changed-requires c κs = numbers-need _ _ _ _ _ _ (c .before .before .before .before .before .before .before .before .before .pre) _ _ (c .before .before .before .before .before .listed .ensures)
+    (c .before .before .if1 .left)
 
 returns-2 : tie.Need-returns-2
 returns-2 c =
@@ -29,14 +31,5 @@ returns-2 c =
     (report-changed _ _ _ _ _ _ G _ _ w (c .before .before .before .if1 .left) (c .before .narrow .ensures) (c .changed .ensures), list-read _ _ _ _ _ _ G _ _ w)
 
 pub read-table-spec : {M : Type 1} → statement M
-read-table-spec =
-    tie.close
-    (tie.spec
-    listed-requires
-    (λ c. search needs)
-    returns
-    slice-read-first
-    narrow-requires
-    changed-requires
-    (λ c. search needs)
-    returns-2)
+read-table-spec = tie.close (tie.spec listed-requires (λ c. search needs) returns slice-read-first narrow-requires
+    changed-requires (λ c. search needs) returns-2)

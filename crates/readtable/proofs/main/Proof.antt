@@ -11,15 +11,6 @@ slice-aggregate-write-all : tie.Need-slice-aggregate-write-all
 slice-aggregate-write-all c = text-part _ _ (c .before .text .ensures .0) (c .before .text .ensures .1)
 
 pub main-spec : {M : Type 1} → statement M
-main-spec =
-    tie.close
-    (tie.spec
-    (λ c. search needs)
-    (λ c. λ κs. search needs)
-    (λ c. search needs)
-    (λ c. search needs)
-    (λ c. λ κs. search needs)
-    array-share-prefix-out
-    slice-aggregate-write-all
-    (λ c. λ κs. search needs)
+main-spec = tie.close (tie.spec (λ c. search needs) (λ c. λ κs. search needs) (λ c. search needs) (λ c. search needs)
+    (λ c. λ κs. search needs) array-share-prefix-out slice-aggregate-write-all (λ c. λ κs. search needs)
     (λ c. search needs))

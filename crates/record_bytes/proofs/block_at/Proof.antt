@@ -19,22 +19,15 @@ loop-holds : tie.Need-loop-holds Inv-loop μ-loop
 loop-holds c = (search needs, refl, refl)
 
 loop-again : tie.Need-loop-again Inv-loop μ-loop
-loop-again c = (search needs, search needs, copy-next (c .before .before .before .args .b .now) (c .before .before .loop .r) blockAt (c .before .before .loop .k) (search needs) (search needs) (c .before .before .loop .inv .2))
+loop-again c =
+    let l = c .before .before .loop in
+    (search needs, search needs, copy-next (c .before .before .before .args .b .now) (l .r) blockAt (l .k) (search needs) (search needs) (l .inv .2))
 
 returns : tie.Need-returns Inv-loop μ-loop
-returns c = array-filled (c .before .loop .r) (λ k. take k (drop blockAt (c .before .before .args .b .now))) 64 (c .before .loop .k) (search needs) (omega arith) (search needs) (c .before .loop .inv .2)
+returns c =
+    let l = c .before .loop in
+    array-filled (l .r) (λ k. take k (drop blockAt (c .before .before .args .b .now))) 64 (l .k) (search needs) (omega arith) (search needs) (l .inv .2)
 
 pub block-at-spec : {M : Type 1} → statement M
-block-at-spec =
-    tie.close
-    (tie.spec
-    Inv-loop
-    μ-loop
-    loop-holds
-    (λ c. search needs)
-    (λ c. search needs)
-    (λ c. search needs)
-    (λ c. search needs)
-    (λ c. search needs)
-    loop-again
-    returns)
+block-at-spec = tie.close (tie.spec Inv-loop μ-loop loop-holds (λ c. search needs) (λ c. search needs)
+    (λ c. search needs) (λ c. search needs) (λ c. search needs) loop-again returns)

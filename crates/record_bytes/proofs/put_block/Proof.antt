@@ -21,23 +21,15 @@ loop-holds : tie.Need-loop-holds Inv-loop μ-loop
 loop-holds c = (search needs, refl, paste-zero (c .args .b .now) blockAt (c .args .t2))
 
 loop-again : tie.Need-loop-again Inv-loop μ-loop
-loop-again c = (search needs, search needs, put-next (c .before .loop .b) (c .before .before .args .b .now) blockAt (c .before .before .args .t2) (c .before .loop .k) (c .before .loop .inv .2) (search needs) (search needs))
+loop-again c =
+    let a = c .before .before .args in let l = c .before .loop in
+    (search needs, search needs, put-next (l .b) (a .b .now) blockAt (a .t2) (l .k) (l .inv .2) (search needs) (search needs))
 
 returns : tie.Need-returns Inv-loop μ-loop
-returns c = block-put (c .before .loop .b) (c .before .before .args .b .now) (c .before .before .args .t2) blockAt (c .before .loop .k) (c .before .loop .inv .2) (search needs) (omega arith) (search needs) (search needs)
+returns c =
+    let a = c .before .before .args in let l = c .before .loop in
+    block-put (l .b) (a .b .now) (a .t2) blockAt (l .k) (l .inv .2) (search needs) (omega arith) (search needs) (search needs)
 
 pub put-block-spec : {M : Type 1} → statement M
-put-block-spec =
-    tie.close
-    (tie.spec
-    Inv-loop
-    μ-loop
-    loop-holds
-    (λ c. search needs)
-    (λ c. search needs)
-    (λ c. search needs)
-    (λ c. search needs)
-    (λ c. search needs)
-    loop-again
-    (λ c. search needs)
-    returns)
+put-block-spec = tie.close (tie.spec Inv-loop μ-loop loop-holds (λ c. search needs) (λ c. search needs)
+    (λ c. search needs) (λ c. search needs) (λ c. search needs) loop-again (λ c. search needs) returns)

@@ -19,19 +19,6 @@ returns : tie.Need-returns
 returns c = put-four (c .args .b .now) (c .args .i) (c .args .x) (search needs)
 
 pub put-number-spec : {M : Type 1} → statement M
-put-number-spec =
-    tie.close
-    (tie.spec
-    (λ c. search needs)
-    (λ c. search needs)
-    (λ c. search needs)
-    (λ c. search needs)
-    slice-write-b-2
-    (λ c. search needs)
-    (λ c. search needs)
-    slice-write-b-3
-    (λ c. search needs)
-    (λ c. search needs)
-    slice-write-b-4
-    (λ c. search needs)
-    returns)
+put-number-spec = tie.close (tie.spec (λ c. search needs) (λ c. search needs) (λ c. search needs) (λ c. search needs)
+    slice-write-b-2 (λ c. search needs) (λ c. search needs) slice-write-b-3 (λ c. search needs) (λ c. search needs)
+    slice-write-b-4 (λ c. search needs) returns)

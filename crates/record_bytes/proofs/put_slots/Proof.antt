@@ -23,26 +23,19 @@ loop-again : tie.Need-loop-again Inv-loop μ-loop
 loop-again c =
     let loop = c .before .before .before .before .before .before .before .loop in
     let args = c .before .before .before .before .before .before .before .before .before .args in
-    let e : runningAt + (loop .k + 1) * 32 ≡ runningAt + loop .k * 32 + 32 = omega arith in
-    (search needs, search needs, slots-put-next (take runningAt (args .b .now)) (take (runningAt + loop .k * 32) (loop .b)) _ (args .t2) (loop .k) _ (search needs) (loop .inv .2) (ap (λ (x : ℕ). take x (c .before .before .put-words .last .0)) e ∙ c .before .before .put-words .ensures))
+    let e : runningAt + (loop .k + 1) * 32 ≡ runningAt + loop .k * 32 + 32 = omega arith in (
+      search needs,
+      search needs,
+      slots-put-next (take runningAt (args .b .now)) (take (runningAt + loop .k * 32) (loop .b)) _ (args .t2) (loop .k) _ (search needs) (loop .inv .2)
+          (ap (λ (x : ℕ). take x (c .before .before .put-words .last .0)) e ∙ c .before .before .put-words .ensures),
+    )
 
 returns : tie.Need-returns Inv-loop μ-loop
-returns c = slots-filled (take runningAt (c .before .before .before .args .b .now)) (c .before .loop .b) (c .before .before .before .args .t2) (c .before .loop .k) (search needs) (omega arith) (search needs) (c .before .loop .inv .2)
+returns c =
+    let a = c .before .before .before .args in let l = c .before .loop in
+    slots-filled (take runningAt (a .b .now)) (l .b) (a .t2) (l .k) (search needs) (omega arith) (search needs) (l .inv .2)
 
 pub put-slots-spec : {M : Type 1} → statement M
-put-slots-spec =
-    tie.close
-    (tie.spec
-    Inv-loop
-    μ-loop
-    loop-holds
-    (λ c. search needs)
-    (λ c. search needs)
-    (λ c. search needs)
-    (λ c. search needs)
-    (λ c κs. search needs)
-    (λ c. search needs)
-    (λ c. search needs)
-    loop-again
-    (λ c. search needs)
-    returns)
+put-slots-spec = tie.close (tie.spec Inv-loop μ-loop loop-holds (λ c. search needs) (λ c. search needs)
+    (λ c. search needs) (λ c. search needs) (λ c κs. search needs) (λ c. search needs) (λ c. search needs) loop-again
+    (λ c. search needs) returns)

@@ -23,26 +23,19 @@ loop-again : tie.Need-loop-again Inv-loop μ-loop
 loop-again c =
     let args = c .before .before .before .before .before .before .before .args in
     let loop = c .before .before .before .before .before .loop in
-    let e : args .i + (loop .k + 1) * 4 ≡ args .i + loop .k * 4 + 4 = omega arith in
-    (search needs, search needs, words-next (take (args .i) (args .b .now)) (take (args .i + loop .k * 4) (loop .b)) _ (args .t3) (loop .k) (search needs) (loop .inv .2) (rw e (c .before .before .put-number .ensures)))
+    let e : args .i + (loop .k + 1) * 4 ≡ args .i + loop .k * 4 + 4 = omega arith in (
+      search needs,
+      search needs,
+      words-next (take (args .i) (args .b .now)) (take (args .i + loop .k * 4) (loop .b)) _ (args .t3) (loop .k) (search needs) (loop .inv .2)
+          (rw e (c .before .before .put-number .ensures)),
+    )
 
 returns : tie.Need-returns Inv-loop μ-loop
-returns c = words-filled (take (c .before .before .before .args .i) (c .before .before .before .args .b .now)) (c .before .loop .b) (c .before .before .before .args .t3) (c .before .before .before .args .i) (c .before .loop .k) (search needs) (omega arith) (search needs) (c .before .loop .inv .2)
+returns c =
+    let a = c .before .before .before .args in let l = c .before .loop in
+    words-filled (take (a .i) (a .b .now)) (l .b) (a .t3) (a .i) (l .k) (search needs) (omega arith) (search needs) (l .inv .2)
 
 pub put-words-spec : {M : Type 1} → statement M
-put-words-spec =
-    tie.close
-    (tie.spec
-    Inv-loop
-    μ-loop
-    loop-holds
-    (λ c. search needs)
-    (λ c. search needs)
-    (λ c. search needs)
-    (λ c. search needs)
-    (λ c κs. search needs)
-    (λ c. search needs)
-    (λ c. search needs)
-    loop-again
-    (λ c. search needs)
-    returns)
+put-words-spec = tie.close (tie.spec Inv-loop μ-loop loop-holds (λ c. search needs) (λ c. search needs)
+    (λ c. search needs) (λ c. search needs) (λ c κs. search needs) (λ c. search needs) (λ c. search needs) loop-again
+    (λ c. search needs) returns)

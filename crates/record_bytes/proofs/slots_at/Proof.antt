@@ -20,25 +20,16 @@ unfolding slotsAt
 loop-holds c = (search needs, search needs, refl)
 
 loop-again : tie.Need-loop-again Inv-loop μ-loop
-loop-again c = (search needs, search needs, slots-next (c .before .before .before .before .before .args .b .now) (c .before .before .loop .r) _ runningAt (c .before .before .loop .k) (search needs) (c .value-at2 .ensures) (c .before .before .loop .inv .2))
+loop-again c =
+    let l = c .before .before .loop in
+    (search needs, search needs, slots-next (c .before .before .before .before .before .args .b .now) (l .r) _ runningAt (l .k) (search needs) (c .value-at2 .ensures) (l .inv .2))
 
 returns : tie.Need-returns Inv-loop μ-loop
-returns c = array-filled (c .before .loop .r) (λ k. slotsAt k (c .before .before .before .before .args .b .now) runningAt) 17 (c .before .loop .k) (search needs) (omega arith) (search needs) (c .before .loop .inv .2)
+returns c =
+    let l = c .before .loop in
+    array-filled (l .r) (λ k. slotsAt k (c .before .before .before .before .args .b .now) runningAt) 17 (l .k) (search needs) (omega arith) (search needs) (l .inv .2)
 
 pub slots-at-spec : {M : Type 1} → statement M
-slots-at-spec =
-    tie.close
-    (tie.spec
-    Inv-loop
-    μ-loop
-    (λ c κs. search needs)
-    loop-holds
-    (λ c. search needs)
-    (λ c. search needs)
-    (λ c κs. search needs)
-    (λ c. search needs)
-    (λ c. search needs)
-    (λ c. search needs)
-    (λ c. search needs)
-    loop-again
-    returns)
+slots-at-spec = tie.close (tie.spec Inv-loop μ-loop (λ c κs. search needs) loop-holds (λ c. search needs)
+    (λ c. search needs) (λ c κs. search needs) (λ c. search needs) (λ c. search needs) (λ c. search needs)
+    (λ c. search needs) loop-again returns)

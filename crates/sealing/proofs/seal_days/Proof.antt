@@ -74,29 +74,7 @@ returns c =
     all-sealed (loop .inv .2) (loop .inv .3) (omega (arith, loop .inv .0, loop .inv .1, c .loop-test .left))
 
 pub seal-days-spec : {M : Type 1} → statement M
-seal-days-spec =
-    tie.close
-    (tie.spec
-    Inv-loop
-    μ-loop
-    (λ c κs. search needs)
-    (λ c κs. search needs)
-    loop-holds
-    start-of-requires
-    end-of-requires
-    sub-seal-day
-    sub-seal-day
-    part-seal-day-end
-    rest-starts
-    rest-starts
-    (λ c. search needs)
-    (λ c κs. search needs)
-    (λ c κs. search needs)
-    (λ c κs. search needs)
-    (λ c. search needs)
-    add-at
-    (λ c. search needs)
-    (λ c. search needs)
-    loop-again
-    (λ c. search needs)
-    returns)
+seal-days-spec = tie.close (tie.spec Inv-loop μ-loop (λ c κs. search needs) (λ c κs. search needs) loop-holds
+    start-of-requires end-of-requires sub-seal-day sub-seal-day part-seal-day-end rest-starts rest-starts
+    (λ c. search needs) (λ c κs. search needs) (λ c κs. search needs) (λ c κs. search needs) (λ c. search needs) add-at
+    (λ c. search needs) (λ c. search needs) loop-again (λ c. search needs) returns)

@@ -12,12 +12,13 @@ values-through-requires : tie.Need-values-through-requires
 values-through-requires c κs = ledger-asks _ _ _ _ _ _ (c .before .ledger-refusal .ensures) (c .if1 .left)
 
 returns-2 : tie.Need-returns-2
-returns-2 c = book-short _ _ _ _ _ _ _ (c .before .before .before .before .ledger-refusal .ensures) (c .before .before .before .if1 .left) (c .before .before .values-through .ensures) (c .before .wide .ensures) (c .if2 .taken)
+returns-2 c = book-short _ _ _ _ _ _ _ (c .before .before .before .before .ledger-refusal .ensures) (c .before .before .before .if1 .left) (c .before .before .values-through .ensures)
+    (c .before .wide .ensures) (c .if2 .taken)
 
 returns-3 : tie.Need-returns-3
-returns-3 c = none-refuses _ _ _ _ _ _ _ (c .before .before .before .before .ledger-refusal .ensures) (c .before .before .before .if1 .left) (c .before .before .values-through .ensures) (c .before .wide .ensures) (c .if2 .left)
+returns-3 c = none-refuses _ _ _ _ _ _ _ (c .before .before .before .before .ledger-refusal .ensures) (c .before .before .before .if1 .left) (c .before .before .values-through .ensures)
+    (c .before .wide .ensures) (c .if2 .left)
 
 pub seal-refusal-spec : {M : Type 1} → statement M
-seal-refusal-spec =
-    tie.close
+seal-refusal-spec = tie.close
     (tie.spec (λ c κs. search needs) returns values-through-requires (λ c κs. search needs) (λ c. search needs) returns-2 returns-3)

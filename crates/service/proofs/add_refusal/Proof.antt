@@ -12,10 +12,13 @@ sub-wide : tie.Need-sub-wide
 sub-wide c = record-passes (c .before .before .before .args .state) (c .before .before .refusal .ensures) (c .before .if1 .left) .0 .bytes-most
 
 returns-2 : tie.Need-returns-2
-returns-2 c = add-4 (c .before .before .before .before .before .args .state) _ (c .before .before .before .before .refusal .ensures) (c .before .before .before .if1 .left) (c .before .wide .ensures) (c .if2 .taken)
+returns-2 c = add-4 (c .before .before .before .before .before .args .state) _ (c .before .before .before .before .refusal .ensures) (c .before .before .before .if1 .left)
+    (c .before .wide .ensures) (c .if2 .taken)
 
 returns-3 : tie.Need-returns-3
-returns-3 c = add-0 (c .before .before .before .before .before .args .state) _ (c .before .before .before .before .refusal .ensures) (c .before .before .before .if1 .left) (c .before .wide .ensures) (c .if2 .left)
+returns-3 c = add-0 (c .before .before .before .before .before .args .state) _ (c .before .before .before .before .refusal .ensures) (c .before .before .before .if1 .left)
+    (c .before .wide .ensures) (c .if2 .left)
 
 pub add-refusal-spec : {M : Type 1} → statement M
-add-refusal-spec = tie.close (tie.spec (λ c κs. search needs) returns sub-wide (λ c κs. search needs) returns-2 returns-3)
+add-refusal-spec = tie.close
+    (tie.spec (λ c κs. search needs) returns sub-wide (λ c κs. search needs) returns-2 returns-3)

@@ -20,15 +20,20 @@ write-requires c κs =
     step-fits r (c .before .before .step .result) (c .before .before .step .ensures) _ (p .0) (p .1)
 
 next-requires : tie.Need-next-requires
-next-requires c κs =
-    (close-passes (c .before .before .before .before .before .before .before .before .before .args .state) _ (c .before .before .before .before .before .before .before .close-refusal .ensures) (c .before .before .before .before .before .before .if1 .left) .0, c .before .before .before .before .before .step .ensures)
+next-requires c κs = (
+  close-passes (c .before .before .before .before .before .before .before .before .before .args .state) _ (c .before .before .before .before .before .before .before .close-refusal .ensures)
+      (c .before .before .before .before .before .before .if1 .left) .0,
+  c .before .before .before .before .before .step .ensures,
+)
 
 returns-2 : tie.Need-returns-2
 returns-2 c =
     let r = c .before .before .before .before .before .before .before .before .before .before .args .state in
     let s = c .before .before .before .before .before .before .step in
-    closing-done r _ (c .before .before .before .before .before .before .before .before .close-refusal .ensures) (c .before .before .before .before .before .before .before .if1 .left) (step-count r (s .result) (s .ensures)) (c .next .ensures)
+    closing-done r _ (c .before .before .before .before .before .before .before .before .close-refusal .ensures) (c .before .before .before .before .before .before .before .if1 .left)
+    (step-count r (s .result) (s .ensures)) (c .next .ensures)
     (wrote-as (dayBytes r) (step-bytes r (s .result) (s .ensures)) (c .before .before .before .write .ensures))
 
 pub close-spec : {M : Type 1} → statement M
-close-spec = tie.close (tie.spec (λ c κs. search needs) returns step-requires write-requires next-requires (λ c. search needs) returns-2)
+close-spec = tie.close
+    (tie.spec (λ c κs. search needs) returns step-requires write-requires next-requires (λ c. search needs) returns-2)

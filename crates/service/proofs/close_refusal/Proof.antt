@@ -16,20 +16,13 @@ values-of-day-requires : tie.Need-values-of-day-requires
 values-of-day-requires c κs = day-asks (c .before .before .before .args .state) (c .before .before .refusal .ensures) (c .before .if1 .left)
 
 returns-2 : tie.Need-returns-2
-returns-2 c = close-8 (c .before .before .before .before .before .before .args .state) _ (c .before .before .before .before .before .refusal .ensures) (c .before .before .before .before .if1 .left) (c .before .before .values-of-day .ensures) (c .before .wide .ensures) (c .if2 .taken)
+returns-2 c = close-8 (c .before .before .before .before .before .before .args .state) _ (c .before .before .before .before .before .refusal .ensures)
+    (c .before .before .before .before .if1 .left) (c .before .before .values-of-day .ensures) (c .before .wide .ensures) (c .if2 .taken)
 
 returns-3 : tie.Need-returns-3
-returns-3 c = close-0 (c .before .before .before .before .before .before .args .state) _ (c .before .before .before .before .before .refusal .ensures) (c .before .before .before .before .if1 .left) (c .before .before .values-of-day .ensures) (c .before .wide .ensures) (c .if2 .left)
+returns-3 c = close-0 (c .before .before .before .before .before .before .args .state) _ (c .before .before .before .before .before .refusal .ensures)
+    (c .before .before .before .before .if1 .left) (c .before .before .values-of-day .ensures) (c .before .wide .ensures) (c .if2 .left)
 
 pub close-refusal-spec : {M : Type 1} → statement M
-close-refusal-spec =
-    tie.close
-    (tie.spec
-    (λ c κs. search needs)
-    returns
-    add-values-of-day
-    values-of-day-requires
-    (λ c κs. search needs)
-    (λ c. search needs)
-    returns-2
-    returns-3)
+close-refusal-spec = tie.close (tie.spec (λ c κs. search needs) returns add-values-of-day values-of-day-requires
+    (λ c κs. search needs) (λ c. search needs) returns-2 returns-3)

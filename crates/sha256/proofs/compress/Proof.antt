@@ -29,17 +29,5 @@ returns : tie.Need-returns Inv-loop μ-loop
 returns c = compressed _ _ _ (c .before .before .loop .inv) (omega arith) (c .summed .ensures)
 
 pub compress-spec : {M : Type 1} → statement M
-compress-spec =
-    tie.close
-    (tie.spec
-    Inv-loop
-    μ-loop
-    (λ c. λ κs. search needs)
-    loop-holds
-    rounds-requires
-    (λ c. λ κs. search needs)
-    (λ c. search needs)
-    (λ c. search needs)
-    loop-again
-    (λ c. λ κs. search needs)
-    returns)
+compress-spec = tie.close (tie.spec Inv-loop μ-loop (λ c. λ κs. search needs) loop-holds rounds-requires
+    (λ c. λ κs. search needs) (λ c. search needs) (λ c. search needs) loop-again (λ c. λ κs. search needs) returns)

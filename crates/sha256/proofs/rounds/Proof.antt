@@ -54,86 +54,19 @@ returns : tie.Need-returns
 returns c = rounds-of _ _ _ _ (c .before .before .before .before .before .before .before .before .before .before .before .before .before .before .before .before .before .before .before .before .before .before .before .before .before .before .before .before .before .before .round .ensures) (c .before .before .before .before .before .before .before .before .before .before .before .before .before .before .before .before .before .before .before .before .before .before .before .before .before .before .before .before .round2 .ensures) (c .before .before .before .before .before .before .before .before .before .before .before .before .before .before .before .before .before .before .before .before .before .before .before .before .before .before .round3 .ensures) (c .before .before .before .before .before .before .before .before .before .before .before .before .before .before .before .before .before .before .before .before .before .before .before .before .round4 .ensures) (c .before .before .before .before .before .before .before .before .before .before .before .before .before .before .before .before .before .before .before .before .before .before .round5 .ensures) (c .before .before .before .before .before .before .before .before .before .before .before .before .before .before .before .before .before .before .before .before .round6 .ensures) (c .before .before .before .before .before .before .before .before .before .before .before .before .before .before .before .before .before .before .round7 .ensures) (c .before .before .before .before .before .before .before .before .before .before .before .before .before .before .before .before .round8 .ensures) (c .before .before .before .before .before .before .before .before .before .before .before .before .before .before .round9 .ensures) (c .before .before .before .before .before .before .before .before .before .before .before .before .round10 .ensures) (c .before .before .before .before .before .before .before .before .before .before .round11 .ensures) (c .before .before .before .before .before .before .before .before .round12 .ensures) (c .before .before .before .before .before .before .round13 .ensures) (c .before .before .before .before .round14 .ensures) (c .before .before .round15 .ensures) (c .round16 .ensures)
 
 pub rounds-spec : {M : Type 1} → statement M
-rounds-spec =
-    tie.close
-    (tie.spec
-    (λ c. search needs)
-    (λ c. search needs)
-    (λ c. search needs)
-    (λ c. λ κs. search needs)
-    (λ c. search needs)
-    (λ c. search needs)
-    (λ c. search needs)
-    (λ c. search needs)
-    (λ c. λ κs. search needs)
-    (λ c. search needs)
-    (λ c. search needs)
-    (λ c. search needs)
-    (λ c. search needs)
-    (λ c. λ κs. search needs)
-    (λ c. search needs)
-    (λ c. search needs)
-    (λ c. search needs)
-    (λ c. search needs)
-    (λ c. λ κs. search needs)
-    (λ c. search needs)
-    (λ c. search needs)
-    (λ c. search needs)
-    (λ c. search needs)
-    (λ c. λ κs. search needs)
-    (λ c. search needs)
-    (λ c. search needs)
-    (λ c. search needs)
-    (λ c. search needs)
-    (λ c. λ κs. search needs)
-    (λ c. search needs)
-    (λ c. search needs)
-    (λ c. search needs)
-    (λ c. search needs)
-    (λ c. λ κs. search needs)
-    (λ c. search needs)
-    (λ c. search needs)
-    (λ c. search needs)
-    (λ c. search needs)
-    (λ c. λ κs. search needs)
-    (λ c. search needs)
-    (λ c. search needs)
-    (λ c. search needs)
-    (λ c. search needs)
-    (λ c. λ κs. search needs)
-    (λ c. search needs)
-    (λ c. search needs)
-    (λ c. search needs)
-    (λ c. search needs)
-    (λ c. λ κs. search needs)
-    (λ c. search needs)
-    (λ c. search needs)
-    (λ c. search needs)
-    (λ c. search needs)
-    (λ c. λ κs. search needs)
-    add-round-11
-    mul-round-12
-    element-copy-out-round-12
-    (λ c. search needs)
-    (λ c. λ κs. search needs)
-    add-round-12
-    mul-round-13
-    element-copy-out-round-13
-    (λ c. search needs)
-    (λ c. λ κs. search needs)
-    add-round-13
-    mul-round-14
-    element-copy-out-round-14
-    (λ c. search needs)
-    (λ c. λ κs. search needs)
-    add-round-14
-    mul-round-15
-    element-copy-out-round-15
-    (λ c. search needs)
-    (λ c. λ κs. search needs)
-    add-round-15
-    mul-round-16
-    element-copy-out-round-16
-    (λ c. search needs)
-    (λ c. λ κs. search needs)
-    returns)
+rounds-spec = tie.close (tie.spec (λ c. search needs) (λ c. search needs) (λ c. search needs) (λ c. λ κs. search needs)
+    (λ c. search needs) (λ c. search needs) (λ c. search needs) (λ c. search needs) (λ c. λ κs. search needs)
+    (λ c. search needs) (λ c. search needs) (λ c. search needs) (λ c. search needs) (λ c. λ κs. search needs)
+    (λ c. search needs) (λ c. search needs) (λ c. search needs) (λ c. search needs) (λ c. λ κs. search needs)
+    (λ c. search needs) (λ c. search needs) (λ c. search needs) (λ c. search needs) (λ c. λ κs. search needs)
+    (λ c. search needs) (λ c. search needs) (λ c. search needs) (λ c. search needs) (λ c. λ κs. search needs)
+    (λ c. search needs) (λ c. search needs) (λ c. search needs) (λ c. search needs) (λ c. λ κs. search needs)
+    (λ c. search needs) (λ c. search needs) (λ c. search needs) (λ c. search needs) (λ c. λ κs. search needs)
+    (λ c. search needs) (λ c. search needs) (λ c. search needs) (λ c. search needs) (λ c. λ κs. search needs)
+    (λ c. search needs) (λ c. search needs) (λ c. search needs) (λ c. search needs) (λ c. λ κs. search needs)
+    (λ c. search needs) (λ c. search needs) (λ c. search needs) (λ c. search needs) (λ c. λ κs. search needs)
+    add-round-11 mul-round-12 element-copy-out-round-12 (λ c. search needs) (λ c. λ κs. search needs) add-round-12
+    mul-round-13 element-copy-out-round-13 (λ c. search needs) (λ c. λ κs. search needs) add-round-13 mul-round-14
+    element-copy-out-round-14 (λ c. search needs) (λ c. λ κs. search needs) add-round-14 mul-round-15
+    element-copy-out-round-15 (λ c. search needs) (λ c. λ κs. search needs) add-round-15 mul-round-16
+    element-copy-out-round-16 (λ c. search needs) (λ c. λ κs. search needs) returns)

@@ -20,33 +20,15 @@ loop-holds : tie.Need-loop-holds Inv-loop μ-loop
 loop-holds c = (search needs, search needs, bytes-none)
 
 loop-again : tie.Need-loop-again Inv-loop μ-loop
-loop-again c = (search needs, simp length-set (c .before .loop .inv .1), bytes-step (c .before .before .args .t1) (c .before .loop .r) (c .before .loop .i) _ _ _ _ (let lb : length (c .before .before .args .t1) ≡ 8 = search needs in omega arith) (omega arith) (c .before .loop .inv .2) refl refl refl refl)
+loop-again c =
+    let a = c .before .before .args in let l = c .before .loop in
+    (search needs, simp length-set (l .inv .1), bytes-step (a .t1) (l .r) (l .i) _ _ _ _ (let lb : length (a .t1) ≡ 8 = search needs in omega arith) (omega arith) (l .inv .2) refl refl refl refl)
 
 returns : tie.Need-returns Inv-loop μ-loop
 returns c = bytes-whole _ _ (c .before .loop .i) (omega arith) (search needs) (c .before .loop .inv .1) (c .before .loop .inv .2)
 
 pub bytes-spec : {M : Type 1} → statement M
-bytes-spec =
-    tie.close
-    (tie.spec
-    Inv-loop
-    μ-loop
-    loop-holds
-    (λ c. search needs)
-    (λ c. search needs)
-    (λ c. search needs)
-    (λ c. search needs)
-    (λ c. search needs)
-    (λ c. search needs)
-    (λ c. search needs)
-    (λ c. search needs)
-    (λ c. search needs)
-    (λ c. search needs)
-    (λ c. search needs)
-    (λ c. search needs)
-    (λ c. search needs)
-    (λ c. search needs)
-    (λ c. search needs)
-    (λ c. search needs)
-    loop-again
-    returns)
+bytes-spec = tie.close (tie.spec Inv-loop μ-loop loop-holds (λ c. search needs) (λ c. search needs) (λ c. search needs)
+    (λ c. search needs) (λ c. search needs) (λ c. search needs) (λ c. search needs) (λ c. search needs)
+    (λ c. search needs) (λ c. search needs) (λ c. search needs) (λ c. search needs) (λ c. search needs)
+    (λ c. search needs) (λ c. search needs) (λ c. search needs) loop-again returns)

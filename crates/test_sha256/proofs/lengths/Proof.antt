@@ -11,6 +11,5 @@ abbrev μ-loop : tie.MeasureT-loop
 μ-loop len₀ len = 201 - len
 
 pub lengths-spec : {M : Type 1} → statement M
-lengths-spec =
-    tie.close
+lengths-spec = tie.close
     (tie.spec Inv-loop μ-loop (λ c. search needs) (λ c. λ κs. search needs) (λ c. search needs) (λ c. search needs) (λ c. search needs) (λ c. search needs))

@@ -101,25 +101,39 @@ put-digits-slice-write-out-2 : (t : ℕ) → put-digits-lts.Need-slice-write-out
   put-digits-below t,
   put-digits.Post,
 ) (put-digits-at t) put-digits.Post
-put-digits-slice-write-out-2 t c = decimal-room (c .before .before .before .before .before .before .before .args .k) _ (c .before .before .before .before .before .before .before .args .at) (c .before .before .put-digits .result) _ (c .before .before .before .before .before .before .before .args .out .now) _ (c .before .before .before .before .before .if1 .left) (c .before .before .before .before .before .before .before .pre .1) (c .before .before .put-digits .ensures) (c .before .before .put-digits .kept .0)
+put-digits-slice-write-out-2 t c =
+    let a = c .before .before .before .before .before .before .before .args in
+    decimal-room (a .k) _ (a .at) (c .before .before .put-digits .result) _ (a .out .now) _ (c .before .before .before .before .before .if1 .left)
+    (c .before .before .before .before .before .before .before .pre .1) (c .before .before .put-digits .ensures) (c .before .before .put-digits .kept .0)
 
 put-digits-add-result-2 : (t : ℕ) → put-digits-lts.Need-add-result-2 (
   put-digits-below t,
   put-digits.Post,
 ) (put-digits-at t) put-digits.Post
-put-digits-add-result-2 t c = record { fits = omega (arith, decimal-room (c .before .before .before .before .before .before .before .args .k) _ (c .before .before .before .before .before .before .before .args .at) (c .before .before .put-digits .result) _ (c .before .before .before .before .before .before .before .args .out .now) _ (c .before .before .before .before .before .if1 .left) (c .before .before .before .before .before .before .before .pre .1) (c .before .before .put-digits .ensures) (c .before .before .put-digits .kept .0), c .before .before .put-digits .kept .0) }
+put-digits-add-result-2 t c =
+    let a = c .before .before .before .before .before .before .before .args in
+    record {
+      fits = omega (
+        arith,
+        decimal-room (a .k) _ (a .at) (c .before .before .put-digits .result) _ (a .out .now) _ (c .before .before .before .before .before .if1 .left)
+            (c .before .before .before .before .before .before .before .pre .1) (c .before .before .put-digits .ensures) (c .before .before .put-digits .kept .0),
+        c .before .before .put-digits .kept .0,
+      );
+    }
 
 put-digits-same-length-2 : (t : ℕ) → put-digits-lts.Need-same-length-2 (
   put-digits-below t,
   put-digits.Post,
 ) (put-digits-at t) put-digits.Post
-put-digits-same-length-2 t c = length-set (c .before .before .put-digits .last .0) (c .before .before .put-digits .result) (48 + c .before .before .before .before .before .before .before .args .x % 10) ∙ c .before .before .put-digits .kept .0
+put-digits-same-length-2 t c = length-set (c .before .before .put-digits .last .0) (c .before .before .put-digits .result)
+    (48 + c .before .before .before .before .before .before .before .args .x % 10) ∙ c .before .before .put-digits .kept .0
 
 put-digits-returns-3 : (t : ℕ) → put-digits-lts.Need-returns-3 (
   put-digits-below t,
   put-digits.Post,
 ) (put-digits-at t) put-digits.Post
-put-digits-returns-3 t c = decimal-next _ _ _ _ _ _ (c .before .before .before .before .before .if1 .left) (c .before .before .before .before .if2 .left) (c .before .before .before .before .before .before .before .pre .1) (c .before .before .put-digits .ensures) (c .before .before .put-digits .kept .0)
+put-digits-returns-3 t c = decimal-next _ _ _ _ _ _ (c .before .before .before .before .before .if1 .left) (c .before .before .before .before .if2 .left)
+    (c .before .before .before .before .before .before .before .pre .1) (c .before .before .put-digits .ensures) (c .before .before .put-digits .kept .0)
 
 pub +put-digits-spec : {M : Type 1} → statement M
 +put-digits-spec = close μ-put-digits λ t. put-digits-lts.spec (

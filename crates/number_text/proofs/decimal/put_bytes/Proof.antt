@@ -18,24 +18,16 @@ loop-holds : tie.Need-loop-holds Inv-loop μ-loop
 loop-holds c = (search needs, refl, bytes-none (c .args .at) (c .args .bytes .now) (c .args .out .now))
 
 loop-again : tie.Need-loop-again Inv-loop μ-loop
-loop-again c = (search needs, search needs, bytes-next (c .before .before .before .args .at) (c .before .before .loop .i) (c .before .before .before .args .bytes .now) (c .before .before .before .args .out .now) (c .before .before .loop .out) (c .before .loop-test .taken) (c .before .before .before .pre) (c .before .before .loop .inv .1) (c .before .before .loop .inv .2))
+loop-again c =
+    let a = c .before .before .before .args in let l = c .before .before .loop in
+    (search needs, search needs, bytes-next (a .at) (l .i) (a .bytes .now) (a .out .now) (l .out) (c .before .loop-test .taken) (c .before .before .before .pre) (l .inv .1) (l .inv .2))
 
 returns : tie.Need-returns Inv-loop μ-loop
-returns c = bytes-all (c .before .before .args .at) (c .before .loop .i) (c .before .before .args .bytes .now) (c .before .before .args .out .now) (c .before .loop .out) (search needs) (c .before .loop .inv .2)
+returns c =
+    let a = c .before .before .args in let l = c .before .loop in
+    bytes-all (a .at) (l .i) (a .bytes .now) (a .out .now) (l .out) (search needs) (l .inv .2)
 
 pub put-bytes-spec : {M : Type 1} → statement M
-put-bytes-spec =
-    tie.close
-    (tie.spec
-    Inv-loop
-    μ-loop
-    loop-holds
-    (λ c. search needs)
-    (λ c. search needs)
-    (λ c. search needs)
-    (λ c. search needs)
-    (λ c. search needs)
-    loop-again
-    (λ c. search needs)
-    (λ c. search needs)
+put-bytes-spec = tie.close (tie.spec Inv-loop μ-loop loop-holds (λ c. search needs) (λ c. search needs)
+    (λ c. search needs) (λ c. search needs) (λ c. search needs) loop-again (λ c. search needs) (λ c. search needs)
     returns)

@@ -14,8 +14,10 @@ same-length : tie.Need-same-length
 same-length c = c .before .before .put-digits .kept .0 ∙ length-set (c .before .before .before .before .before .args .out .now) (c .before .before .before .before .before .args .at) _
 
 returns : tie.Need-returns
-returns c = number-put (c .before .before .before .before .before .args .at) (c .before .before .before .before .before .args .x) (c .before .before .put-digits .result) (c .before .before .before .before .before .args .out .now) (c .before .before .put-digits .last .0) (c .before .before .before .before .before .pre) (c .before .before .put-digits .ensures)
+returns c =
+    let a = c .before .before .before .before .before .args in
+    number-put (a .at) (a .x) (c .before .before .put-digits .result) (a .out .now) (c .before .before .put-digits .last .0) (c .before .before .before .before .before .pre)
+    (c .before .before .put-digits .ensures)
 
 pub put-number-spec : {M : Type 1} → statement M
-put-number-spec =
-    tie.close (tie.spec (λ c. search needs) (λ c. search needs) put-digits-requires same-length returns)
+put-number-spec = tie.close (tie.spec (λ c. search needs) (λ c. search needs) put-digits-requires same-length returns)

@@ -19,26 +19,23 @@ loop-holds : tie.Need-loop-holds Inv-loop μ-loop
 loop-holds c = (search needs, refl, numbers-none _ (c .before .before .args .numbers .now) _)
 
 put-number-requires : tie.Need-put-number-requires Inv-loop μ-loop
-put-number-requires c κs = numbers-room _ _ _ _ _ _ _ (c .before .before .loop-test .taken) (c .before .before .before .before .before .before .pre) (c .before .before .before .loop .inv .1) (c .before .before .before .loop .inv .2)
+put-number-requires c κs =
+    let l = c .before .before .before .loop in
+    numbers-room _ _ _ _ _ _ _ (c .before .before .loop-test .taken) (c .before .before .before .before .before .before .pre) (l .inv .1) (l .inv .2)
 
 loop-again : tie.Need-loop-again Inv-loop μ-loop
-loop-again c = (search needs, search needs, numbers-next _ _ _ _ _ _ _ _ (c .before .before .before .before .before .loop-test .taken) (c .before .before .before .before .before .before .before .before .before .pre) (c .before .before .before .before .before .before .loop .inv .2) (c .before .before .put-number .ensures))
+loop-again c = (
+  search needs,
+  search needs,
+  numbers-next _ _ _ _ _ _ _ _ (c .before .before .before .before .before .loop-test .taken)
+      (c .before .before .before .before .before .before .before .before .before .pre) (c .before .before .before .before .before .before .loop .inv .2) (c .before .before .put-number .ensures),
+)
 
 returns : tie.Need-returns Inv-loop μ-loop
-returns c = numbers-all (c .before .before .before .before .args .at) (c .before .loop .i) (c .before .loop .next) (c .before .before .before .before .args .numbers .now) (c .before .before .before .before .args .out .now) (c .before .loop .out) (search needs) (c .before .loop .inv .2)
+returns c =
+    let a = c .before .before .before .before .args in let l = c .before .loop in
+    numbers-all (a .at) (l .i) (l .next) (a .numbers .now) (a .out .now) (l .out) (search needs) (l .inv .2)
 
 pub put-numbers-spec : {M : Type 1} → statement M
-put-numbers-spec =
-    tie.close
-    (tie.spec
-    Inv-loop
-    μ-loop
-    loop-holds
-    (λ c. search needs)
-    (λ c. search needs)
-    put-number-requires
-    (λ c. search needs)
-    (λ c. search needs)
-    loop-again
-    (λ c. search needs)
-    returns)
+put-numbers-spec = tie.close (tie.spec Inv-loop μ-loop loop-holds (λ c. search needs) (λ c. search needs)
+    put-number-requires (λ c. search needs) (λ c. search needs) loop-again (λ c. search needs) returns)

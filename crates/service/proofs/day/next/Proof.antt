@@ -10,7 +10,9 @@ add-t8 : tie.Need-add-t8
 add-t8 c = let a = day-asks (c .before .before .before .before .before .before .args .state) refl (c .before .before .before .before .before .before .pre .0) in omega (arith, a .3)
 
 returns : tie.Need-returns
-returns c = step-next (c .before .before .before .before .before .before .args .state) (c .before .before .before .before .before .before .args .step) (c .before .before .before .before .before .before .pre .1) (c .before .before .before .before .before .begin .ensures)
+returns c =
+    let a = c .before .before .before .before .before .before .args in
+    step-next (a .state) (a .step) (c .before .before .before .before .before .before .pre .1) (c .before .before .before .before .before .begin .ensures)
 
 pub next-spec : {M : Type 1} → statement M
 next-spec = tie.close (tie.spec (λ c κs. search needs) add-t8 returns)

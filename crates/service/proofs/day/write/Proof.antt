@@ -25,28 +25,17 @@ put-requires c κs = omega (arith, c .before .wide .ensures)
 loop-again : tie.Need-loop-again Inv-loop μ-loop
 loop-again c =
     let before = c .before .before .before .before .before .before .before .before .before .loop in
-    let put = c .before .before .put in
-    (search needs, search needs, value-written _ _ _ _ _ _ _ _ (before .inv .2) (c .before .before .before .bytes .ensures) (search needs) (c .before .before .before .before .wide .ensures) (put .ensures) (search needs) (search needs))
+    let put = c .before .before .put in (
+      search needs,
+      search needs,
+      value-written _ _ _ _ _ _ _ _ (before .inv .2) (c .before .before .before .bytes .ensures) (search needs) (c .before .before .before .before .wide .ensures)
+          (put .ensures) (search needs) (search needs),
+    )
 
 returns : tie.Need-returns Inv-loop μ-loop
 returns c = let e : c .before .before .before .args .k ≡ c .before .loop .i = omega arith in rw e (c .before .loop .inv .2)
 
 pub write-spec : {M : Type 1} → statement M
-write-spec =
-    tie.close
-    (tie.spec
-    Inv-loop
-    μ-loop
-    loop-holds
-    (λ c. search needs)
-    (λ c. search needs)
-    (λ c. search needs)
-    (λ c κs. search needs)
-    (λ c. search needs)
-    (λ c κs. search needs)
-    put-requires
-    (λ c. search needs)
-    (λ c. search needs)
-    loop-again
-    (λ c. search needs)
-    returns)
+write-spec = tie.close (tie.spec Inv-loop μ-loop loop-holds (λ c. search needs) (λ c. search needs) (λ c. search needs)
+    (λ c κs. search needs) (λ c. search needs) (λ c κs. search needs) put-requires (λ c. search needs)
+    (λ c. search needs) loop-again (λ c. search needs) returns)

@@ -13,10 +13,12 @@ returns-3 : tie.Need-returns-3
 returns-3 c = let a = c .before .before .before .args in f-fails (a .scheme) (a .n) (a .f) (a .d) (a .outcomes) (c .before .before .if1 .left) (c .before .if2 .left) (c .if3 .taken)
 
 returns-4 : tie.Need-returns-4
-returns-4 c = let a = c .before .before .before .before .args in d-fails (a .scheme) (a .n) (a .f) (a .d) (a .outcomes) (c .before .before .before .if1 .left) (c .before .before .if2 .left) (c .before .if3 .left) (c .if4 .taken)
+returns-4 c = let a = c .before .before .before .before .args in d-fails (a .scheme) (a .n) (a .f) (a .d) (a .outcomes) (c .before .before .before .if1 .left) (c .before .before .if2 .left)
+    (c .before .if3 .left) (c .if4 .taken)
 
 returns-5 : tie.Need-returns-5
-returns-5 c = let a = c .before .before .before .before .args in line-passes (a .scheme) (a .n) (a .f) (a .d) (a .outcomes) (c .before .before .before .if1 .left) (c .before .before .if2 .left) (c .before .if3 .left) (c .if4 .left)
+returns-5 c = let a = c .before .before .before .before .args in line-passes (a .scheme) (a .n) (a .f) (a .d) (a .outcomes) (c .before .before .before .if1 .left) (c .before .before .if2 .left)
+    (c .before .if3 .left) (c .if4 .left)
 
 pub all-spec : {M : Type 1} → statement M
 all-spec = tie.close (tie.spec returns returns-2 returns-3 returns-4 returns-5)

@@ -19,23 +19,19 @@ loop-holds : tie.Need-loop-holds Inv-loop μ-loop
 loop-holds c = (search needs, refl, refl)
 
 loop-again : tie.Need-loop-again Inv-loop μ-loop
-loop-again c = (search needs, search needs, outcomes-next (c .before .before .before .before .before .before .args .ds .now) (c .before .before .before .before .before .before .args .to .now) (c .before .before .before .loop .to) (c .before .before .before .loop .i) (c .before .before .loop-test .taken) (c .before .before .before .before .before .before .pre) (c .before .before .before .loop .inv .2) (c .digit .ensures))
+loop-again c =
+    let a = c .before .before .before .before .before .before .args in let l = c .before .before .before .loop in (
+      search needs,
+      search needs,
+      outcomes-next (a .ds .now) (a .to .now) (l .to) (l .i) (c .before .before .loop-test .taken) (c .before .before .before .before .before .before .pre) (l .inv .2)
+          (c .digit .ensures),
+    )
 
 returns : tie.Need-returns Inv-loop μ-loop
-returns c = outcomes-done (c .before .before .before .before .args .ds .now) (c .before .before .before .before .args .to .now) (c .before .loop .to) (c .before .loop .i) (search needs) (c .before .loop .inv .2)
+returns c =
+    let a = c .before .before .before .before .args in let l = c .before .loop in
+    outcomes-done (a .ds .now) (a .to .now) (l .to) (l .i) (search needs) (l .inv .2)
 
 pub outcomes-spec : {M : Type 1} → statement M
-outcomes-spec =
-    tie.close
-    (tie.spec
-    Inv-loop
-    μ-loop
-    loop-holds
-    (λ c. search needs)
-    (λ c. λ κs. search needs)
-    (λ c. search needs)
-    (λ c. search needs)
-    (λ c. search needs)
-    loop-again
-    (λ c. search needs)
-    returns)
+outcomes-spec = tie.close (tie.spec Inv-loop μ-loop loop-holds (λ c. search needs) (λ c. λ κs. search needs)
+    (λ c. search needs) (λ c. search needs) (λ c. search needs) loop-again (λ c. search needs) returns)

@@ -19,28 +19,26 @@ loop-holds : tie.Need-loop-holds Inv-loop μ-loop
 loop-holds c = (search needs, refl, days-none (c .before .before .args .at) (c .before .before .args .days .now) (c .before .before .args .out .now))
 
 put-line-requires : tie.Need-put-line-requires Inv-loop μ-loop
-put-line-requires c κs = days-room (c .before .before .before .before .before .before .before .before .args .at) (c .before .before .before .before .before .loop .i) (c .before .before .before .before .before .loop .next) _ (c .before .before .before .before .before .before .before .before .args .days .now) (c .before .before .before .before .before .before .before .before .args .out .now) (c .before .before .before .before .before .loop .out) (c .before .before .before .before .before .before .before .before .pre) (c .before .before .before .before .before .loop .inv .1) (c .before .before .before .before .before .loop .inv .2)
+put-line-requires c κs =
+    let a = c .before .before .before .before .before .before .before .before .args in let l = c .before .before .before .before .before .loop in
+    days-room (a .at) (l .i) (l .next) _ (a .days .now) (a .out .now) (l .out) (c .before .before .before .before .before .before .before .before .pre) (l .inv .1) (l .inv .2)
 
 loop-again : tie.Need-loop-again Inv-loop μ-loop
-loop-again c = (search needs, search needs, days-next (c .before .before .before .before .before .before .before .before .before .before .before .args .at) (c .before .before .before .before .before .before .before .before .loop .i) (c .before .before .before .before .before .before .before .before .loop .next) (c .before .before .put-line .result) (c .before .before .before .before .before .before .before .before .before .before .before .args .days .now) (c .before .before .before .before .before .before .before .before .before .before .before .args .out .now) (c .before .before .before .before .before .before .before .before .loop .out) _ (c .before .before .before .before .before .before .before .loop-test .taken) (c .before .before .before .before .before .before .before .before .before .before .before .pre) (c .before .before .before .before .before .before .before .before .loop .inv .2) (c .before .before .put-line .ensures))
+loop-again c =
+    let a = c .before .before .before .before .before .before .before .before .before .before .before .args in let l = c .before .before .before .before .before .before .before .before .loop in (
+      search needs,
+      search needs,
+      days-next (a .at) (l .i) (l .next) (c .before .before .put-line .result) (a .days .now) (a .out .now) (l .out) _
+          (c .before .before .before .before .before .before .before .loop-test .taken) (c .before .before .before .before .before .before .before .before .before .before .before .pre) (l .inv .2)
+          (c .before .before .put-line .ensures),
+    )
 
 returns : tie.Need-returns Inv-loop μ-loop
-returns c = days-all (c .before .before .before .before .args .at) (c .before .loop .i) (c .before .loop .next) (c .before .before .before .before .args .days .now) (c .before .before .before .before .args .out .now) (c .before .loop .out) (search needs) (c .before .loop .inv .2)
+returns c =
+    let a = c .before .before .before .before .args in let l = c .before .loop in
+    days-all (a .at) (l .i) (l .next) (a .days .now) (a .out .now) (l .out) (search needs) (l .inv .2)
 
 pub put-days-spec : {M : Type 1} → statement M
-put-days-spec =
-    tie.close
-    (tie.spec
-    Inv-loop
-    μ-loop
-    loop-holds
-    (λ c. search needs)
-    (λ c. search needs)
-    (λ c. search needs)
-    (λ c. search needs)
-    put-line-requires
-    (λ c. search needs)
-    (λ c. search needs)
-    loop-again
-    (λ c. search needs)
-    returns)
+put-days-spec = tie.close (tie.spec Inv-loop μ-loop loop-holds (λ c. search needs) (λ c. search needs)
+    (λ c. search needs) (λ c. search needs) put-line-requires (λ c. search needs) (λ c. search needs) loop-again
+    (λ c. search needs) returns)

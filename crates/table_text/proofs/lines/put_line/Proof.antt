@@ -8,18 +8,37 @@ use Rattle.table_text.proofs.lines.put_line.Statement.{statement}
 use Rattle.table_text.proofs.lines.put_line.Tie as tie
 
 slice-write-out : tie.Need-slice-write-out
-slice-write-out c = line-room (c .before .before .before .before .before .before .before .before .before .before .before .args .at) (c .before .before .before .before .before .before .put-bytes .result) (c .before .before .put-numbers .result) _ (c .before .before .before .before .before .before .before .before .before .before .before .args .word .now) (c .before .before .before .before .before .before .before .before .before .before .before .args .numbers .now) (c .before .before .before .before .before .before .before .before .before .before .before .args .out .now) _ _ (c .before .before .before .before .before .before .before .before .before .before .before .pre) (c .before .before .put-numbers .kept .0 ∙ c .before .before .before .before .before .before .put-bytes .kept .0) (c .before .before .before .before .before .before .put-bytes .ensures) (c .before .before .put-numbers .ensures)
+slice-write-out c =
+    let a = c .before .before .before .before .before .before .before .before .before .before .before .args in
+    line-room (a .at) (c .before .before .before .before .before .before .put-bytes .result) (c .before .before .put-numbers .result) _ (a .word .now) (a .numbers .now) (a .out .now) _ _
+    (c .before .before .before .before .before .before .before .before .before .before .before .pre)
+    (c .before .before .put-numbers .kept .0 ∙ c .before .before .before .before .before .before .put-bytes .kept .0) (c .before .before .before .before .before .before .put-bytes .ensures)
+    (c .before .before .put-numbers .ensures)
 
 add-result : tie.Need-add-result
-add-result c = record { fits = omega (arith, line-room (c .before .before .before .before .before .before .before .before .before .before .before .args .at) (c .before .before .before .before .before .before .put-bytes .result) (c .before .before .put-numbers .result) _ (c .before .before .before .before .before .before .before .before .before .before .before .args .word .now) (c .before .before .before .before .before .before .before .before .before .before .before .args .numbers .now) (c .before .before .before .before .before .before .before .before .before .before .before .args .out .now) _ _ (c .before .before .before .before .before .before .before .before .before .before .before .pre) (c .before .before .put-numbers .kept .0 ∙ c .before .before .before .before .before .before .put-bytes .kept .0) (c .before .before .before .before .before .before .put-bytes .ensures) (c .before .before .put-numbers .ensures)) }
+add-result c =
+    let a = c .before .before .before .before .before .before .before .before .before .before .before .args in
+    record {
+      fits = omega (
+        arith,
+        line-room (a .at) (c .before .before .before .before .before .before .put-bytes .result) (c .before .before .put-numbers .result) _ (a .word .now)
+            (a .numbers .now) (a .out .now) _ _ (c .before .before .before .before .before .before .before .before .before .before .before .pre)
+            (c .before .before .put-numbers .kept .0 ∙ c .before .before .before .before .before .before .put-bytes .kept .0) (c .before .before .before .before .before .before .put-bytes .ensures)
+            (c .before .before .put-numbers .ensures),
+      );
+    }
 
 same-length : tie.Need-same-length
-same-length c = length-set (c .before .before .put-numbers .last .0) (c .before .before .put-numbers .result) _ ∙ c .before .before .put-numbers .kept .0 ∙ c .before .before .before .before .before .before .put-bytes .kept .0
+same-length c = length-set (c .before .before .put-numbers .last .0) (c .before .before .put-numbers .result) _ ∙ c .before .before .put-numbers .kept .0 ∙
+    c .before .before .before .before .before .before .put-bytes .kept .0
 
 returns : tie.Need-returns
-returns c = line-put (c .before .before .before .before .before .before .before .before .before .before .before .args .at) (c .before .before .before .before .before .before .put-bytes .result) (c .before .before .put-numbers .result) (c .before .before .before .before .before .before .before .before .before .before .before .args .word .now) (c .before .before .before .before .before .before .before .before .before .before .before .args .numbers .now) (c .before .before .before .before .before .before .before .before .before .before .before .args .out .now) _ _ (c .before .before .before .before .before .before .before .before .before .before .before .pre) (c .before .before .before .before .before .before .put-bytes .kept .0) (c .before .before .put-numbers .kept .0) (c .before .before .before .before .before .before .put-bytes .ensures) (c .before .before .put-numbers .ensures)
+returns c =
+    let a = c .before .before .before .before .before .before .before .before .before .before .before .args in
+    line-put (a .at) (c .before .before .before .before .before .before .put-bytes .result) (c .before .before .put-numbers .result) (a .word .now) (a .numbers .now) (a .out .now) _ _
+    (c .before .before .before .before .before .before .before .before .before .before .before .pre) (c .before .before .before .before .before .before .put-bytes .kept .0)
+    (c .before .before .put-numbers .kept .0) (c .before .before .before .before .before .before .put-bytes .ensures) (c .before .before .put-numbers .ensures)
 
 pub put-line-spec : {M : Type 1} → statement M
-put-line-spec =
-    tie.close
+put-line-spec = tie.close
     (tie.spec (λ c. λ κs. search needs) (λ c. λ κs. search needs) slice-write-out add-result same-length returns)

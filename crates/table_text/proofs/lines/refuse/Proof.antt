@@ -9,11 +9,5 @@ unfolding noLine
 returns c = search needs
 
 pub refuse-spec : {M : Type 1} → statement M
-refuse-spec =
-    tie.close
-    (tie.spec
-    (λ c. search needs)
-    (λ c. search needs)
-    (λ c. λ κs. search needs)
-    (λ c. search needs)
+refuse-spec = tie.close (tie.spec (λ c. search needs) (λ c. search needs) (λ c. λ κs. search needs) (λ c. search needs)
     returns)
