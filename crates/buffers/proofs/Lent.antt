@@ -1,24 +1,11 @@
--- Laws of writing to a buffer: bytes at a place; a buffer filled from the front, each time by a call that is lent the rest of it.
+-- A buffer filled from the front, each time by a call that is lent the rest of it.
 use mathlib.Core.Path.{_≡_, sym, ap, _∙_}
 use mathlib.Core.List.{List, [], _++_, append-assoc, append-nil}
-use Prim.Native.Nat.{ℕ, _+_, _-_, _≤_, _<_}
-use native.Mathlib.Numerals.{add-one}
+use Prim.Native.Nat.{ℕ, _+_, _-_, _≤_}
 use native.Mathlib.Omega.{arith}
-use lib.ListN.{length, getD, set, take, drop, length-append, length-drop}
-use lib.Seq.{paste, paste-suc, take-all, take-at, drop-at, drop-drop, drop-length}
+use lib.ListN.{length, take, drop, length-append, length-drop}
+use lib.Seq.{take-all, take-at, drop-at, drop-drop, drop-length}
 use borrow.Rule.Slice.PartMut.{midOf, postOf, putMid}
-
--- ---- 32 bytes at a place
-
-pub put-next : (part old : List ℕ) (at : ℕ) (b : List ℕ) (j : ℕ) → part ≡ paste old at b j → at + j < length old → j < length b → set part (at + j) (getD b j 0) ≡ paste old at b (j + 1)
-put-next part old at b j e h l = rw (add-one, e) (paste-suc old at b j 0 h l)
-
-pub put-done : (part old : List ℕ) (at : ℕ) (b : List ℕ) (j : ℕ) → part ≡ paste old at b j → 32 ≤ j → j ≤ 32 → length b ≡ 32 → part ≡ take at old ++ b ++ drop (at + 32) old
-put-done part old at b j e h l q =
-    let w : j ≡ 32 = omega arith in
-    e ∙ rw (w, take-all 32 b (omega arith))
-
--- ---- the rest of a buffer that is lent
 
 module _ (p old cur : List ℕ) (a : ℕ) (e : cur ≡ p ++ drop a old) (size : length p ≡ a) (same-length : length cur ≡ length old) where
   rest-is : drop a cur ≡ drop a old

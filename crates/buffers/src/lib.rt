@@ -1,8 +1,8 @@
-// Lent buffers: places as usize, and bytes written at a place.
+// Lent buffers: numbers made wider, and bytes copied to a place.
 ghost use mathlib.Core.Path.{_≡_};
-ghost use mathlib.Core.List.{_++_};
-ghost use Prim.Native.Nat.{_+_, _≤_};
-ghost use lib.ListN.{length, take, drop};
+ghost use Prim.Native.Nat.{_+_, _≤_, _<_};
+ghost use lib.ListN.{length};
+ghost use Rattle.buffers.specs.Private.{Wrote};
 
 // A number as a place or a length.
 pub fn wide(x: u32) -> usize
@@ -11,14 +11,22 @@ pub fn wide(x: u32) -> usize
     x as usize
 }
 
-// Writes 32 bytes at a place of the part.
-pub fn put(part: &mut [u8], at: usize, b: [u8; 32])
-    requires { ⌜ at + 32 ≤ length (now part) ⌝ }
-    ensures { λ r. ⌜ now (part .exit) ≡ take at (now (part .entry)) ++ b ++ drop (at + 32) (now (part .entry)) ⌝ }
+// A byte as a number.
+pub fn byte(x: u8) -> u32
+    ensures { λ r. ⌜ (r ≡ x) × (r < 256) ⌝ }
 {
-    let mut j = 0usize;
-    while j < 32 {
-        part[at + j] = b[j];
-        j += 1;
+    x as u32
+}
+
+// Writes the bytes from a place on, and gives the place behind them.
+pub fn put(out: &mut [u8], at: usize, bytes: &[u8]) -> usize
+    requires { ⌜ at + length (now bytes) ≤ length (now out) ⌝ }
+    ensures { λ r. ⌜ Wrote at (now (bytes .entry)) (now (out .entry)) r (now (out .exit)) ⌝ }
+{
+    let mut i = 0usize;
+    while i < bytes.len() {
+        out[at + i] = bytes[i];
+        i += 1;
     }
+    at + i
 }

@@ -27,9 +27,10 @@ use Rattle.chains.specs.Private.{Stepped}
 use Rattle.chains.proofs.Values.{chainsOfDay-length}
 use Rattle.chains.proofs.Running.{Holds, holds-fresh, holds-next, namesOfDay-right}
 use Rattle.buffers.proofs.Lent.{lent-put, lent-length}
-use Rattle.checking.proofs.ValueLaws.{to-end}
+use Rattle.comparing.proofs.Laws.{to-end}
 use Rattle.checking.specs.Contract.{digestsOf, outcomesOf}
-use Rattle.checking.specs.Private.{compared, DayReady, Ready}
+use Rattle.comparing.specs.Private.{compared}
+use Rattle.checking.specs.Private.{DayReady, Ready}
 
 -- ---- digests and outcomes of one more day
 

@@ -1,24 +1,12 @@
--- What the private contracts say: values compared with the book, and what no refusal leaves. Definitions only; the laws
--- `compared-day` and `check-ready` lead them back to 01's.
+-- What a day asks, and what no refusal leaves. Definitions only; private contracts cite them.
 use mathlib.Core.Path.{_≡_}
-use mathlib.Core.Bool.{true, cond}
-use mathlib.Core.List.{List, [], _∷_}
+use mathlib.Core.Bool.{true}
+use mathlib.Core.List.{List}
 use Prim.Native.Nat.{ℕ, _*_, _≤_}
-use lib.ListN.{length, take, drop}
-use Rattle.lists.specs.Lists.{same}
+use lib.ListN.{length}
 use Rattle.refusals.specs.Refusals.{bookLimit}
 use Rattle.layouts.specs.Layouts.{allowedScheme, allowedN, namesOfDay, chains}
 use Rattle.ledger.specs.Private.{EndsHold}
-use Rattle.sha256_words.specs.Words.{bytesOf}
-use Rattle.chains.specs.declared.Value.{Value}
-
--- the outcome of a value against the first 32 bytes of a book, and of some values against its front
-abbrev pub outcomeOf : Value → List ℕ → ℕ
-outcomeOf v book = cond (same (take 32 book) (bytesOf (v .words))) 1 0
-
-unfoldable pub compared : List Value → List ℕ → List ℕ
-compared [] book = []
-compared (v ∷ vs) book = outcomeOf v book ∷ compared vs (drop 32 book)
 
 -- what a day asks: it is one of a book's days, and there is room for its digest, its values and their outcomes
 pub record DayReady (scheme n g bookSize workSize places : ℕ) : Type 0 where

@@ -1,6 +1,4 @@
 // Checking: the ledger is rehashed day by day, as at sealing, and each value is compared with the book's.
-mod compare;
-
 use chains::DayStep;
 use chains::Value;
 use refusals::Answer;
@@ -14,7 +12,8 @@ ghost use Rattle.sha256.specs.Sha256.{hashed};
 ghost use Rattle.sha256_words.specs.Words.{bytesOf};
 ghost use Rattle.chains.specs.Private.{Stepped};
 ghost use Rattle.checking.specs.Contract.{checkRefusal, digestsOf, outcomesOf, checked};
-ghost use Rattle.checking.specs.Private.{compared, DayReady, Ready};
+ghost use Rattle.comparing.specs.Private.{compared};
+ghost use Rattle.checking.specs.Private.{DayReady, Ready};
 
 // Tests 1 2 3 7 9 10 11 8.
 fn check_refusal(
@@ -67,11 +66,12 @@ fn check_day(
         compared (take (r .count) (r .values)) (now (book .entry)) ++ drop (r .count) (now (outcomes .entry)) ⌝ }
 {
     let h = hasher::digest(0, day);
-    buffers::put(work, 0, sha256_words::bytes(h));
+    let b = sha256_words::bytes(h);
+    buffers::put(work, 0, &b);
     let step = chains::step(scheme, n, g, start, black, slots, h);
     let values = step.values;
     let k = step.count;
-    compare::all(book, values, k, outcomes);
+    comparing::all(book, values, k, outcomes);
     step
 }
 

@@ -1,49 +1,31 @@
--- The steps of the loops that fill a block, and the last eight bytes of a block.
+-- A block that is filled with bytes, and the last eight bytes of a block.
 -- Assumes nothing.
-use Prim.Native.Nat.{ℕ, suc, _+_, _-_, _*_, _/_, _%_, _^_, _≤_, _<_}
+use Prim.Native.Nat.{ℕ, zero, suc, _+_, _-_, _*_, _/_, _%_, _^_, _≤_, _<_}
 use mathlib.Core.Path.{_≡_, refl, sym, ap, _∙_}
-use mathlib.Core.List.{List, [], _∷_, _++_, append-assoc, append-nil}
+use mathlib.Core.List.{List, [], _∷_, _++_, append-nil}
 use native.Mathlib.Omega.{arith}
-use native.Mathlib.Numerals.{add-one}
-use lib.ListN.{length, getD, take, drop, set, replicate, length-append, drop-of-length-le}
-use lib.Seq.{take-suc, take-all, set-at, sets, sets-eq, length-take-le}
+use lib.ListN.{length, take, drop, replicate, length-append, drop-of-length-le}
+use lib.Seq.{sets, sets-eq}
+use Rattle.buffers.specs.Private.{Wrote}
+use Rattle.buffers.proofs.Writes.{wrote-join}
 use Rattle.sha256.specs.Sha256.{wide}
 use Rattle.hasher.specs.Hasher.{filled}
-use Rattle.hasher.proofs.Laws.{take-filled}
 
--- ---- a block that is filled from the left
+-- ---- a block of zeros, written from the left
 
-filled-step : (p : List ℕ) (n x : ℕ) → n ≡ length p → n < 64 → set (filled p) n x ≡ filled (p ++ x ∷ [])
+drop-same : (x m k : ℕ) → drop m (replicate k x) ≡ replicate (k - m) x
+drop-same x zero k = let e : k - 0 ≡ k = omega arith in rw e
+drop-same x (suc m) zero = let e : 0 - suc m ≡ 0 = omega arith in rw e
+drop-same x (suc m) (suc k) = let e : suc k - suc m ≡ k - m = omega arith in rw e (drop-same x m k)
+
+-- the bytes p and then s, of which the block has room
+pub filled-by : (p s r₁ r : List ℕ) (at n m : ℕ) → length p ≡ at → at + length s ≤ 64 →
+    Wrote 0 p (replicate 64 0) n r₁ → Wrote n s r₁ m r → r ≡ filled (p ++ s)
 unfolding filled
-filled-step p n x e lt =
-    let e1 : 64 - length p ≡ suc (63 - length p) = omega arith in
-    let e2 : 64 - length (p ++ x ∷ []) ≡ 63 - length p = rw length-append (omega arith) in
-    rw (e1, e2, append-assoc) (set-at p 0 (replicate (63 - length p) 0) x n (sym e))
-
-pub filled-none : replicate 64 0 ≡ filled []
-unfolding filled
-filled-none = refl
-
-pub fill-first : (b r : List ℕ) (i : ℕ) → i < length b → i < 64 → r ≡ filled (take i b) → set r i (getD b i 0) ≡ filled (take (i + 1) b)
-fill-first b r i lb lt e =
-    rw (add-one, take-suc b i 0 lb, e) (filled-step (take i b) i (getD b i 0) (sym (length-take-le i b (omega arith))) lt)
-
-pub fill-second : (b s r : List ℕ) (at j : ℕ) → at ≤ length b → at + j < 64 → j < length s → r ≡ filled (take at b ++ take j s)
-    → set r (at + j) (getD s j 0) ≡ filled (take at b ++ take (j + 1) s)
-fill-second b s r at j lb lt ls e =
-    let n : at + j ≡ length (take at b ++ take j s) = rw (length-append, length-take-le at b lb, length-take-le j s (omega arith)) in
-    rw (add-one, take-suc s j 0 ls, e, ← append-assoc) (filled-step (take at b ++ take j s) (at + j) (getD s j 0) n lt)
-
--- between the two loops of fill: what was copied stands first
-pub fill-kept : (b r : List ℕ) (at i : ℕ) → i ≡ at → at ≤ length b → r ≡ filled (take i b) → take at r ≡ take at b
-fill-kept b r at i ei lb er = rw (er, ei) (take-filled (take at b) at (sym (length-take-le at b lb)))
-
-pub fill-begin : (b r : List ℕ) (at i : ℕ) → i ≡ at → at ≤ length b → r ≡ filled (take i b) → r ≡ filled (take at r ++ [])
-fill-begin b r at i ei lb er = rw (append-nil, fill-kept b r at i ei lb er) (rw ei at er)
-
-pub fill-whole : (b r₀ r s : List ℕ) (at i j : ℕ) → i ≡ at → at ≤ length b → r₀ ≡ filled (take i b) → j ≡ length s → r ≡ filled (take at r₀ ++ take j s)
-    → r ≡ filled (take at b ++ s)
-fill-whole b r₀ r s at i j ei lb e₀ ej er = er ∙ rw (fill-kept b r₀ at i ei lb e₀, take-all j s (omega arith))
+filled-by p s r₁ r at n m e room u v =
+    let w = wrote-join 0 (p ++ s) p s (replicate 64 0) r₁ r n m refl (omega (arith, length-append p s)) u v in
+    let e : m ≡ length (p ++ s) = omega (arith, w .count) in
+    w .list ∙ rw (drop-same 0 m 64, e)
 
 -- ---- the last eight bytes of a block
 

@@ -21,16 +21,8 @@ fn fill(b: [u8; 64], at: usize, s: &[u8]) -> [u8; 64]
     ensures { λ r. ⌜ r ≡ filled (take at b ++ now (s .entry)) ⌝ }
 {
     let mut r = [0u8; 64];
-    let mut i = 0;
-    while i < at {
-        r[i] = b[i];
-        i += 1;
-    }
-    let mut j = 0;
-    while j < s.len() {
-        r[at + j] = s[j];
-        j += 1;
-    }
+    let next = buffers::put(&mut r, 0, &b[..at]);
+    buffers::put(&mut r, next, s);
     r
 }
 

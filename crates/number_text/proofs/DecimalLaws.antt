@@ -1,4 +1,4 @@
--- Laws of writing numbers: bytes, decimals, numbers after commas.
+-- Laws of writing numbers: decimals, numbers after commas.
 use mathlib.Core.Path.{_≡_, refl, sym, ap, _∙_}
 use mathlib.Core.Bool.{Bool, true, false, cond}
 use mathlib.Core.List.{List, [], _∷_, _++_, append-assoc, append-nil}
@@ -10,13 +10,8 @@ use lib.ListN.{length, getD, set, take, length-append}
 use lib.Seq.{take-all, take-suc, length-take-le}
 use borrow.Author.Tests.{lt-ltb, le-ltb}
 use Rattle.buffers.specs.Private.{Wrote}
-use Rattle.buffers.proofs.Writes.{wrote-none, wrote-one, wrote-as, wrote-join}
+use Rattle.buffers.proofs.Writes.{wrote-none, wrote-one, wrote-as, wrote-byte, wrote-join}
 use Rattle.number_text.specs.Numbers.{decimalIn, decimal, commaNumbers}
-
--- one byte more
-pub wrote-byte : (at b : ℕ) (F A l m : List ℕ) (r : ℕ) → F ≡ A ++ (b ∷ []) → at + length F ≤ length l → Wrote at A l r m → length m ≡ length l → Wrote at F l (r + 1) (set m r b)
-wrote-byte at b F A l m r f h w e =
-    wrote-join at F A (b ∷ []) l m (set m r b) r (r + 1) f h w (wrote-one r b (b ∷ []) m refl (omega (arith, w .count, ap length f, length-append A (b ∷ []))))
 
 -- ---- decimals
 
@@ -57,22 +52,6 @@ pub decimal-next : (k x at b : ℕ) (l m : List ℕ) → (k ≡ 0 → ⊥) → 1
     Wrote at (decimalIn k x) l (b + 1) (set m b (48 + x % 10))
 decimal-next k x at b l m z t h w e =
     wrote-byte at (48 + x % 10) (decimalIn k x) (decimalIn (k - 1) (x / 10)) l m b (decimal-more k x z t) (let f = decimal-most k x in omega arith) w e
-
--- ---- bytes
-
-pub bytes-none : (at : ℕ) (bytes l : List ℕ) → Wrote at (take 0 bytes) l (at + 0) l
-bytes-none at bytes l = let e : at + 0 ≡ at = omega arith in rw e (wrote-none at (take 0 bytes) l refl)
-
-pub bytes-next : (at i : ℕ) (bytes l m : List ℕ) → i < length bytes → at + length bytes ≤ length l → length m ≡ length l → Wrote at (take i bytes) l (at + i) m →
-    Wrote at (take (i + 1) bytes) l (at + (i + 1)) (set m (at + i) (getD bytes i 0))
-bytes-next at i bytes l m h r e w =
-    let p : take (i + 1) bytes ≡ take i bytes ++ (getD bytes i 0 ∷ []) = rw (add-one i) (take-suc bytes i 0 h) in
-    let q = length-take-le (i + 1) bytes (omega arith) in
-    let s : at + i + 1 ≡ at + (i + 1) = omega arith in
-    rw s at (wrote-byte at (getD bytes i 0) (take (i + 1) bytes) (take i bytes) l m (at + i) p (omega arith) w e)
-
-pub bytes-all : (at i : ℕ) (bytes l m : List ℕ) → i ≡ length bytes → Wrote at (take i bytes) l (at + i) m → Wrote at bytes l (at + i) m
-bytes-all at i bytes l m h w = wrote-as bytes (sym (take-all i bytes (omega arith))) w
 
 -- ---- numbers after commas
 

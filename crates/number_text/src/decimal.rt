@@ -44,16 +44,3 @@ pub fn put_numbers(out: &mut [u8], at: usize, numbers: &[u32]) -> usize
     }
     next
 }
-
-// Bytes.
-pub fn put_bytes(out: &mut [u8], at: usize, bytes: &[u8]) -> usize
-    requires { ⌜ at + length (now bytes) ≤ length (now out) ⌝ }
-    ensures { λ r. ⌜ Wrote at (now (bytes .entry)) (now (out .entry)) r (now (out .exit)) ⌝ }
-{
-    let mut i = 0usize;
-    while i < bytes.len() {
-        out[at + i] = bytes[i];
-        i += 1;
-    }
-    at + i
-}

@@ -67,12 +67,6 @@ fn is_number(ds: &[u8]) -> bool
     ds[0] != b'0'
 }
 
-fn wide(x: u8) -> u32
-    ensures { λ r. ⌜ (r ≡ x) × (r < 256) ⌝ }
-{
-    x as u32
-}
-
 // The number that at most five digits write.
 pub fn number(ds: &[u8]) -> u32
     requires { ⌜ length (now ds) ≤ 5 ⌝ }
@@ -81,7 +75,7 @@ pub fn number(ds: &[u8]) -> u32
     let mut v = 0u32;
     let mut i = 0usize;
     while i < ds.len() {
-        let x = wide(digit(ds[i]));
+        let x = buffers::byte(digit(ds[i]));
         v = 10 * v + x;
         i += 1;
     }

@@ -1,23 +1,17 @@
 -- The steps of the loops that read and write a record's bytes.
 -- Assumes nothing.
 use Prim.Native.Nat.{ℕ, zero, suc, _+_, _*_, _/_, _%_, _^_, _≤_, _<_}
-use mathlib.Core.Path.{_≡_, refl, sym, ap, ap₂, _∙_}
+use mathlib.Core.Path.{_≡_, refl, sym, ap, _∙_}
 use mathlib.Core.List.{List, [], _∷_, _++_, append-assoc, append-nil}
 use native.Mathlib.Omega.{arith}
 use native.Mathlib.Numerals.{add-one, towards-suc}
-use lib.ListN.{length, getD, take, drop, set, length-append, length-drop, drop-of-length-le}
-use lib.Seq.{lt-length-set, take-suc, take-suc-set, take-all, take-at, sets, sets-eq, length-take-le, getD-drop, paste}
+use lib.ListN.{length, getD, take, drop, set, length-append}
+use lib.Seq.{lt-length-set, take-suc, take-suc-set, take-all, take-at, sets, sets-eq, length-take-le}
 use Rattle.chains.specs.declared.Value.{Value}
 use Rattle.service.specs.declared.Record.{Record}
 use Rattle.record_bytes.specs.Bytes.{hashAt, blackAt, runningAt, blockAt, numbersBytes, slotsBytes, numberAt, numbersAt, valueAt, slotsAt, recordOf, recordBytes}
 
 -- ---- reading
-
--- k elements read one by one from place i on
-pub copy-next : (b r : List ℕ) (i k : ℕ) → k < length r → i + k < length b → take k r ≡ take k (drop i b) → take (k + 1) (set r k (getD b (i + k) 0)) ≡ take (k + 1) (drop i b)
-copy-next b r i k lr lb e =
-    rw (add-one) (take-suc-set r k (getD b (i + k) 0) lr ∙ ap₂ (λ (x y : List ℕ). x ++ y) e (ap (λ (x : ℕ). x ∷ []) (sym (getD-drop i b k 0))) ∙ sym
-    (take-suc (drop i b) k 0 (rw (length-drop i b) (omega arith))))
 
 slots-snoc : (k : ℕ) (b : List ℕ) (i : ℕ) → slotsAt k b i ++ (valueAt b (i + k * 32) ∷ []) ≡ slotsAt (suc k) b i
 unfolding slotsAt
@@ -103,12 +97,6 @@ words-filled p b w i k l h e q =
 pub words-none : (r : List ℕ) (i : ℕ) → take (i + 0) r ≡ take i r ++ numbersBytes []
 unfolding numbersBytes
 words-none r i = ap (λ (x : ℕ). take x r) (let e : i + 0 ≡ i = omega arith in e) ∙ sym (append-nil (take i r))
-
--- a block written to the end
-pub block-put : (b old block : List ℕ) (at k : ℕ) → b ≡ paste old at block k → k ≤ 64 → 64 ≤ k → length block ≡ 64 → length old ≡ at + 64 → b ≡ take at old ++ block
-block-put b old block at k e l h lb lo =
-    let w : k ≡ 64 = omega arith in
-    e ∙ rw (w, take-all 64 block (omega arith), drop-of-length-le old {i = at + 64} (omega arith), append-nil)
 
 pub slots-none : (r : List ℕ) → take runningAt r ≡ take runningAt r ++ slotsBytes []
 unfolding slotsBytes

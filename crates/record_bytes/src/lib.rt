@@ -25,20 +25,14 @@ pub const RECORD_BYTES: usize = 692;
 
 // ---- from bytes
 
-fn wide(x: u8) -> u32
-    ensures { λ r. ⌜ (r ≡ x) × (r < 256) ⌝ }
-{
-    x as u32
-}
-
 fn number_at(b: &[u8], i: usize) -> u32
     requires { ⌜ i + 4 ≤ length (now b) ⌝ }
     ensures { λ r. ⌜ r ≡ numberAt (now (b .entry)) i ⌝ }
 {
-    let w = wide(b[i]);
-    let x = wide(b[i + 1]);
-    let y = wide(b[i + 2]);
-    let z = wide(b[i + 3]);
+    let w = buffers::byte(b[i]);
+    let x = buffers::byte(b[i + 1]);
+    let y = buffers::byte(b[i + 2]);
+    let z = buffers::byte(b[i + 3]);
     w + x * 256 + y * 65536 + z * 16777216
 }
 
@@ -79,11 +73,7 @@ fn block_at(b: &[u8]) -> [u8; 64]
     ensures { λ r. ⌜ r ≡ take 64 (drop blockAt (now (b .entry))) ⌝ }
 {
     let mut r = [0u8; 64];
-    let mut k = 0usize;
-    while k < 64 {
-        r[k] = b[BLOCK_AT + k];
-        k += 1;
-    }
+    buffers::put(&mut r, 0, &b[BLOCK_AT..RECORD_BYTES]);
     r
 }
 
@@ -142,17 +132,6 @@ fn put_slots(b: &mut [u8], slots: [Value; 17])
     }
 }
 
-fn put_block(b: &mut [u8], block: [u8; 64])
-    requires { ⌜ length (now b) ≡ recordSize ⌝ }
-    ensures { λ r. ⌜ now (b .exit) ≡ take blockAt (now (b .entry)) ++ block ⌝ }
-{
-    let mut k = 0usize;
-    while k < 64 {
-        b[BLOCK_AT + k] = block[k];
-        k += 1;
-    }
-}
-
 fn put_counts(b: &mut [u8], state: Record)
     requires { ⌜ hashAt ≤ length (now b) ⌝ }
     ensures { λ r. ⌜ take hashAt (now (b .exit)) ≡
@@ -179,6 +158,6 @@ pub fn encode(state: Record) -> [u8; RECORD_BYTES]
     let slots = state.running;
     put_slots(&mut b, slots);
     let block = state.block;
-    put_block(&mut b, block);
+    buffers::put(&mut b, BLOCK_AT, &block);
     b
 }

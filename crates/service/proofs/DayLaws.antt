@@ -5,7 +5,7 @@ use mathlib.Core.List.{List, [], _∷_, _++_, append-assoc, append-nil}
 use Prim.Native.Nat.{ℕ, suc, _+_, _*_, _≤_, _<_}
 use native.Mathlib.Numerals.{add-one}
 use native.Mathlib.Omega.{arith}
-use lib.ListN.{length, getD, take, drop, length-append}
+use lib.ListN.{length, getD, take, length-append}
 use lib.Seq.{take-suc}
 use Rattle.refusals.specs.Refusals.{bookLimit}
 use Rattle.buffers.specs.Private.{Wrote}
@@ -72,19 +72,15 @@ module _ (values : List Value) (old : List ℕ) where
   unfolding valueBytes
   no-value-written = record { count = refl; list = refl }
 
-  pub value-written : (part next b : List ℕ) (i w : ℕ) (z : Value) → Wrote 0 (valueBytes (take i values)) old (32 * i) part →
-      b ≡ bytesOf (getD values i z .words) → length b ≡ 32 → w ≡ i → next ≡ take (32 * w) part ++ b ++ drop (32 * w + 32) part →
+  pub value-written : (part next b : List ℕ) (i w r : ℕ) (z : Value) → Wrote 0 (valueBytes (take i values)) old (32 * i) part →
+      b ≡ bytesOf (getD values i z .words) → length b ≡ 32 → w ≡ i → Wrote (32 * w) b part r next →
       i < length values → 32 * (i + 1) ≤ length old → Wrote 0 (valueBytes (take (i + 1) values)) old (32 * (i + 1)) next
-  value-written part next b i w z before eb lb ew en h room =
+  value-written part next b i w r z before eb lb ew here h room =
       wrote-join 0 (valueBytes (take (i + 1) values)) (valueBytes (take i values)) b old part next (32 * i) (32 * (i + 1)) more
-      (omega (arith, before .count, ap length more, length-append (valueBytes (take i values)) b)) before
-      (record { count = omega arith; list = here })
+      (omega (arith, before .count, ap length more, length-append (valueBytes (take i values)) b)) before (rw (ew, end) at here)
     where
       more : valueBytes (take (i + 1) values) ≡ valueBytes (take i values) ++ b
       more = rw (add-one, take-suc values i z h, value-bytes-append, one-value, eb)
 
-      end : 32 * w + 32 ≡ 32 * (i + 1)
-      end = omega arith
-
-      here : next ≡ take (32 * i) part ++ (b ++ drop (32 * (i + 1)) part)
-      here = en ∙ append-assoc (take (32 * w) part) b (drop (32 * w + 32) part) ∙ rw (end, ew)
+      end : r ≡ 32 * (i + 1)
+      end = omega (arith, here .count)

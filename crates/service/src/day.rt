@@ -75,7 +75,8 @@ pub fn write(part: &mut [u8], values: [Value; 17], k: u32)
     while i < k {
         let v = values[i as usize];
         let w = v.words;
-        buffers::put(part, 32 * buffers::wide(i), sha256_words::bytes(w));
+        let b = sha256_words::bytes(w);
+        buffers::put(part, 32 * buffers::wide(i), &b);
         i += 1;
     }
 }

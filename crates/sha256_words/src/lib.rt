@@ -49,22 +49,15 @@ pub fn ssig1(x: u32) -> u32
     ((x >> 17) | (x << 15)) ^ ((x >> 19) | (x << 13)) ^ (x >> 10)
 }
 
-// A byte as a word.
-fn wide(b: u8) -> u32
-    ensures { λ r. ⌜ (r ≡ b) × (r < 256) ⌝ }
-{
-    b as u32
-}
-
 // The word of the four bytes from i on, the first byte highest.
 pub fn word_at(s: &[u8], i: usize) -> u32
     requires { ⌜ i + 4 ≤ length (now s) ⌝ }
     ensures { λ r. ⌜ r ≡ spec.wordAt (now (s .entry)) i ⌝ }
 {
-    let a = wide(s[i]);
-    let b = wide(s[i + 1]);
-    let c = wide(s[i + 2]);
-    let d = wide(s[i + 3]);
+    let a = buffers::byte(s[i]);
+    let b = buffers::byte(s[i + 1]);
+    let c = buffers::byte(s[i + 2]);
+    let d = buffers::byte(s[i + 3]);
     a * 16777216 + b * 65536 + c * 256 + d
 }
 

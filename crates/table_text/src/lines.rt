@@ -14,7 +14,7 @@ fn put_line(out: &mut [u8], at: usize, word: &[u8], numbers: &[u32]) -> usize
     ensures { λ r. ⌜ Wrote at (spec.line (now (word .entry)) (now (numbers .entry))) (now (out .entry))
         r (now (out .exit)) ⌝ }
 {
-    let a = number_text::decimal::put_bytes(out, at, word);
+    let a = buffers::put(out, at, word);
     let b = number_text::decimal::put_numbers(out, a, numbers);
     out[b] = b'\n';
     b + 1

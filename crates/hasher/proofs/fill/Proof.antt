@@ -1,48 +1,32 @@
 -- `hasher::fill` meets its contract.
-use Prim.Native.Nat.{_≤_, _-_}
-use mathlib.Core.Path.{_≡_}
-use mathlib.Core.List.{_++_}
+use Prim.Native.Nat.{_≤_}
+use mathlib.Core.Path.{_≡_, sym}
 use lib.ListN.{length, take}
-use borrow.Author.Needs.{needs}
+use lib.Seq.{length-take-le}
 use native.Mathlib.Omega.{arith}
-use Rattle.hasher.specs.Hasher as spec
-use Rattle.hasher.proofs.Filling.{filled-none, fill-first, fill-second, fill-begin, fill-whole}
+use borrow.Author.Needs.{needs}
+use Rattle.hasher.proofs.Filling.{filled-by}
 use Rattle.hasher.proofs.fill.Statement.{statement}
 use Rattle.hasher.proofs.fill.Tie as tie
 
-abbrev Inv-loop : tie.InvT-loop
-Inv-loop at s b r₀ i₀ r i = (i ≤ at) × (length r ≡ 64) × (r ≡ spec.filled (take i b))
+kept-length : tie.Need-slice-aggregate-put-2
+kept-length c =
+    let a = c .before .before .before .args in let l : length (a .t1) ≡ 64 = search needs in
+    sym (length-take-le (a .at) (a .t1) (omega arith))
 
-abbrev μ-loop : tie.MeasureT-loop
-μ-loop at s b r₀ i₀ r i = at - i
+put-requires : tie.Need-put-requires
+put-requires c κs = omega (arith, kept-length c)
 
-abbrev Inv-loop2 : tie.InvT-loop2
-Inv-loop2 at s r₀ i j₀ r j = (j ≤ length s) × (length r ≡ 64) × (r ≡ spec.filled (take at r₀ ++ take j s))
+put-requires-2 : tie.Need-put-requires-2
+put-requires-2 c κs =
+    omega (arith, c .before .before .put .ensures .count, c .before .before .put .kept .0, kept-length (c .before .before .before))
 
-abbrev μ-loop2 : tie.MeasureT-loop2
-μ-loop2 at s r₀ i j₀ r j = length s - j
-
-loop-holds : tie.Need-loop-holds Inv-loop μ-loop Inv-loop2 μ-loop2
-loop-holds c = (search needs, search needs, filled-none)
-
-loop-again : tie.Need-loop-again Inv-loop μ-loop Inv-loop2 μ-loop2
-loop-again c = (search needs, search needs, fill-first _ _ _ (let lb : length (c .before .before .args .t1) ≡ 64 = search needs in omega arith) (omega arith) (c .before .loop .inv .2))
-
-loop2-holds : tie.Need-loop2-holds Inv-loop μ-loop Inv-loop2 μ-loop2
-loop2-holds c =
-    let a = c .before .before .args in let l = c .before .loop in
-    (search needs, search needs, fill-begin (a .t1) (l .r) (a .at) (l .i) (omega arith) (let lb : length (a .t1) ≡ 64 = search needs in omega arith) (l .inv .2))
-
-loop2-again : tie.Need-loop2-again Inv-loop μ-loop Inv-loop2 μ-loop2
-loop2-again c = (search needs, search needs, fill-second _ _ _ _ _ (omega arith) (omega arith) (omega arith) (c .before .before .loop2 .inv .2))
-
-returns : tie.Need-returns Inv-loop μ-loop Inv-loop2 μ-loop2
+returns : tie.Need-returns
 returns c =
-    let a = c .before .before .before .before .args in let l = c .before .before .before .loop in
-    fill-whole (a .t1) (l .r) _ (a .s .now) (a .at) (l .i) (c .before .loop2 .j) (omega arith) (let lb : length (a .t1) ≡ 64 = search needs in omega arith) (l .inv .2) (omega arith)
-    (c .before .loop2 .inv .2)
+    let a = c .before .before .before .before .before .before .before .before .args in
+    filled-by (take (a .at) (a .t1)) (a .s .now) _ _ (a .at) _ _ (sym (kept-length (c .before .before .before .before .before))) (omega arith)
+    (c .before .before .before .before .put .ensures) (c .before .put2 .ensures)
 
 pub fill-spec : {M : Type 1} → statement M
-fill-spec = tie.close (tie.spec Inv-loop μ-loop Inv-loop2 μ-loop2 loop-holds (λ c. search needs) (λ c. search needs)
-    (λ c. search needs) (λ c. search needs) loop-again loop2-holds (λ c. search needs) (λ c. search needs)
-    (λ c. search needs) (λ c. search needs) (λ c. search needs) loop2-again returns)
+fill-spec = tie.close (tie.spec (λ c. search needs) (λ c. search needs) kept-length put-requires (λ c. search needs)
+    put-requires-2 returns)

@@ -25,7 +25,7 @@ mul-v c =
       fits = omega (
         arith,
         number-fits (l .i) (l .v) (length (c .before .before .before .before .before .before .args .ds .now)) (l .inv .1) (c .before .before .before .loop-test .taken)
-            (c .before .before .before .before .before .before .pre) (c .wide .ensures .1),
+            (c .before .before .before .before .before .before .pre) (c .byte .ensures .1),
       );
     }
 
@@ -34,16 +34,16 @@ add-v c =
     let l = c .before .before .before .before .loop in
     record {
       fits = number-fits (l .i) (l .v) (length (c .before .before .before .before .before .before .args .ds .now)) (l .inv .1) (c .before .before .before .loop-test .taken)
-          (c .before .before .before .before .before .before .pre) (c .wide .ensures .1);
+          (c .before .before .before .before .before .before .pre) (c .byte .ensures .1);
     }
 
 loop-again : tie.Need-loop-again Inv-loop μ-loop
 loop-again c =
     let l = c .before .before .before .before .loop in (
       search needs,
-      number-stays (l .i) (l .v) (l .inv .1) (c .wide .ensures .1),
+      number-stays (l .i) (l .v) (l .inv .1) (c .byte .ensures .1),
       number-next (c .before .before .before .before .before .before .args .ds .now) (l .i) (l .v)
-          (c .before .before .before .loop-test .taken) (l .inv .2) (c .before .digit .ensures) (c .wide .ensures .0),
+          (c .before .before .before .loop-test .taken) (l .inv .2) (c .before .digit .ensures) (c .byte .ensures .0),
     )
 
 returns : tie.Need-returns Inv-loop μ-loop

@@ -1,13 +1,30 @@
 -- `record_bytes::encode` meets its contract.
-use Rattle.record_bytes.proofs.Steps.{record-put}
+use Prim.Native.Nat.{_≤_}
+use mathlib.Core.Path.{_≡_}
+use lib.ListN.{length}
+use native.Mathlib.Omega.{arith}
 use borrow.Author.Needs.{needs}
+use Rattle.buffers.proofs.Writes.{wrote-end}
+use Rattle.record_bytes.proofs.Steps.{record-put}
 use Rattle.record_bytes.proofs.encode.Statement.{statement}
 use Rattle.record_bytes.proofs.encode.Tie as tie
 
+put-requires : tie.Need-put-requires
+put-requires c κs =
+    let block : length (c .before .before .before .before .before .before .before .before .before .before .before .before .before .before .before .before .before .before .before .args .state .block) ≡ 64 = search needs in
+    let all : length (c .before .before .before .before .put-slots .last .0) ≡ 692 = search needs in omega arith
+
 returns : tie.Need-returns
-returns c = record-put _ (c .before .before .before .before .before .before .before .before .before .before .before .before .before .before .before .before .before .before .before .before .args .state) (c .before .before .before .before .before .before .before .before .before .before .before .before .before .before .before .before .before .before .put-counts .ensures) (c .before .before .before .before .before .before .before .before .before .before .before .before .before .before .put-words .ensures) (c .before .before .before .before .before .before .before .before .before .put-words2 .ensures) (c .before .before .before .before .before .put-slots .ensures) (c .before .put-block .ensures)
+returns c =
+    let args = c .before .before .before .before .before .before .before .before .before .before .before .before .before .before .before .before .before .before .before .before .before .args in
+    record-put _ (args .state) (c .before .before .before .before .before .before .before .before .before .before .before .before .before .before .before .before .before .before .before .put-counts .ensures)
+    (c .before .before .before .before .before .before .before .before .before .before .before .before .before .before .before .put-words .ensures) (c .before .before .before .before .before .before .before .before .before .before .put-words2 .ensures)
+    (c .before .before .before .before .before .before .put-slots .ensures)
+    (wrote-end (c .before .put .ensures)
+    (let block : length (args .state .block) ≡ 64 = search needs in
+    let all : length (c .before .before .before .before .before .before .put-slots .last .0) ≡ 692 = search needs in omega arith))
 
 pub encode-spec : {M : Type 1} → statement M
 encode-spec = tie.close (tie.spec (λ c. search needs) (λ c κs. search needs) (λ c. search needs) (λ c κs. search needs)
     (λ c. search needs) (λ c κs. search needs) (λ c. search needs) (λ c κs. search needs) (λ c. search needs)
-    (λ c κs. search needs) returns)
+    (λ c. search needs) put-requires returns)

@@ -20,16 +20,17 @@ loop-holds : tie.Need-loop-holds Inv-loop μ-loop
 loop-holds c = (search needs, refl, no-value-written (c .before .args .t2) (c .before .args .part .now))
 
 put-requires : tie.Need-put-requires Inv-loop μ-loop
-put-requires c κs = omega (arith, c .before .wide .ensures)
+put-requires c κs =
+    let b : length (c .before .before .before .bytes .result) ≡ 32 = search needs in omega (arith, c .before .wide .ensures)
 
 loop-again : tie.Need-loop-again Inv-loop μ-loop
 loop-again c =
-    let before = c .before .before .before .before .before .before .before .before .before .loop in
-    let put = c .before .before .put in (
+    let loop = c .before .before .before .before .before .before .before .before .before .before .loop in
+    let bytes = c .before .before .before .before .before .before .bytes in (
       search needs,
       search needs,
-      value-written _ _ _ _ _ _ _ _ (before .inv .2) (c .before .before .before .bytes .ensures) (search needs) (c .before .before .before .before .wide .ensures)
-          (put .ensures) (search needs) (search needs),
+      value-written _ _ _ _ _ _ _ _ _ (loop .inv .2) (bytes .ensures) (search needs) (c .before .before .before .before .wide .ensures)
+          (c .before .before .put .ensures) (search needs) (search needs),
     )
 
 returns : tie.Need-returns Inv-loop μ-loop
@@ -37,5 +38,5 @@ returns c = let e : c .before .before .before .args .k ≡ c .before .loop .i = 
 
 pub write-spec : {M : Type 1} → statement M
 write-spec = tie.close (tie.spec Inv-loop μ-loop loop-holds (λ c. search needs) (λ c. search needs) (λ c. search needs)
-    (λ c κs. search needs) (λ c. search needs) (λ c κs. search needs) put-requires (λ c. search needs)
-    (λ c. search needs) loop-again (λ c. search needs) returns)
+    (λ c κs. search needs) (λ c κs. search needs) (λ c. search needs) (λ c. search needs) put-requires
+    (λ c. search needs) (λ c. search needs) loop-again (λ c. search needs) returns)

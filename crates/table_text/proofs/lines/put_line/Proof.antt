@@ -10,9 +10,9 @@ use Rattle.table_text.proofs.lines.put_line.Tie as tie
 slice-write-out : tie.Need-slice-write-out
 slice-write-out c =
     let a = c .before .before .before .before .before .before .before .before .before .before .before .args in
-    line-room (a .at) (c .before .before .before .before .before .before .put-bytes .result) (c .before .before .put-numbers .result) _ (a .word .now) (a .numbers .now) (a .out .now) _ _
+    line-room (a .at) (c .before .before .before .before .before .before .put .result) (c .before .before .put-numbers .result) _ (a .word .now) (a .numbers .now) (a .out .now) _ _
     (c .before .before .before .before .before .before .before .before .before .before .before .pre)
-    (c .before .before .put-numbers .kept .0 ∙ c .before .before .before .before .before .before .put-bytes .kept .0) (c .before .before .before .before .before .before .put-bytes .ensures)
+    (c .before .before .put-numbers .kept .0 ∙ c .before .before .before .before .before .before .put .kept .0) (c .before .before .before .before .before .before .put .ensures)
     (c .before .before .put-numbers .ensures)
 
 add-result : tie.Need-add-result
@@ -21,23 +21,23 @@ add-result c =
     record {
       fits = omega (
         arith,
-        line-room (a .at) (c .before .before .before .before .before .before .put-bytes .result) (c .before .before .put-numbers .result) _ (a .word .now)
+        line-room (a .at) (c .before .before .before .before .before .before .put .result) (c .before .before .put-numbers .result) _ (a .word .now)
             (a .numbers .now) (a .out .now) _ _ (c .before .before .before .before .before .before .before .before .before .before .before .pre)
-            (c .before .before .put-numbers .kept .0 ∙ c .before .before .before .before .before .before .put-bytes .kept .0) (c .before .before .before .before .before .before .put-bytes .ensures)
+            (c .before .before .put-numbers .kept .0 ∙ c .before .before .before .before .before .before .put .kept .0) (c .before .before .before .before .before .before .put .ensures)
             (c .before .before .put-numbers .ensures),
       );
     }
 
 same-length : tie.Need-same-length
 same-length c = length-set (c .before .before .put-numbers .last .0) (c .before .before .put-numbers .result) _ ∙ c .before .before .put-numbers .kept .0 ∙
-    c .before .before .before .before .before .before .put-bytes .kept .0
+    c .before .before .before .before .before .before .put .kept .0
 
 returns : tie.Need-returns
 returns c =
     let a = c .before .before .before .before .before .before .before .before .before .before .before .args in
-    line-put (a .at) (c .before .before .before .before .before .before .put-bytes .result) (c .before .before .put-numbers .result) (a .word .now) (a .numbers .now) (a .out .now) _ _
-    (c .before .before .before .before .before .before .before .before .before .before .before .pre) (c .before .before .before .before .before .before .put-bytes .kept .0)
-    (c .before .before .put-numbers .kept .0) (c .before .before .before .before .before .before .put-bytes .ensures) (c .before .before .put-numbers .ensures)
+    line-put (a .at) (c .before .before .before .before .before .before .put .result) (c .before .before .put-numbers .result) (a .word .now) (a .numbers .now) (a .out .now) _ _
+    (c .before .before .before .before .before .before .before .before .before .before .before .pre) (c .before .before .before .before .before .before .put .kept .0)
+    (c .before .before .put-numbers .kept .0) (c .before .before .before .before .before .before .put .ensures) (c .before .before .put-numbers .ensures)
 
 pub put-line-spec : {M : Type 1} → statement M
 put-line-spec = tie.close

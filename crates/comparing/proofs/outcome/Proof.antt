@@ -1,7 +1,7 @@
--- `checking::compare::outcome` meets its contract.
+-- `comparing::outcome` meets its contract.
 use borrow.Author.Needs.{needs}
-use Rattle.checking.proofs.compare.outcome.Statement.{statement}
-use Rattle.checking.proofs.compare.outcome.Tie as tie
+use Rattle.comparing.proofs.outcome.Statement.{statement}
+use Rattle.comparing.proofs.outcome.Tie as tie
 
 returns : tie.Need-returns
 returns c = rw (← (c .before .before .bytes .ensures), ← (c .before .same .ensures), c .if1 .taken)

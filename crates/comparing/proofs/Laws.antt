@@ -11,7 +11,7 @@ use lib.Seq.{take-all, ext-getD, getD-take, length-take-le, take-suc, set-at, dr
 use Rattle.lists.specs.Lists.{same}
 use Rattle.lists.proofs.Laws.{split, same-eq, eq-same}
 use Rattle.chains.specs.declared.Value.{Value}
-use Rattle.checking.specs.Private.{outcomeOf, compared}
+use Rattle.comparing.specs.Private.{outcomeOf, compared}
 
 -- two lists that differ somewhere are not the same
 pub differs : (book b : List ℕ) (j : ℕ) → length b ≡ 32 → 32 ≤ length book → j < 32 → (getD book j 0 ≡ getD b j 0 → ⊥) → false ≡ same (take 32 book) b

@@ -1,11 +1,11 @@
--- `checking::compare::all` meets its contract.
+-- `comparing::all` meets its contract.
 use Prim.Native.Nat.{_-_, _≤_}
-use Rattle.checking.proofs.ValueLaws.{Written, written-none, written-next, written-done}
+use Rattle.comparing.proofs.Laws.{Written, written-none, written-next, written-done}
 use mathlib.Core.Path.{_≡_, refl}
 use lib.ListN.{length, length-set}
 use borrow.Author.Needs.{needs}
-use Rattle.checking.proofs.compare.all.Statement.{statement}
-use Rattle.checking.proofs.compare.all.Tie as tie
+use Rattle.comparing.proofs.all.Statement.{statement}
+use Rattle.comparing.proofs.all.Tie as tie
 
 abbrev Inv-loop : tie.InvT-loop
 Inv-loop book k outcomes₀ values count j₀ outcomes j = (j ≤ k) × (count ≡ k) × (length outcomes ≡ length outcomes₀) × Written values book outcomes₀ outcomes j

@@ -1,13 +1,13 @@
--- `checking::compare::same` meets its contract.
+-- `comparing::same` meets its contract.
 use Prim.Native.Nat.{ℕ, _-_, _≤_, _<_}
 use mathlib.Core.Path.{_≡_}
 use lib.ListN.{getD}
 use native.Mathlib.Omega.{arith}
 use borrow.Author.Needs.{needs}
 use borrow.Author.Count.{below-none, below-more}
-use Rattle.checking.proofs.ValueLaws.{differs, agrees}
-use Rattle.checking.proofs.compare.same.Statement.{statement}
-use Rattle.checking.proofs.compare.same.Tie as tie
+use Rattle.comparing.proofs.Laws.{differs, agrees}
+use Rattle.comparing.proofs.same.Statement.{statement}
+use Rattle.comparing.proofs.same.Tie as tie
 
 abbrev Inv-loop : tie.InvT-loop
 Inv-loop book b j₀ j = (j ≤ 32) × ((i : ℕ) → i < j → getD book i 0 ≡ getD b i 0)

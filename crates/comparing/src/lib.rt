@@ -1,11 +1,11 @@
-// The values of a day, compared with the book.
+// Comparing: the values of a day against those in the book.
 use chains::Value;
 ghost use mathlib.Core.Path.{_≡_};
 ghost use mathlib.Core.List.{_++_};
 ghost use Prim.Native.Nat.{_*_, _≤_};
 ghost use lib.ListN.{length, take, drop};
 ghost use Rattle.lists.specs.Lists as lists;
-ghost use Rattle.checking.specs.Private.{outcomeOf, compared};
+ghost use Rattle.comparing.specs.Private.{outcomeOf, compared};
 
 // Whether the first 32 bytes are b.
 fn same(book: &[u8], b: [u8; 32]) -> bool
