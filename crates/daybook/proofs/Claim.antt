@@ -11,9 +11,9 @@ use Rattle.layouts.specs.Layouts.{setupRefusal, chains}
 use Rattle.chains.specs.Book.{bookOf}
 use Rattle.chains.proofs.BookLaws.{book-length}
 use Rattle.service.specs.Contract.{opened}
-use Rattle.service.specs.Run.{Call}
+use Rattle.journal.specs.Run.{Call}
 use Rattle.service.proofs.CallLaws.{opened-number}
-use Rattle.service.proofs.RunLaws as service
+use Rattle.journal.proofs.RunLaws.{from-open, open-book}
 use Rattle.daybook.specs.Detection.{Handed, Premises}
 use Rattle.daybook.specs.Claim.{sealed, wrote, AllPremises, Guarantee, Claim, DetectedOrCollided, Unaltered}
 use Rattle.daybook.proofs.Detection.{detects, detects-or-collides, unchanged-clean}
@@ -22,7 +22,7 @@ pub accepted-setup : (s n f : ℕ) → numberOf (opened s n f .answer) ≡ 0 →
 accepted-setup s n f e = sym (opened-number s n f) ∙ e
 
 pub book-is : (s n f : ℕ) → numberOf (opened s n f .answer) ≡ 0 → (cs : List Call) → wrote s n f cs ≡ bookOf s n (sealed s n cs)
-book-is s n f opens cs = service.claim s n f opens cs .book
+book-is s n f opens cs = open-book s n f opens cs
 
 module _ (s n f : ℕ) (opens : numberOf (opened s n f .answer) ≡ 0) (cs : List Call) where
   abbrev E : List (List ℕ)
@@ -46,7 +46,7 @@ module _ (s n f : ℕ) (opens : numberOf (opened s n f .answer) ≡ 0) (cs : Lis
   guaranteed : Guarantee s n f cs
   guaranteed =
       record {
-        refused = service.claim s n f opens cs .refused;
+        refused = from-open s n f opens cs .refused;
         book = book-is s n f opens cs;
         every = λ d x fit nc. detects s n f (accepted-setup s n f opens) E (wrote s n f cs) (book-is s n f opens cs) d x fit nc;
         all = λ x p nc. detects s n f (accepted-setup s n f opens) E (wrote s n f cs) (book-is s n f opens cs) (length E) x (all-fit x p) nc;

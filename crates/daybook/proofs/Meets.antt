@@ -13,8 +13,8 @@ use Rattle.refusals.proofs.TestLaws.{none-fails}
 use Rattle.layouts.specs.Layouts.{chains}
 use Rattle.ledger.specs.Ledger.{endsFrom}
 use Rattle.ledger.proofs.JoinLaws.{days-joined, ends-joined}
-use Rattle.service.specs.Journal.{Journal, empty, Argument, adds, closes, testsOf, refusalOf, entered, kept, journalAfter}
-use Rattle.service.specs.Run.{Call, argumentOf, journalOf}
+use Rattle.journal.specs.Journal.{Journal, empty, Argument, adds, closes, testsOf, refusalOf, entered, kept, journalAfter}
+use Rattle.journal.specs.Run.{Call, argumentOf, journalOf}
 use Rattle.daybook.specs.Detection.{Handed, Premises}
 use Rattle.daybook.specs.Claim.{sealed, wrote, SameDays, PremisesMet}
 use Rattle.daybook.proofs.Claim.{unaltered-clean}

@@ -19,8 +19,8 @@ use Rattle.ledger.specs.Private.{EndsHold}
 use Rattle.ledger.proofs.DayLaws.{days-none, days-snoc, days-length, days-at, days-at-length}
 use Rattle.chains.specs.Book.{bookOf}
 use Rattle.service.specs.Contract.{opened}
-use Rattle.service.specs.Journal.{Journal, empty, Argument, adds, closes, testsOf, refusalOf, entered, kept, journalAfter}
-use Rattle.service.specs.Run.{Call, argumentOf, journalOf}
+use Rattle.journal.specs.Journal.{Journal, empty, Argument, adds, closes, testsOf, refusalOf, entered, kept, journalAfter}
+use Rattle.journal.specs.Run.{Call, argumentOf, journalOf}
 use Rattle.service.proofs.CallLaws.{opened-number}
 use Rattle.sealing.specs.Contract.{sealRefusal, sealedBook}
 use Rattle.sealing.proofs.SealLaws.{Sealable, sealable}

@@ -16,8 +16,8 @@ use Rattle.ledger.specs.Ledger.{daysOf, endsRefusal}
 use Rattle.sha256.specs.Sha256.{sha256}
 use Rattle.chains.specs.Book.{bookOf, inputsOf}
 use Rattle.service.specs.Contract.{opened}
-use Rattle.service.specs.Journal.{empty, refusals}
-use Rattle.service.specs.Run.{Call, add, close, argumentOf, answers, bookWritten, journalOf}
+use Rattle.journal.specs.Journal.{empty, refusals}
+use Rattle.journal.specs.Run.{Call, add, close, argumentOf, answers, bookWritten, journalOf}
 use Rattle.sealing.specs.Contract.{sealedBook}
 use Rattle.daybook.specs.Detection.{Handed, ledgerDays, checking, reading, Premises, SealedApart, Detected}
 

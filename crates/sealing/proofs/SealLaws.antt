@@ -27,8 +27,8 @@ use Rattle.chains.proofs.BookLaws.{book-none, book-suc, book-length, values-of-
 use Rattle.service.specs.declared.Record.{Record}
 use Rattle.service.specs.declared.Closed.{Closed}
 use Rattle.service.specs.Contract.{countOf, opened, added, closing}
-use Rattle.service.specs.Journal.{Journal, adds, closes, refusalOf}
-use Rattle.service.proofs.RunLaws.{Keeps, keeps-open, taken-add, taken-close, taken-count, taken-part}
+use Rattle.journal.specs.Journal.{Journal, adds, closes, refusalOf}
+use Rattle.journal.proofs.RunLaws.{Keeps, keeps-open, taken-add, taken-close, taken-count, taken-part}
 use Rattle.sealing.specs.Contract.{sealTests, sealRefusal, sealedBook}
 
 -- ---- the tests

@@ -1,4 +1,3 @@
 pub mod RecordLaws
 pub mod CallLaws
 pub mod DayLaws
-pub mod RunLaws

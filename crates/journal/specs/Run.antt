@@ -1,13 +1,12 @@
--- 01's lists of add and close calls (SPEC 5.6), by what the calls' contracts say; and the claim on every such list.
-use mathlib.Core.Path.{_≡_}
+-- 01's lists of add and close calls (SPEC 5.6), by what the calls' contracts say. Definitions only; the claim on every
+-- such list is in daybook.
 use mathlib.Core.List.{List, [], _∷_, _++_, map}
 use Prim.Native.Nat.{ℕ, _*_}
 use lib.ListN.{length, take}
 use Rattle.refusals.specs.Refusals.{numberOf}
-use Rattle.chains.specs.Book.{bookOf}
 use Rattle.service.specs.declared.Record.{Record}
-use Rattle.service.specs.Contract.{writingNumber, countOf, opened, added, closing}
-use Rattle.service.specs.Journal.{Journal, empty, Argument, adds, closes, journalAfter, refusals}
+use Rattle.service.specs.Contract.{writingNumber, countOf, added, closing}
+use Rattle.journal.specs.Journal.{Journal, empty, Argument, adds, closes, journalAfter}
 
 -- a call: add with its piece, close with the part lent to it, whatever it holds
 pub data Call : Type 0 where
@@ -52,13 +51,3 @@ bookWritten r (c ∷ cs) = called r c .wrote ++ bookWritten (called r c .state) 
 -- the journal of the list, from no entry and an empty open day
 abbrev pub journalOf : ℕ → ℕ → List Call → Journal
 journalOf scheme n cs = journalAfter scheme n empty (map argumentOf cs)
-
--- The claim (SPEC 6.6, 9.3 a b): from the record of an accepted open, for every list of calls, refused ones included,
--- the service refuses exactly what the journal refuses, with the same number; and what the accepted closes wrote is
--- 01's book over the journal's entries.
-pub record Kept (scheme n f : ℕ) (cs : List Call) : Type 0 where
-  pub refused : answers (opened scheme n f .state) cs ≡ refusals scheme n empty (map argumentOf cs)
-  pub book : bookWritten (opened scheme n f .state) cs ≡ bookOf scheme n (journalOf scheme n cs .entries)
-
-abbrev pub Claim : Type 0
-Claim = (scheme n f : ℕ) → numberOf (opened scheme n f .answer) ≡ 0 → (cs : List Call) → Kept scheme n f cs

@@ -1,4 +1,4 @@
--- The claim on every list of calls: after each call the record holds what the journal says.
+-- Every list of calls: after each call the record holds what the journal says, and the book is its entries'.
 use mathlib.Core.Path.{_≡_, refl, sym, ap, ap₂, _∙_}
 use mathlib.Core.Bool.{true}
 use mathlib.Core.List.{List, [], _∷_, _++_, map, append-assoc, append-nil}
@@ -20,12 +20,12 @@ use Rattle.layouts.proofs.AllowedLaws.{setup-is}
 use Rattle.chains.specs.Book.{start, bookOf}
 use Rattle.chains.proofs.Running.{Holds, holds-fresh, holds-next, day-values-are}
 use Rattle.chains.proofs.BookLaws.{book-suc, book-none, values-of-length}
 use Rattle.service.specs.declared.Record.{Record}
 use Rattle.service.specs.Contract.{fresh, opened, allowedRecord, addRefusal, openDay, grown, added, dayCount, closeRefusal, digestOf, dayBytes, nextDay, writingOf, countOf, closing}
-use Rattle.service.specs.Journal.{Journal, empty, Argument, adds, closes, testsOf, refusalOf, entered, kept, journalAfter, refusals}
-use Rattle.service.specs.Run.{Call, add, close, argumentOf, called, stateAfter, answers, bookWritten, Claim}
+use Rattle.journal.specs.Journal.{Journal, empty, Argument, adds, closes, testsOf, refusalOf, entered, kept, journalAfter, refusals}
+use Rattle.journal.specs.Run.{Call, add, close, argumentOf, called, stateAfter, answers, bookWritten, journalOf}
 use Rattle.service.proofs.RecordLaws.{is-allowed}
 use Rattle.service.proofs.CallLaws.{opened-number, added-number, closing-number}
 
 -- ---- the record holds what the journal says
 
@@ -216,10 +216,11 @@ all-calls {s} {n} {j = j} {r = r} k (c ∷ cs) =
 pub from-open : (s n f : ℕ) → numberOf (opened s n f .answer) ≡ 0 → (cs : List Call) → From s n f empty (opened s n f .state) cs
 from-open s n f e cs = all-calls (keeps-open s n f (sym (opened-number s n f) ∙ e)) cs
 
-pub claim : Claim
-claim s n f e cs =
-    let w = from-open s n f e cs in
-    record { refused = w .refused; book = ap (λ (l : List ℕ). l ++ bookWritten (opened s n f .state) cs) (sym (book-none s n)) ∙ w .book }
+-- and the book that they wrote
+pub open-book : (s n f : ℕ) → numberOf (opened s n f .answer) ≡ 0 → (cs : List Call) →
+    bookWritten (opened s n f .state) cs ≡ bookOf s n (journalOf s n cs .entries)
+open-book s n f e cs =
+    ap (λ (l : List ℕ). l ++ bookWritten (opened s n f .state) cs) (sym (book-none s n)) ∙ from-open s n f e cs .book
 
 -- ---- a call that the journal takes
 
