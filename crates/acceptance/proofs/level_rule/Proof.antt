@@ -16,29 +16,6 @@ Inv-loop n d l t w m k₀ k = (k ≤ m) × (every (halvesAt n t l) (upFrom 1 k) 
 abbrev μ-loop : tie.MeasureT-loop
 μ-loop n d l t w m k₀ k = m - k
 
-div-m : tie.Need-div-m Inv-loop μ-loop
-div-m c = weight-positive _ _ (c .size .ensures)
-
-loop-holds : tie.Need-loop-holds Inv-loop μ-loop
-loop-holds c = (omega arith, refl)
-
-add-k : tie.Need-add-k Inv-loop μ-loop
-add-k c = record {
-  fits = count-fits (c .before .before .size .result) (c .before .before .before .before .args .d) (c .before .loop .k) (c .loop-test .taken)
-      (c .before .before .before .before .pre .0 .most);
-}
-
-mul-halves-rule : tie.Need-mul-halves-rule Inv-loop μ-loop
-mul-halves-rule c = record {
-  fits = product-fits (c .before .before .size .result) (c .before .before .before .before .args .d) (c .before .loop .k + 1) (omega arith)
-      (c .before .before .before .before .pre .0 .most);
-}
-
-halves-rule-requires : tie.Need-halves-rule-requires Inv-loop μ-loop
-halves-rule-requires c κs =
-    let pre = c .before .before .before .before .pre in
-    chain-next-of _ (pre .0) (c .before .before .size .ensures) (pre .1) (omega arith) (omega arith)
-
 returns : tie.Need-returns Inv-loop μ-loop
 returns c =
     let args = c .before .before .before .before .before .before .args in
@@ -55,12 +32,22 @@ loop-again c =
           (halves-at-by _ _ _ _ _ (c .before .before .before .before .size .ensures) (c .before .halves-rule .ensures)) (c .if1 .left),
     )
 
-returns-2 : tie.Need-returns-2 Inv-loop μ-loop
-returns-2 c =
-    let args = c .before .before .before .before .args in
-    let loop = c .before .loop in
-    level-by _ _ _ _ _ (c .before .before .size .ensures) (every-done (halvesAt (args .n) (args .t .now) (args .l)) 1 (loop .k) _ (loop .inv .0) (c .loop-test .left) (loop .inv .1))
-
 pub level-rule-spec : {M : Type 1} → statement M
-level-rule-spec = tie.close (tie.spec Inv-loop μ-loop (λ c. search needs) (λ c. λ κs. search needs) div-m loop-holds
-    add-k mul-halves-rule halves-rule-requires returns (λ c. omega arith) loop-again returns-2)
+level-rule-spec = tie.close (tie.spec
+    Inv-loop μ-loop (λ c. search needs) (λ c. λ κs. search needs) (λ c. weight-positive _ _ (c .size .ensures))
+    (λ c. (omega arith, refl))
+    (λ c. record {
+      fits = count-fits (c .before .before .size .result) (c .before .before .before .before .args .d)
+          (c .before .loop .k) (c .loop-test .taken) (c .before .before .before .before .pre .0 .most);
+    })
+    (λ c. record {
+      fits = product-fits (c .before .before .size .result) (c .before .before .before .before .args .d)
+          (c .before .loop .k + 1) (omega arith) (c .before .before .before .before .pre .0 .most);
+    })
+    (λ c κs. let pre = c .before .before .before .before .pre in
+    chain-next-of _ (pre .0) (c .before .before .size .ensures) (pre .1) (omega arith) (omega arith))
+    returns (λ c. omega arith) loop-again
+    (λ c. let args = c .before .before .before .before .args in
+    let loop = c .before .loop in
+    level-by _ _ _ _ _ (c .before .before .size .ensures) (every-done (halvesAt (args .n) (args .t .now) (args .l)) 1 (loop .k)
+    _ (loop .inv .0) (c .loop-test .left) (loop .inv .1))))

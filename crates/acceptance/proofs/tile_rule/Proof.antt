@@ -4,9 +4,6 @@ use borrow.Author.Needs.{needs}
 use Rattle.acceptance.proofs.tile_rule.Statement.{statement}
 use Rattle.acceptance.proofs.tile_rule.Tie as tie
 
-returns : tie.Need-returns
-returns c = tile-rule-by _ _ _ _ (c .before .before .tile-passes .ensures) (c .before .tile-passes2 .ensures) (c .implies .ensures)
-
 pub tile-rule-spec : {M : Type 1} → statement M
-tile-rule-spec = tie.close
-    (tie.spec (λ c. λ κs. search needs) (λ c. λ κs. search needs) (λ c. λ κs. search needs) returns)
+tile-rule-spec = tie.close (tie.spec (λ c. λ κs. search needs) (λ c. λ κs. search needs) (λ c. λ κs. search needs)
+    (λ c. tile-rule-by _ _ _ _ (c .before .before .tile-passes .ensures) (c .before .tile-passes2 .ensures) (c .implies .ensures)))

@@ -5,16 +5,11 @@ use borrow.Author.Needs.{needs}
 use Rattle.acceptance.proofs.tree_block.Statement.{statement}
 use Rattle.acceptance.proofs.tree_block.Tie as tie
 
-lg-requires : tie.Need-lg-requires
-lg-requires c κs = allowed-n-is _ (c .before .before .before .pre .has .n-ok) .some
-
-tree-passes-requires : tie.Need-tree-passes-requires
-tree-passes-requires c κs = chain-own (c .before .before .before .before .pre) (c .lg .ensures)
-
-returns : tie.Need-returns
-returns c = tree-block-by _ _ _ (c .before .before .before .lg .ensures) (c .before .before .before .before .before .black-passes .ensures) (c .before .before .before .before .prior .ensures)
-    (c .before .before .tree-passes .ensures) (c .before .both .ensures) (c .alike .ensures)
-
 pub tree-block-spec : {M : Type 1} → statement M
-tree-block-spec = tie.close (tie.spec (λ c. λ κs. search needs) (λ c. λ κs. search needs) lg-requires
-    tree-passes-requires (λ c. λ κs. search needs) (λ c. λ κs. search needs) returns)
+tree-block-spec = tie.close (tie.spec (λ c. λ κs. search needs) (λ c. λ κs. search needs)
+    (λ c κs. allowed-n-is _ (c .before .before .before .pre .has .n-ok) .some)
+    (λ c κs. chain-own (c .before .before .before .before .pre) (c .lg .ensures)) (λ c. λ κs. search needs)
+    (λ c. λ κs. search needs)
+    (λ c. tree-block-by _ _ _ (c .before .before .before .lg .ensures)
+    (c .before .before .before .before .before .black-passes .ensures) (c .before .before .before .before .prior .ensures)
+    (c .before .before .tree-passes .ensures) (c .before .both .ensures) (c .alike .ensures)))

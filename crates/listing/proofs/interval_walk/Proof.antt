@@ -18,24 +18,6 @@ Inv-loop scheme n d t list₀ m k₀ at₀ list k at = (k ≤ m) × Wrote 0 (kee
 abbrev μ-loop : tie.MeasureT-loop
 μ-loop scheme n d t list₀ m k₀ at₀ list k at = m - k
 
-div-m : tie.Need-div-m Inv-loop μ-loop
-div-m c = allowed-n-is _ (c .before .before .pre .0 .n-ok) .some
-
-loop-holds : tie.Need-loop-holds Inv-loop μ-loop
-loop-holds c =
-    let args = c .before .before .args in
-    (omega arith, none-yet (isListed (args .scheme) (args .n) (args .t .now)) _ _ (zero-mul (args .n)))
-
-add-k : tie.Need-add-k Inv-loop μ-loop
-add-k c =
-    let args = c .before .before .before .before .args in
-    record { fits = count-fits (args .n) (args .d) (c .before .loop .k) (c .loop-test .taken) (c .before .before .before .before .pre .0 .most) }
-
-mul-interval-days : tie.Need-mul-interval-days Inv-loop μ-loop
-mul-interval-days c =
-    let args = c .before .before .before .before .args in
-    record { fits = product-fits (args .n) (args .d) (c .before .loop .k + 1) (omega arith) (c .before .before .before .before .pre .0 .most) }
-
 interval-days-requires : tie.Need-interval-days-requires Inv-loop μ-loop
 interval-days-requires c κs =
     let args = c .before .before .before .before .before .args in
@@ -64,13 +46,22 @@ same-length c =
     so-far-length (isListed (args .scheme) (args .n) (args .t .now)) (loop .k * args .n) (args .d) (loop .at) (args .list .now) (loop .list)
     (interval-end (args .n) (args .d) (loop .k) (loop .inv .0)) (c .before .before .before .before .pre .1) (loop .inv .1)
 
-returns : tie.Need-returns Inv-loop μ-loop
-returns c =
-    let args = c .before .before .before .before .args in
-    let loop = c .before .loop in
-    all-intervals (isListed (args .scheme) (args .n) (args .t .now)) (args .n) (args .d) (loop .k) (loop .at) (args .list .now) (loop .list) (c .before .before .before .before .pre .0 .whole)
-    (loop .inv .0) (c .loop-test .left) (loop .inv .1)
-
 pub interval-walk-spec : {M : Type 1} → statement M
-interval-walk-spec = tie.close (tie.spec Inv-loop μ-loop div-m loop-holds add-k mul-interval-days interval-days-requires
-    (λ c. omega arith) loop-again same-length returns)
+interval-walk-spec = tie.close (tie.spec Inv-loop μ-loop (λ c. allowed-n-is _ (c .before .before .pre .0 .n-ok) .some)
+    (λ c. let args = c .before .before .args in
+    (omega arith, none-yet (isListed (args .scheme) (args .n) (args .t .now)) _ _ (zero-mul (args .n))))
+    (λ c. let args = c .before .before .before .before .args in
+    record {
+      fits = count-fits (args .n) (args .d) (c .before .loop .k) (c .loop-test .taken)
+          (c .before .before .before .before .pre .0 .most);
+    })
+    (λ c. let args = c .before .before .before .before .args in
+    record {
+      fits = product-fits (args .n) (args .d) (c .before .loop .k + 1) (omega arith)
+          (c .before .before .before .before .pre .0 .most);
+    })
+    interval-days-requires (λ c. omega arith) loop-again same-length
+    (λ c. let args = c .before .before .before .before .args in
+    let loop = c .before .loop in
+    all-intervals (isListed (args .scheme) (args .n) (args .t .now)) (args .n) (args .d) (loop .k) (loop .at) (args .list .now)
+    (loop .list) (c .before .before .before .before .pre .0 .whole) (loop .inv .0) (c .loop-test .left) (loop .inv .1)))

@@ -14,21 +14,12 @@ Inv-loop first end list₀ at day₀ p₀ list day p = (first ≤ day) × (day �
 abbrev μ-loop : tie.MeasureT-loop
 μ-loop first end list₀ at day₀ p₀ list day p = end - day
 
-loop-holds : tie.Need-loop-holds Inv-loop μ-loop
-loop-holds c = (omega arith, c .pre .0, run-start (c .args .first) (c .args .at) (c .args .list .now))
-
 mul-list : tie.Need-mul-list Inv-loop μ-loop
 mul-list c =
     let args = c .before .before .args in
     let loop = c .before .loop in
     let q = run-place (args .first) (loop .day) (args .end) (args .at) (loop .p) (args .list .now) (loop .list) (loop .inv .0) (c .loop-test .taken) (c .before .before .pre .1) (loop .inv .2) in
     omega (arith, q .0, q .1, c .before .before .good .1 .1 .0 .1)
-
-slice-write-list : tie.Need-slice-write-list Inv-loop μ-loop
-slice-write-list c =
-    let args = c .before .before .args in
-    let loop = c .before .loop in
-    run-place (args .first) (loop .day) (args .end) (args .at) (loop .p) (args .list .now) (loop .list) (loop .inv .0) (c .loop-test .taken) (c .before .before .pre .1) (loop .inv .2) .0
 
 add-p : tie.Need-add-p Inv-loop μ-loop
 add-p c =
@@ -37,28 +28,27 @@ add-p c =
     let q = run-place (args .first) (loop .day) (args .end) (args .at) (loop .p) (args .list .now) (loop .list) (loop .inv .0) (c .loop-test .taken) (c .before .before .pre .1) (loop .inv .2) in
     omega (arith, q .0, q .1, c .before .before .good .1 .1 .0 .1)
 
-loop-again : tie.Need-loop-again Inv-loop μ-loop
-loop-again c =
-    let args = c .before .before .args in
+pub run-spec : {M : Type 1} → statement M
+run-spec = tie.close (tie.spec
+    Inv-loop μ-loop (λ c. (omega arith, c .pre .0, run-start (c .args .first) (c .args .at) (c .args .list .now)))
+    mul-list
+    (λ c. let args = c .before .before .args in
+    let loop = c .before .loop in
+    run-place (args .first) (loop .day) (args .end) (args .at) (loop .p) (args .list .now) (loop .list) (loop .inv .0)
+    (c .loop-test .taken) (c .before .before .pre .1) (loop .inv .2) .0)
+    add-p (λ c. search needs) (λ c. omega arith)
+    (λ c. let args = c .before .before .args in
     let loop = c .before .loop in (
       omega arith,
       omega arith,
-      run-next (args .first) (loop .day) (args .end) (args .at) (loop .p) (args .list .now) (loop .list) (loop .inv .0) (c .loop-test .taken) (c .before .before .pre .1)
-          (loop .inv .2),
-    )
-
-same-length : tie.Need-same-length Inv-loop μ-loop
-same-length c =
-    let args = c .before .before .args in
+      run-next (args .first) (loop .day) (args .end) (args .at) (loop .p) (args .list .now)
+          (loop .list) (loop .inv .0) (c .loop-test .taken) (c .before .before .pre .1) (loop .inv .2),
+    ))
+    (λ c. let args = c .before .before .args in
     let loop = c .before .loop in
-    run-length (args .first) (loop .day) (args .end) (args .at) (loop .p) (args .list .now) (loop .list) (loop .inv .0) (loop .inv .1) (c .before .before .pre .1) (loop .inv .2)
-
-returns : tie.Need-returns Inv-loop μ-loop
-returns c =
-    let args = c .before .before .args in
+    run-length (args .first) (loop .day) (args .end) (args .at) (loop .p) (args .list .now) (loop .list) (loop .inv .0)
+    (loop .inv .1) (c .before .before .pre .1) (loop .inv .2))
+    (λ c. let args = c .before .before .args in
     let loop = c .before .loop in
-    run-end (args .first) (loop .day) (args .end) (args .at) (loop .p) (args .list .now) (loop .list) (loop .inv .1) (c .loop-test .left) (loop .inv .2)
-
-pub run-spec : {M : Type 1} → statement M
-run-spec = tie.close (tie.spec Inv-loop μ-loop loop-holds mul-list slice-write-list add-p (λ c. search needs)
-    (λ c. omega arith) loop-again same-length returns)
+    run-end (args .first) (loop .day) (args .end) (args .at) (loop .p) (args .list .now) (loop .list) (loop .inv .1)
+    (c .loop-test .left) (loop .inv .2)))

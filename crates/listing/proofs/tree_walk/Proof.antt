@@ -15,9 +15,6 @@ Inv-loop n d t list₀ level₀ at₀ list level at = (level ≤ 17) × Wrote 0 
 abbrev μ-loop : tie.MeasureT-loop
 μ-loop n d t list₀ level₀ at₀ list level at = level
 
-loop-holds : tie.Need-loop-holds Inv-loop μ-loop
-loop-holds c = (omega arith, none-yet _ _ _ (no-level _ (c .before .before .pre .0 .most)))
-
 top-days-requires : tie.Need-top-days-requires Inv-loop μ-loop
 top-days-requires c κs =
     let args = c .before .before .before .before .before .args in
@@ -40,18 +37,15 @@ loop-again c =
           (c .before .before .before .before .loop-test .taken) (pre .1) (loop .inv .1) (c .before .before .top-days .ensures),
     )
 
-same-length : tie.Need-same-length Inv-loop μ-loop
-same-length c =
-    let args = c .before .before .before .before .args in
-    let loop = c .before .loop in
-    level-length (isListed 3 (args .n) (args .t .now)) (args .d) (loop .level) (loop .at) (args .list .now) (loop .list) (c .before .before .before .before .pre .1) (loop .inv .1)
-
-returns : tie.Need-returns Inv-loop μ-loop
-returns c =
-    let args = c .before .before .before .before .args in
-    let loop = c .before .loop in
-    all-levels (isListed 3 (args .n) (args .t .now)) (args .d) (loop .level) (loop .at) (args .list .now) (loop .list) (c .loop-test .left) (loop .inv .1)
-
 pub tree-walk-spec : {M : Type 1} → statement M
-tree-walk-spec = tie.close (tie.spec Inv-loop μ-loop loop-holds (λ c. omega arith) top-days-requires (λ c. omega arith)
-    loop-again same-length returns)
+tree-walk-spec = tie.close (tie.spec
+    Inv-loop μ-loop (λ c. (omega arith, none-yet _ _ _ (no-level _ (c .before .before .pre .0 .most))))
+    (λ c. omega arith) top-days-requires (λ c. omega arith) loop-again
+    (λ c. let args = c .before .before .before .before .args in
+    let loop = c .before .loop in
+    level-length (isListed 3 (args .n) (args .t .now)) (args .d) (loop .level) (loop .at) (args .list .now) (loop .list)
+    (c .before .before .before .before .pre .1) (loop .inv .1))
+    (λ c. let args = c .before .before .before .before .args in
+    let loop = c .before .loop in
+    all-levels (isListed 3 (args .n) (args .t .now)) (args .d) (loop .level) (loop .at) (args .list .now) (loop .list)
+    (c .loop-test .left) (loop .inv .1)))

@@ -5,11 +5,7 @@ use borrow.Author.Needs.{needs}
 use Rattle.acceptance.proofs.values.tile_bit.Statement.{statement}
 use Rattle.acceptance.proofs.values.tile_bit.Tie as tie
 
-lg-requires : tie.Need-lg-requires
-lg-requires c κs = allowed-n-is _ (c .before .pre .0 .has .n-ok) .some
-
-returns : tie.Need-returns
-returns c = bit-by _ _ _ _ (c .before .lg .ensures) (c .tile-passes .ensures)
-
 pub tile-bit-spec : {M : Type 1} → statement M
-tile-bit-spec = tie.close (tie.spec lg-requires (λ c. search needs) (λ c. λ κs. search needs) returns)
+tile-bit-spec = tie.close (tie.spec
+    (λ c κs. allowed-n-is _ (c .before .pre .0 .has .n-ok) .some) (λ c. search needs) (λ c. λ κs. search needs)
+    (λ c. bit-by _ _ _ _ (c .before .lg .ensures) (c .tile-passes .ensures)))
