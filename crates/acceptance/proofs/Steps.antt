@@ -80,38 +80,7 @@ interval-before {s} {n} {g} h l =
     let f : g - n ≡ pred (g / n) * n = omega arith in
     record { has = has-earlier (g - n) (h .has) (omega arith) (omega arith); whole = ap (divides n) f ∙ divides-multiple (pred (g / n)) n (w .some) }
 
-pub prior-none : (s n g : ℕ) (t : List ℕ) → g ≤ n → true ≡ prior s n t g
-unfolding prior
-prior-none s n g t l = rw (le-leb g n l)
-
-pub prior-some : (s n g : ℕ) (t : List ℕ) {r : Bool} → n < g → r ≡ passes s n t (black (g - n)) → r ≡ prior s n t g
-unfolding prior
-prior-some s n g t l e = rw (lt-leb g n l) e
-
 -- ---- each rule from its parts
-
-pub falls-by : (n g : ℕ) (t : List ℕ) {b p r : Bool} → b ≡ passes 1 n t (black g) → p ≡ prior 1 n t g → r ≡ not b || p → r ≡ blockRule 1 n t g
-unfolding blockRule
-falls-by n g t e f h = h ∙ rw (e, f)
-
-pub tile-rule-by : (n g i : ℕ) (t : List ℕ) {a b r : Bool} → a ≡ passes 2 n t (tile 0 g) → b ≡ passes 2 n t (tile i g) → r ≡ not a || b → r ≡ tileRule n t g i
-unfolding tileRule
-tile-rule-by n g i t e f h = h ∙ rw (e, f)
-
-pub tile-block-by : (n g : ℕ) (t : List ℕ) {b p c w a e r : Bool} → b ≡ passes 2 n t (black g) → p ≡ prior 2 n t g → c ≡ passes 2 n t (tile 0 g) → w ≡ p && c → a ≡ alike b w →
-    e ≡ every (tileRule n t g) (upFrom 1 (lg n)) → r ≡ a && e → r ≡ blockRule 2 n t g
-unfolding blockRule
-tile-block-by n g t e f h i j k l = l ∙ rw (j, k, i, e, f, h)
-
-pub tree-block-by : (n g : ℕ) (t : List ℕ) {l : ℕ} {b p c w r : Bool} → l ≡ lg n → b ≡ passes 3 n t (black g) → p ≡ prior 3 n t g → c ≡ passes 3 n t (tree l g) → w ≡ p && c → r ≡ alike b w →
-    r ≡ blockRule 3 n t g
-unfolding blockRule
-tree-block-by n g t {l} q e f h i j = j ∙ rw (i, e, f, h, q)
-
-pub halves-by : (n l g : ℕ) (t : List ℕ) {m : ℕ} {a b c w r : Bool} → m ≡ 2 ^ l → a ≡ passes 3 n t (tree (l + 1) g) → b ≡ passes 3 n t (tree l (g - m)) → c ≡ passes 3 n t (tree l g) → w ≡ b && c →
-    r ≡ alike a w → r ≡ halvesRule n t l g
-unfolding halvesRule
-halves-by n l g t q e f h i j = let s : l + 1 ≡ suc l = omega arith in j ∙ rw (i, e, f, h, q, s)
 
 -- ---- chains
 
@@ -179,31 +148,13 @@ chain-of {n} {d} {l} {w} k T e h p q =
 -- ---- by scheme
 
 pub third : (s : ℕ) → allowedScheme s ≡ true → (s ≡ 1 → ⊥) → (s ≡ 2 → ⊥) → s ≡ 3
-third s a f h = go s (allowed-scheme-is s a) f h
-  where
-    go : (x : ℕ) → (1 ≤ x) × (x ≤ 3) → (x ≡ 1 → ⊥) → (x ≡ 2 → ⊥) → x ≡ 3
-    go zero b u v = absurd (omega (arith, b .0))
-    go (suc zero) b u v = absurd (u refl)
-    go (suc (suc zero)) b u v = absurd (v refl)
-    go (suc (suc (suc zero))) b u v = refl
-    go (suc (suc (suc (suc x)))) b u v = absurd (omega (arith, b .1))
+third s a f h = let b = allowed-scheme-is s a in omega arith
 
 pub interval-as : {s n g : ℕ} {t : List ℕ} (k : ℕ) → s ≡ k → Interval s n g t → Interval k n g t
 interval-as k e h = rw e at h
 
 pub table-as : {s n d : ℕ} {t : List ℕ} (k : ℕ) → s ≡ k → Table s n d t → Table k n d t
 table-as k e h = rw e at h
-
-pub rule-as : (s n g : ℕ) (t : List ℕ) (k : ℕ) {r : Bool} → s ≡ k → r ≡ blockRule k n t g → r ≡ blockRule s n t g
-rule-as s n g t k e h = rw e h
-
-pub block-at-by : (s n k : ℕ) (t : List ℕ) {r : Bool} → r ≡ blockRule s n t (k * n) → r ≡ blockAt s n t k
-unfolding blockAt
-block-at-by s n k t e = e
-
-pub blocks-by : (s n d : ℕ) (t : List ℕ) {r : Bool} → r ≡ every (blockAt s n t) (upFrom 1 (d / n)) → r ≡ blocksRule s n d t
-unfolding blocksRule
-blocks-by s n d t e = e
 
 pub halves-at-by : (n l k w : ℕ) (t : List ℕ) {r : Bool} → w ≡ 2 ^ (l + 1) → r ≡ halvesRule n t l (k * w) → r ≡ halvesAt n t l k
 unfolding halvesAt
@@ -214,22 +165,6 @@ unfolding levelRule
 level-by n d l w t e h =
     let s : l + 1 ≡ suc l = omega arith in
     h ∙ ap (λ (x : ℕ). every (halvesAt n t l) (upFrom 1 (d / x))) (e ∙ ap (λ (x : ℕ). 2 ^ x) s)
-
-pub levels-by : (n d : ℕ) (t : List ℕ) {r : Bool} → r ≡ every (levelRule n d t) (upFrom 0 16) → r ≡ levelsRule n d t
-unfolding levelsRule
-levels-by n d t e = e
-
-pub rules-no : (s n d : ℕ) (t : List ℕ) {b : Bool} → b ≡ blocksRule s n d t → not b ≡ true → false ≡ rules s n d t
-unfolding rules
-rules-no s n d t {b} e f = rw (← e, not-true b f)
-
-pub rules-blocks : (s n d : ℕ) (t : List ℕ) {b : Bool} → b ≡ blocksRule s n d t → not b ≡ false → (s ≡ 3 → ⊥) → true ≡ rules s n d t
-unfolding rules
-rules-blocks s n d t {b} e f h = rw (← e, not-false b f, ne-eqb s 3 h)
-
-pub rules-tree : (s n d : ℕ) (t : List ℕ) {b r : Bool} → b ≡ blocksRule s n d t → not b ≡ false → s ≡ 3 → r ≡ levelsRule n d t → r ≡ rules s n d t
-unfolding rules
-rules-tree s n d t {b} e f h k = rw (← e, not-false b f, eq-eqb s 3 h) k
 
 pub chain-next-of : {n d l w : ℕ} {t : List ℕ} (k : ℕ) → Table 3 n d t → w ≡ 2 ^ (l + 1) → l < 16 → 1 ≤ k → k ≤ d / w → Chain n (suc l) (k * w) t
 chain-next-of {n} {d} {l} {w} k T e h p q = let s : l + 1 ≡ suc l = omega arith in chain-of {l = suc l} k T (e ∙ ap (λ (x : ℕ). 2 ^ x) s) h p q
@@ -242,7 +177,3 @@ product-fits n d k l b = let u = interval-end n d k l in omega arith
 
 pub count-fits : (w d k : ℕ) → k < d / w → d ≤ 65536 → k + 1 < 2 ^ 32
 count-fits w d k l b = let u = div-le-self d w in omega arith
-
-pub bit-by : (n g j : ℕ) (t : List ℕ) {k : ℕ} {r : Bool} → k ≡ lg n → r ≡ passes 2 n t (tile (k - j) g) → r ≡ tileBit n t g j
-unfolding tileBit
-bit-by n g j t e h = h ∙ ap (λ (x : ℕ). passes 2 n t (tile (x - j) g)) e

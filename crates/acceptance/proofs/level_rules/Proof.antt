@@ -1,7 +1,7 @@
 -- `acceptance::level_rules` meets its contract.
-use Rattle.acceptance.proofs.Steps.{every-next, every-stop, every-done, levels-by}
+use Rattle.acceptance.proofs.Steps.{every-next, every-stop, every-done}
 use Rattle.lists.specs.Lists.{every, upFrom}
-use Rattle.acceptance.specs.Private.{levelRule}
+use Rattle.acceptance.specs.Private.{levelRule, levelsRule}
 use native.Mathlib.Omega.{arith}
 use Prim.Native.Nat.{_-_, _≤_}
 use mathlib.Core.Bool.{true}
@@ -16,11 +16,12 @@ abbrev μ-loop : tie.MeasureT-loop
 μ-loop n d t l₀ l = 16 - l
 
 pub level-rules-spec : {M : Type 1} → statement M
+unfolding levelsRule
 level-rules-spec = tie.close (tie.spec
     Inv-loop μ-loop (λ c. (omega arith, refl)) (λ c κs. (c .before .before .before .pre, c .loop-test .taken))
     (λ c. let args = c .before .before .before .before .before .args in
-    levels-by _ _ _ (every-stop (levelRule (args .n) (args .d) (args .t .now)) 0 16 (c .before .before .before .loop .l) (omega
-    arith) (omega arith) (c .before .level-rule .ensures) (c .if1 .taken)))
+    every-stop (levelRule (args .n) (args .d) (args .t .now)) 0 16 (c .before .before .before .loop .l) (omega
+    arith) (omega arith) (c .before .level-rule .ensures) (c .if1 .taken))
     (λ c. omega arith) (λ c. omega arith)
     (λ c. let args = c .before .before .before .before .before .args in
     let loop = c .before .before .before .loop in (
@@ -30,5 +31,5 @@ level-rules-spec = tie.close (tie.spec
     ))
     (λ c. let args = c .before .before .before .args in
     let loop = c .before .loop in
-    levels-by _ _ _ (every-done (levelRule (args .n) (args .d) (args .t .now)) 0 (loop .l) 16 (loop .inv .0)
-    (c .loop-test .left) (loop .inv .1))))
+    every-done (levelRule (args .n) (args .d) (args .t .now)) 0 (loop .l) 16 (loop .inv .0)
+    (c .loop-test .left) (loop .inv .1)))

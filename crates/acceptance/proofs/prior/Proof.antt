@@ -1,10 +1,13 @@
 -- `acceptance::prior` meets its contract.
-use Rattle.acceptance.proofs.Steps.{interval-before, prior-none, prior-some}
+use Rattle.acceptance.proofs.Steps.{interval-before}
+use borrow.Author.Tests.{le-leb, lt-leb}
+use Rattle.acceptance.specs.Private.{prior}
 use borrow.Author.Needs.{needs}
 use Rattle.acceptance.proofs.prior.Statement.{statement}
 use Rattle.acceptance.proofs.prior.Tie as tie
 
 pub prior-spec : {M : Type 1} → statement M
-prior-spec = tie.close (tie.spec (λ c. prior-none _ _ _ _ (c .if1 .taken)) (λ c. search needs)
+unfolding prior
+prior-spec = tie.close (tie.spec (λ c. rw (le-leb _ _ (c .if1 .taken))) (λ c. search needs)
     (λ c κs. interval-before (c .before .before .pre) (c .if1 .left))
-    (λ c. prior-some _ _ _ _ (c .before .if1 .left) (c .black-passes .ensures)))
+    (λ c. rw (lt-leb _ _ (c .before .if1 .left)) (c .black-passes .ensures)))
