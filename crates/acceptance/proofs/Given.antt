@@ -20,6 +20,14 @@ use Rattle.acceptance.specs.Private.{alike, passes, prior, tileRule, blo
 use Rattle.acceptance.proofs.Runs.{meets-append, keep-all, lastDays-split, divides-multiple}
 use Rattle.acceptance.proofs.Lookup.{Block, gives-passes, gives-black, tile-named, tree-named}
 
+-- what holds of each scheme holds of all
+pub by-scheme : (P : ℕ → Type 0) → P 1 → P 2 → P 3 → (s : ℕ) → 1 ≤ s → s ≤ 3 → P s
+by-scheme P x y z zero a b = absurd (omega arith)
+by-scheme P x y z (suc zero) a b = x
+by-scheme P x y z (suc (suc zero)) a b = y
+by-scheme P x y z (suc (suc (suc zero))) a b = z
+by-scheme P x y z (suc (suc (suc (suc s)))) a b = absurd (omega arith)
+
 -- ---- intervals: the k-th ends at k * n
 
 pub block-of : (n d k : ℕ) → 1 ≤ n → k among upFrom 1 (d / n) → Block n d (k * n)
@@ -165,11 +173,8 @@ level-3 n d S t h l j q =
         })
 
 blocks : (s n d : ℕ) (S t : List ℕ) → Gives (chains s n d) d S t → 1 ≤ s → s ≤ 3 → Power n → (k : ℕ) → Block n d (suc k * n) → blockRule s n t (suc k * n) ≡ true
-blocks zero n d S t h a b w k q = absurd (omega arith)
-blocks (suc zero) n d S t h a b w k q = block-1 n d S t h (w .some) k q
-blocks (suc (suc zero)) n d S t h a b w k q = block-2 n d S t h (w .some) k q
-blocks (suc (suc (suc zero))) n d S t h a b w k q = block-3 n d S t h (w .some) (w .power) k q
-blocks (suc (suc (suc (suc s)))) n d S t h a b w k q = absurd (omega arith)
+blocks s n d S t h a b w k q = by-scheme (λ x. Gives (chains x n d) d S t → blockRule x n t (suc k * n) ≡ true)
+    (λ h. block-1 n d S t h (w .some) k q) (λ h. block-2 n d S t h (w .some) k q) (λ h. block-3 n d S t h (w .some) (w .power) k q) s a b h
 
 levels-all : (n d : ℕ) (S t : List ℕ) → Gives (chains 3 n d) d S t → levelsRule n d t ≡ true
 unfolding levelsRule levelRule
