@@ -99,12 +99,16 @@ pub isListed-1 : (n : ℕ) (t : List ℕ) (day : ℕ) → isListed 1 n t day ≡
 unfolding isListed
 isListed-1 n t day = refl
 
+-- in an interval, by its number
+pub listed-in-1 : (n k day : ℕ) (t : List ℕ) → day among lastDays n (suc k * n) → isListed 1 n t day ≡ not (passes 1 n t (black (suc k * n)))
+listed-in-1 n k day t m = let b = in-block n k day m in rw (← (end-of n k day (b .0) (b .1))) (isListed-1 n t day)
+
 pub black-1 : (n d : ℕ) (t : List ℕ) → 1 ≤ n → divides n d ≡ true → rules 1 n d t ≡ true → (k : ℕ) → Block n d (suc k * n) →
     passes 1 n t (black (suc k * n)) ≡ prior 1 n t (suc k * n) && not (some (isListed 1 n t) (lastDays n (suc k * n)))
 unfolding blockRule
 black-1 n d t p w r k q =
     let all = some-run (isListed 1 n t) (not (passes 1 n t (black (suc k * n)))) (suc (suc k * n - n)) n p
-    (λ day m. let b = in-block n k day m in isListed-1 n t day ∙ ap (λ x. not (passes 1 n t (black x))) (end-of n k day (b .0) (b .1))) in
+    (λ day m. listed-in-1 n k day t m) in
     rw all (fits (passes 1 n t (black (suc k * n))) (prior 1 n t (suc k * n)) (rule-at 1 n d t p r k q))
   where
     fits : (a b : Bool) → not a || b ≡ true → a ≡ b && not (not a)
@@ -116,6 +120,10 @@ black-1 n d t p w r k q =
 pub isListed-2 : (n : ℕ) (t : List ℕ) (g day : ℕ) → endOf n day ≡ g → isListed 2 n t day ≡ not (passes 2 n t (tile 0 g)) && bitsRule (tileBit n t g) (lg n) (pred day)
 unfolding isListed
 isListed-2 n t g day e = rw e
+
+pub listed-in-2 : (n k day : ℕ) (t : List ℕ) → day among lastDays n (suc k * n) →
+    isListed 2 n t day ≡ not (passes 2 n t (tile 0 (suc k * n))) && bitsRule (tileBit n t (suc k * n)) (lg n) (pred day)
+listed-in-2 n k day t m = let b = in-block n k day m in isListed-2 n t (suc k * n) day (end-of n k day (b .0) (b .1))
 
 -- the bit that c(i) looks at
 pub covers-bit : (n k i x : ℕ) → n ≡ 2 ^ k → i < k → covers n (suc i) (x % n) ≡ eqb (x / 2 ^ (k - suc i) % 2) 0
@@ -160,15 +168,13 @@ module _ (n d : ℕ) (t : List ℕ) (w : Power n) (k : ℕ) where
   hides : (i day : ℕ) → i ≤ lg n → day among lastDays n (suc k * n) → covers n i (offset n day) ≡ true → passes 2 n t (tile i (suc k * n)) ≡ true → isListed 2 n t day ≡ false
   unfolding bitsRule bitRule
   hides zero day l m c e =
-      let b = in-block n k day m in
-      isListed-2 n t (suc k * n) day (end-of n k day (b .0) (b .1)) ∙ rw e
+      listed-in-2 n k day t m ∙ rw e
   hides (suc i) day l m c e =
-      let b = in-block n k day m in
       let bit : eqb (pred day / 2 ^ (lg n - suc i) % 2) 0 ≡ true = sym (covers-bit n (lg n) i (pred day) (w .power) l) ∙ c in
       let no : bitsRule (tileBit n t (suc k * n)) (lg n) (pred day) ≡ false =
       every-fails (bitRule (tileBit n t (suc k * n)) (pred day)) (upFrom 0 (lg n)) (lg n - suc i) (upFrom-mem 0 (lg n) (lg n - suc i) (omega arith) (omega arith))
       (rw (tile-bit n t (suc k * n) (suc i) l, e, bit)) in
-      isListed-2 n t (suc k * n) day (end-of n k day (b .0) (b .1)) ∙ rw no (and-false (not (passes 2 n t (tile 0 (suc k * n)))))
+      listed-in-2 n k day t m ∙ rw no (and-false (not (passes 2 n t (tile 0 (suc k * n)))))
 
   -- where c(i) fails, and with it c(0), it covers a day that is listed
   shows : (i : ℕ) → i ≤ lg n → passes 2 n t (tile 0 (suc k * n)) ≡ false → passes 2 n t (tile i (suc k * n)) ≡ false →
