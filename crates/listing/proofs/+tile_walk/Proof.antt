@@ -1,9 +1,10 @@
 -- `listing::tile_walk` meets its contract.
 use Rattle.buffers.proofs.Writes.{wrote-one, wrote-as}
-use Rattle.listing.proofs.Writes.{tile-day, tile-upper, level-less, level-some, place-one, left-place, lower-tile, upper-tile, tile-sum, tile-small, tile-level, tile-right-place, tile-join}
+use Rattle.listing.proofs.Writes.{tile-day, tile-upper, level-less, place-one, left-place, lower-tile, upper-tile, tile-sum, tile-small, tile-level, tile-right-place, tile-join}
 use Rattle.acceptance.specs.Private.{tileBit}
 use borrow.Author.Needs.{needs}
 use lib.ListN.{length-set}
+use native.Mathlib.Omega.{arith}
 use Prim.Native.Nat.{ℕ, _<_}
 use mathlib.Core.Path.{_∙_}
 use borrow.Fn.Kinds.{In}
@@ -34,7 +35,7 @@ pub +tile-walk-spec : {M : Type 1} → statement M
     (λ c. length-set (c .before .before .before .args .list .now) (c .before .before .before .args .at)
     (c .before .before .before .args .day))
     (λ c. wrote-one _ _ _ _ (tile-day _ _ _ (c .if1 .taken)) (place-one _ _ _ (c .before .before .before .pre .1 .1)))
-    (λ c. level-some _ (c .if1 .left)) (λ c κs. tile-small (c .before .before .before .pre .1 .0))
+    (λ c. omega (arith, c .if1 .left)) (λ c κs. tile-small (c .before .before .before .pre .1 .0))
     (λ c κs. (c .before .before .before .before .pre .1 .0 .at, tile-level (c .before .before .before .before .pre .1 .0)))
     (λ c. record {
       fits = tile-sum (c .before .before .before .before .before .before .pre .1 .0) (c .before .before .before .if1 .left)

@@ -1,6 +1,6 @@
 -- `listing::walk` meets its contract.
 use Rattle.buffers.proofs.Writes.{wrote-none, wrote-one}
-use Rattle.listing.proofs.Writes.{tree-none, tree-day, level-less, level-some, place-one, left-room, left-chain, right-chain, left-place, tree-right-place, tree-join}
+use Rattle.listing.proofs.Writes.{tree-none, tree-day, level-less, place-one, left-room, left-chain, right-chain, left-place, tree-right-place, tree-join}
 use borrow.Author.Needs.{needs}
 use lib.ListN.{length-set}
 use native.Mathlib.Omega.{arith}
@@ -35,7 +35,7 @@ pub +walk-spec : {M : Type 1} → statement M
     length-set (args .list .now) (args .at) (args .g))
     (λ c. wrote-one _ _ _ _ (tree-day _ _ _ _ (c .before .before .tree-passes .ensures) (c .before .if1 .left) (c .if2 .taken)) (place-one _
     _ _ (c .before .before .before .before .before .pre .1 .1)))
-    (λ c. level-some _ (c .if2 .left))
+    (λ c. omega (arith, c .if2 .left))
     (λ c κs. omega (arith, c .before .before .before .before .before .pre .1 .0 .level))
     (λ c. left-room (c .before .before .before .before .before .before .pre .1 .0) (c .before .if2 .left) (c .size .ensures))
     (λ c κs. let pre = c .before .before .before .before .before .before .before .pre in (
