@@ -31,42 +31,24 @@ pub +walk-spec : {M : Type 1} → statement M
     (walk-at t) walk.Post (λ c κs. c .before .before .pre .1 .0)
     (λ c. wrote-none _ _ _ (tree-none _ _ _ _ (c .before .tree-passes .ensures) (c .if1 .taken))) (λ c. search needs)
     (λ c. place-one _ _ _ (c .before .before .before .before .before .pre .1 .1)) (λ c. search needs)
-    (λ c. let args = c .before .before .before .before .before .args in
-    length-set (args .list .now) (args .at) (args .g))
-    (λ c. wrote-one _ _ _ _ (tree-day _ _ _ _ (c .before .before .tree-passes .ensures) (c .before .if1 .left) (c .if2 .taken)) (place-one _
-    _ _ (c .before .before .before .before .before .pre .1 .1)))
-    (λ c. omega (arith, c .if2 .left))
-    (λ c κs. omega (arith, c .before .before .before .before .before .pre .1 .0 .level))
+    (λ c. let a = c .before .before .before .before .before .args in length-set (a .list .now) (a .at) (a .g))
+    (λ c. wrote-one _ _ _ _ (tree-day _ _ _ _ (c .before .before .tree-passes .ensures) (c .before .if1 .left) (c .if2 .taken))
+    (place-one _ _ _ (c .before .before .before .before .before .pre .1 .1)))
+    (λ c. omega (arith, c .if2 .left)) (λ c κs. omega (arith, c .before .before .before .before .before .pre .1 .0 .level))
     (λ c. left-room (c .before .before .before .before .before .before .pre .1 .0) (c .before .if2 .left) (c .size .ensures))
-    (λ c κs. let pre = c .before .before .before .before .before .before .before .pre in (
-      level-less _ _ (pre .0) (c .before .before .if2 .left),
+    (λ c κs. let b = c .before .before in let pre = b .before .before .before .before .before .pre in
+    (level-less _ _ (pre .0) (b .if2 .left), (left-chain (pre .1 .0) (b .if2 .left) (c .before .size .ensures), left-place _ _ _ (b .if2 .left) (pre .1 .1))))
+    (λ c κs. let b = c .before .before .before in
+    let d = b .before .before .before in
+    let pre = d .before .before .before .before .before .pre in (
+      level-less _ _ (pre .0) (d .if2 .left),
       (
-        left-chain (pre .1 .0) (c .before .before .if2 .left)
-            (c .before .size .ensures),
-        left-place _ _ _ (c .before .before .if2 .left) (pre .1 .1),
-      ),
-    ))
-    (λ c κs. let args = c .before .before .before .before .before .before .before .before .before .before .before .args in
-    let pre = c .before .before .before .before .before .before .before .before .before .before .before .pre in (
-      level-less _ _ (pre .0) (c .before .before .before .before .before .before .if2 .left),
-      (
-        right-chain (pre .1 .0)
-            (c .before .before .before .before .before .before .if2 .left) (c .before .before .before .before .before .size .ensures),
-        tree-right-place (args .n) (args .level) (args .g - c .before .before .before .before .before .size .result) (args .at)
-            (c .before .before .before .walk .result) _ (args .t .now) (args .list .now) _
-            (c .before .before .before .before .before .before .if2 .left) (pre .1 .1) (c .before .before .before .walk .ensures)
-            (c .before .before .before .walk .kept .1 .1 .1 .1 .0),
+        right-chain (pre .1 .0) (d .if2 .left) (b .before .before .size .ensures),
+        tree-right-place _ _ _ _ _ _ _ _ _ (d .if2 .left) (pre .1 .1) (b .walk .ensures) (b .walk .kept .1 .1 .1 .1 .0),
       ),
     ))
     (λ c. c .before .before .walk2 .kept .1 .1 .1 .1 .0 ∙ c .before .before .before .before .before .before .walk .kept .1 .1 .1 .1 .0)
-    (λ c. let args = c .before .before .before .before .before .before .before .before .before .before .before .before .before .before .args
-    in
-    tree-join (args .n) (args .level) (args .g) (c .before .before .before .before .before .before .before .before .size .result)
-    (args .at) (c .before .before .before .before .before .before .walk .result) (c .before .before .walk2 .result) (args .t .now)
-    (args .list .now) _ _
-    (c .before .before .before .before .before .before .before .before .before .before .before .tree-passes .ensures)
-    (c .before .before .before .before .before .before .before .before .before .before .if1 .left)
-    (c .before .before .before .before .before .before .before .before .before .if2 .left)
-    (c .before .before .before .before .before .before .before .before .size .ensures)
-    (c .before .before .before .before .before .before .before .before .before .before .before .before .before .before .pre .1 .1)
-    (c .before .before .before .before .before .before .walk .ensures) (c .before .before .walk2 .ensures))
+    (λ c. let b = c .before .before .before .before .before .before in
+    let d = b .before .before .before in
+    tree-join _ _ _ _ _ _ _ _ _ _ _ (d .before .before .tree-passes .ensures) (d .before .if1 .left) (d .if2 .left) (b .before .before .size .ensures)
+    (d .before .before .before .before .before .pre .1 .1) (b .walk .ensures) (c .before .before .walk2 .ensures))
