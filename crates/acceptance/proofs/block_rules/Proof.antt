@@ -20,28 +20,11 @@ pub block-rules-spec : {M : Type 1} → statement M
 unfolding blockAt blocksRule
 block-rules-spec = tie.close (tie.spec
     Inv-loop μ-loop (λ c. allowed-n-is _ (c .before .pre .n-ok) .some) (λ c. (omega arith, refl))
-    (λ c. let args = c .before .before .before .args in
-    record {
-      fits = count-fits (args .n) (args .d) (c .before .loop .k) (c .loop-test .taken)
-          (c .before .before .before .pre .most);
-    })
-    (λ c. let args = c .before .before .before .args in
-    record {
-      fits = product-fits (args .n) (args .d) (c .before .loop .k + 1) (omega arith)
-          (c .before .before .before .pre .most);
-    })
+    (λ c. let b = c .before .before .before in record { fits = count-fits (b .args .n) (b .args .d) _ (c .loop-test .taken) (b .pre .most) })
+    (λ c. let b = c .before .before .before in record { fits = product-fits (b .args .n) (b .args .d) _ (omega arith) (b .pre .most) })
     (λ c κs. interval-of _ (c .before .before .before .pre) (omega arith) (omega arith))
-    (λ c. let args = c .before .before .before .before .before .args in
-    every-stop (blockAt (args .scheme) (args .n) (args .t .now)) 1 (args .d / args .n)
-    (c .before .before .before .loop .k + 1) (omega arith) (omega arith) (c .before .block-rule .ensures) (c .if1 .taken))
+    (λ c. let b = c .before .before .before in let a = b .before .before .args in every-stop _ 1 (a .d / a .n) (b .loop .k + 1) (omega arith) (omega arith) (c .before .block-rule .ensures) (c .if1 .taken))
     (λ c. omega arith)
-    (λ c. let args = c .before .before .before .before .before .args in
-    let loop = c .before .before .before .loop in (
-      omega arith,
-      every-next (blockAt (args .scheme) (args .n) (args .t .now)) 1 (loop .k) (loop .k + 1) (omega arith)
-          (loop .inv .1) (c .before .block-rule .ensures) (c .if1 .left),
-    ))
-    (λ c. let args = c .before .before .before .args in
-    let loop = c .before .loop in
-    every-done (blockAt (args .scheme) (args .n) (args .t .now)) 1 (loop .k) _ (loop .inv .0)
-    (c .loop-test .left) (loop .inv .1)))
+    (λ c. let l = c .before .before .before .loop in
+    (omega arith, every-next _ 1 (l .k) (l .k + 1) (omega arith) (l .inv .1) (c .before .block-rule .ensures) (c .if1 .left)))
+    (λ c. let l = c .before .loop in every-done _ 1 _ _ (l .inv .0) (c .loop-test .left) (l .inv .1)))

@@ -19,17 +19,9 @@ pub level-rules-spec : {M : Type 1} → statement M
 unfolding levelsRule
 level-rules-spec = tie.close (tie.spec
     Inv-loop μ-loop (λ c. (omega arith, refl)) (λ c κs. (c .before .before .before .pre, c .loop-test .taken))
-    (λ c. let args = c .before .before .before .before .before .args in
-    every-stop (levelRule (args .n) (args .d) (args .t .now)) 0 16 (c .before .before .before .loop .l) (omega
-    arith) (omega arith) (c .before .level-rule .ensures) (c .if1 .taken))
+    (λ c. let b = c .before .before .before in let a = b .before .before .args in
+    every-stop (levelRule (a .n) (a .d) (a .t .now)) 0 16 (b .loop .l) (omega arith) (omega arith) (c .before .level-rule .ensures) (c .if1 .taken))
     (λ c. omega arith) (λ c. omega arith)
-    (λ c. let args = c .before .before .before .before .before .args in
-    let loop = c .before .before .before .loop in (
-      omega arith,
-      every-next (levelRule (args .n) (args .d) (args .t .now)) 0 (loop .l) (loop .l) (omega arith) (loop .inv .1)
-          (c .before .level-rule .ensures) (c .if1 .left),
-    ))
-    (λ c. let args = c .before .before .before .args in
-    let loop = c .before .loop in
-    every-done (levelRule (args .n) (args .d) (args .t .now)) 0 (loop .l) 16 (loop .inv .0)
-    (c .loop-test .left) (loop .inv .1)))
+    (λ c. let l = c .before .before .before .loop in
+    (omega arith, every-next _ 0 (l .l) (l .l) (omega arith) (l .inv .1) (c .before .level-rule .ensures) (c .if1 .left)))
+    (λ c. let l = c .before .loop in let a = c .before .before .before .args in every-done (levelRule (a .n) (a .d) (a .t .now)) 0 _ 16 (l .inv .0) (c .loop-test .left) (l .inv .1)))
