@@ -15,18 +15,11 @@ use Rattle.lists.proofs.Laws.{split, and-of, upFrom-bounds, keep-mem, every-of}
 use Rattle.evidence.proofs.TableLaws.{meets-of, meets-day}
 use Rattle.layouts.specs.Layouts.{divides, lg, black, tile, tree, lastDays, offset, covers, coveredDays, chains}
 use Rattle.layouts.proofs.AllowedLaws.{Power}
+use Rattle.layouts.proofs.Counts.{by-scheme}
 use Rattle.layouts.proofs.Positions.{divides-half}
 use Rattle.acceptance.specs.Private.{alike, passes, prior, tileRule, blockRule, blockAt, halvesRule, halvesAt, levelRule, levelsRule, blocksRule, rules}
 use Rattle.acceptance.proofs.Runs.{meets-append, keep-all, lastDays-split, divides-multiple}
 use Rattle.acceptance.proofs.Lookup.{Block, gives-passes, gives-black, tile-named, tree-named}
-
--- what holds of each scheme holds of all
-pub by-scheme : (P : ℕ → Type 0) → P 1 → P 2 → P 3 → (s : ℕ) → 1 ≤ s → s ≤ 3 → P s
-by-scheme P x y z zero a b = absurd (omega arith)
-by-scheme P x y z (suc zero) a b = x
-by-scheme P x y z (suc (suc zero)) a b = y
-by-scheme P x y z (suc (suc (suc zero))) a b = z
-by-scheme P x y z (suc (suc (suc (suc s)))) a b = absurd (omega arith)
 
 -- ---- intervals: the k-th ends at k * n
 
