@@ -15,8 +15,7 @@ use Rattle.lists.proofs.Laws.{split, true-or-false, and-both, bool-ext, upFrom-
 use Rattle.evidence.proofs.TableLaws.{meets-of, lists-all, listed-iff, given-iff-accepted, accepted-gives}
 use Rattle.layouts.specs.Layouts.{divides, lg, Name, black, tile, tree, lastDays, offset, covers, coveredDays, namesThrough, chains}
 use Rattle.layouts.proofs.AllowedLaws.{Power, allowed-n-is, allowed-scheme-is}
-use Rattle.layouts.proofs.Counts.{by-scheme}
-use Rattle.layouts.proofs.Coverage.{chains-within}
+use Rattle.layouts.proofs.Coverage.{by-scheme, chains-within}
 use Rattle.acceptance.specs.Private.{Table, Bits, passes, levelsRule, blocksRule, rules, endOf, tileBit, bitRule, bitsRule, isListed}
 use Rattle.acceptance.proofs.Runs.{some, meets-keep, lastDays-mem, lastDays-bounds, days-bounds}
 use Rattle.acceptance.proofs.Lookup.{Block, each-1, each-2, each-3, passes-gives, gives-passes, tile-named, tree-named, black-named}

@@ -15,7 +15,7 @@ use Rattle.lists.proofs.Laws.{split, and-of, upFrom-bounds, keep-mem, every-of}
 use Rattle.evidence.proofs.TableLaws.{meets-of, meets-day}
 use Rattle.layouts.specs.Layouts.{divides, lg, black, tile, tree, lastDays, offset, covers, coveredDays, chains}
 use Rattle.layouts.proofs.AllowedLaws.{Power}
-use Rattle.layouts.proofs.Counts.{by-scheme}
+use Rattle.layouts.proofs.Coverage.{by-scheme}
 use Rattle.layouts.proofs.Positions.{divides-half}
 use Rattle.acceptance.specs.Private.{alike, passes, prior, tileRule, blockRule, blockAt, halvesRule, halvesAt, levelRule, levelsRule, blocksRule, rules}
 use Rattle.acceptance.proofs.Runs.{meets-append, keep-all, lastDays-split, divides-multiple}

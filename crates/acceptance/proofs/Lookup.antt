@@ -13,7 +13,7 @@ use Rattle.evidence.specs.Evidence.{days, Within, meets, setOutcome, tableOf, G
 use Rattle.lists.proofs.Laws.{split, true-or-false, and-both, upFrom-mem, upFrom-bounds, keep-mem, mem-keep, map-same, length-upFrom, upFrom-append}
 use Rattle.layouts.specs.Layouts.{divides, lg, Name, black, tile, tree, lastDays, coveredDays, levels, storedOnce, namesOfDay, namesThrough, chains}
 use Rattle.layouts.specs.Private.{position}
-use Rattle.layouts.proofs.Coverage.{divisor-le, cond-mem, namesThrough-suc, namesThrough-at, namesThrough-in}
+use Rattle.layouts.proofs.Coverage.{divisor-le, of-day-1, of-day-2, of-day-3, namesThrough-suc, namesThrough-at, namesThrough-in}
 use Rattle.layouts.proofs.Counts.{below-pow}
 use Rattle.layouts.proofs.Positions.{levels-run}
 use Rattle.acceptance.specs.Private.{Bits, passes}
@@ -177,30 +177,18 @@ pub each-1 : (P : Name → Type 0) (n d : ℕ) → ((g : ℕ) → Block n d g �
 each-1 P n d f x m =
     let r = namesThrough-at 1 n d x m in
     let b = upFrom-bounds 1 d (r .0) (r .1) in
-    let o = cond-mem (divides n (r .0)) (black (r .0) ∷ []) (r .2) in
-    rw (List·Memᴰ·eq-of-singleton (o .1)) (f (r .0) (record { some = b .0; most = omega arith; whole = o .0 }))
+    of-day-1 P n (r .0) (λ w. f (r .0) (record { some = b .0; most = omega arith; whole = w })) x (r .2)
 
 pub each-2 : (P : Name → Type 0) (n d : ℕ) → ((g : ℕ) → Block n d g → P (black g)) → ((g i : ℕ) → Block n d g → i ≤ lg n → P (tile i g)) → (x : Name) → x among namesThrough 2 n d → P x
 each-2 P n d f h x m =
     let r = namesThrough-at 2 n d x m in
-    let g = r .0 in
-    let b = upFrom-bounds 1 d g (r .1) in
-    let o = cond-mem (divides n g) (map (λ i. tile i g) (upFrom 0 (suc (lg n))) ++ (black g ∷ [])) (r .2) in
-    let block : Block n d g = record { some = b .0; most = omega arith; whole = o .0 } in
-    elim (List·Memᴰ·append-cases (map (λ i. tile i g) (upFrom 0 (suc (lg n)))) (o .1)) [
-      | inl k ↦ let y = Memᴰ·of-map (λ i. tile i g) (upFrom 0 (suc (lg n))) k in
-          let l = upFrom-bounds 0 (suc (lg n)) (y .0) (y .1) in rw (← (y .2)) (h g (y .0) block (omega arith))
-      | inr k ↦ rw (List·Memᴰ·eq-of-singleton k) (f g block)
-    ]
+    let b = upFrom-bounds 1 d (r .0) (r .1) in
+    of-day-2 P n (r .0) (λ w. f (r .0) (record { some = b .0; most = omega arith; whole = w }))
+    (λ i w. h (r .0) i (record { some = b .0; most = omega arith; whole = w })) x (r .2)
 
 pub each-3 : (P : Name → Type 0) (n d : ℕ) → ((g : ℕ) → Block n d g → P (black g)) → ((g l : ℕ) → Block (2 ^ l) d g → P (tree l g)) → (x : Name) → x among namesThrough 3 n d → P x
 each-3 P n d f h x m =
     let r = namesThrough-at 3 n d x m in
-    let g = r .0 in
-    let b = upFrom-bounds 1 d g (r .1) in
-    elim (List·Memᴰ·append-cases (map (λ l. tree l g) (levels g)) (r .2)) [
-      | inl k ↦ let y = Memᴰ·of-map (λ l. tree l g) (levels g) k in
-          rw (← (y .2)) (h g (y .0) (record { some = b .0; most = omega arith; whole = keep-mem (λ l. divides (2 ^ l) g) (upFrom 0 g) (y .0) (y .1) .1 }))
-      | inr k ↦ let o = cond-mem (divides n g && not (storedOnce g)) (black g ∷ []) k in
-          rw (List·Memᴰ·eq-of-singleton (o .1)) (f g (record { some = b .0; most = omega arith; whole = and-both (divides n g) (not (storedOnce g)) (o .0) .0 }))
-    ]
+    let b = upFrom-bounds 1 d (r .0) (r .1) in
+    of-day-3 P n (r .0) (λ w. f (r .0) (record { some = b .0; most = omega arith; whole = w }))
+    (λ l w. h (r .0) l (record { some = b .0; most = omega arith; whole = w })) x (r .2)

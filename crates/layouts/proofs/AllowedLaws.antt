@@ -18,8 +18,8 @@ use Rattle.refusals.proofs.TestLaws.{passed, failed, Pass, none-fails, pass-spl
 use Rattle.layouts.specs.Statements.{ValuesCounted, BookFront}
 use Rattle.layouts.specs.Layouts.{divides, allowedScheme, allowedN, allowedF, allowedD, setupTests, layoutTests, setupRefusal, layoutRefusal, lg, black, covers, namesThrough, coveredDays, chainsOfDay, chains}
 use Rattle.layouts.specs.Private.{position}
-use Rattle.layouts.proofs.Coverage.{divisor-le, chains-suc, chains-front}
-use Rattle.layouts.proofs.Counts.{by-scheme, lg-unique, ones-small, digits, digits-small, through, count-through, values-length}
+use Rattle.layouts.proofs.Coverage.{by-scheme, divisor-le, chains-suc, chains-front}
+use Rattle.layouts.proofs.Counts.{lg-unique, ones-small, digits, digits-small, through, count-through, values-length}
 
 -- ---- n
 

@@ -16,15 +16,7 @@ use borrow.Author.Tests.{eqb-true, eq-eqb, ne-eqb, leb-true, leb-false}
 use Rattle.lists.specs.Lists.{_among_, upFrom, keep}
 use Rattle.lists.proofs.Laws.{length-upFrom, split, bool-ext, has-mem, mem-has, upFrom-mem, mem-keep}
 use Rattle.layouts.specs.Layouts.{divides, lgIn, lg, Name, black, tile, levels, storedOnce, namesOfDay, namesThrough, coveredDays, chains, valueCount}
-use Rattle.layouts.proofs.Coverage.{namesThrough-suc}
-
--- what holds of each scheme holds of all
-pub by-scheme : (P : ℕ → Type 0) → P 1 → P 2 → P 3 → (s : ℕ) → 1 ≤ s → s ≤ 3 → P s
-by-scheme P x y z zero a b = absurd (omega arith)
-by-scheme P x y z (suc zero) a b = x
-by-scheme P x y z (suc (suc zero)) a b = y
-by-scheme P x y z (suc (suc (suc zero))) a b = z
-by-scheme P x y z (suc (suc (suc (suc s)))) a b = absurd (omega arith)
+use Rattle.layouts.proofs.Coverage.{by-scheme, namesThrough-suc}
 
 abbrev pub bit : Bool → ℕ
 bit b = cond b 1 0
