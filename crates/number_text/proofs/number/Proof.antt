@@ -15,9 +15,6 @@ Inv-loop ds v₀ i₀ v i = (i ≤ length ds) × (v + 29 ≤ most i) × (v ≡ n
 abbrev μ-loop : tie.MeasureT-loop
 μ-loop ds v₀ i₀ v i = length ds - i
 
-loop-holds : tie.Need-loop-holds Inv-loop μ-loop
-loop-holds c = (search needs, search needs, refl)
-
 mul-v : tie.Need-mul-v Inv-loop μ-loop
 mul-v c =
     let l = c .before .before .before .before .loop in
@@ -29,26 +26,23 @@ mul-v c =
       );
     }
 
-add-v : tie.Need-add-v Inv-loop μ-loop
-add-v c =
-    let l = c .before .before .before .before .loop in
+pub number-spec : {M : Type 1} → statement M
+number-spec = tie.close (tie.spec
+    Inv-loop μ-loop (λ c. (search needs, search needs, refl)) (λ c. search needs) (λ c. λ κs. search needs)
+    (λ c. λ κs. search needs) mul-v
+    (λ c. let l = c .before .before .before .before .loop in
     record {
-      fits = number-fits (l .i) (l .v) (length (c .before .before .before .before .before .before .args .ds .now)) (l .inv .1) (c .before .before .before .loop-test .taken)
-          (c .before .before .before .before .before .before .pre) (c .byte .ensures .1);
-    }
-
-loop-again : tie.Need-loop-again Inv-loop μ-loop
-loop-again c =
-    let l = c .before .before .before .before .loop in (
+      fits = number-fits (l .i) (l .v) (length (c .before .before .before .before .before .before .args .ds .now))
+          (l .inv .1) (c .before .before .before .loop-test .taken) (c .before .before .before .before .before .before .pre)
+          (c .byte .ensures .1);
+    })
+    (λ c. search needs) (λ c. search needs)
+    (λ c. let l = c .before .before .before .before .loop in (
       search needs,
       number-stays (l .i) (l .v) (l .inv .1) (c .byte .ensures .1),
-      number-next (c .before .before .before .before .before .before .args .ds .now) (l .i) (l .v)
+      number-next
+          (c .before .before .before .before .before .before .args .ds .now) (l .i) (l .v)
           (c .before .before .before .loop-test .taken) (l .inv .2) (c .before .digit .ensures) (c .byte .ensures .0),
-    )
-
-returns : tie.Need-returns Inv-loop μ-loop
-returns c = number-done (c .before .before .before .args .ds .now) (c .before .loop .i) (c .before .loop .v) (c .loop-test .left) (c .before .loop .inv .2)
-
-pub number-spec : {M : Type 1} → statement M
-number-spec = tie.close (tie.spec Inv-loop μ-loop loop-holds (λ c. search needs) (λ c. λ κs. search needs)
-    (λ c. λ κs. search needs) mul-v add-v (λ c. search needs) (λ c. search needs) loop-again returns)
+    ))
+    (λ c. number-done (c .before .before .before .args .ds .now) (c .before .loop .i) (c .before .loop .v) (c .loop-test .left)
+    (c .before .loop .inv .2)))

@@ -7,8 +7,6 @@ use borrow.Author.Needs.{needs}
 use Rattle.reading.proofs.bits.Statement.{statement}
 use Rattle.reading.proofs.bits.Tie as tie
 
-returns : tie.Need-returns
-returns c = ap (λ (x : ℕ). leb x 1) (c .greatest .ensures) ∙ bits-by (c .before .before .args .t .now)
-
 pub bits-spec : {M : Type 1} → statement M
-bits-spec = tie.close (tie.spec (λ c. λ κs. search needs) returns)
+bits-spec = tie.close (tie.spec (λ c. λ κs. search needs)
+    (λ c. ap (λ (x : ℕ). leb x 1) (c .greatest .ensures) ∙ bits-by (c .before .before .args .t .now)))

@@ -17,31 +17,14 @@ Inv-loop scheme n f d ledger ends book₀ state₀ at₀ i₀ days book state at
 abbrev μ-loop : tie.MeasureT-loop
 μ-loop scheme n f d ledger ends book₀ state₀ at₀ i₀ days book state at i = d - i
 
-loop-holds : tie.Need-loop-holds Inv-loop μ-loop
-loop-holds c =
-    let none : 0 ≤ c .before .before .before .before .before .before .args .d = omega arith in
-    let ok = sealable _ _ _ _ _ _ _ (c .before .before .before .before .before .before .pre) in
-    (none, c .wide .ensures, ok, no-day-sealed ok _ (ap (λ (x : Opened). x .state) (c .before .before .«open» .ensures)))
-
 -- a turn's day is one of the first d
 turn : (c : tie.In-loop Inv-loop μ-loop) → c .before .loop .i < c .before .before .before .before .before .before .before .before .args .d
 turn c = omega (arith, c .loop-test .taken, c .before .loop .inv .1)
-
-start-of-requires : tie.Need-start-of-requires Inv-loop μ-loop
-start-of-requires c κs = omega (arith, turn c, c .before .loop .inv .2 .ends-hold .enough)
-
-end-of-requires : tie.Need-end-of-requires Inv-loop μ-loop
-end-of-requires c κs = omega (arith, turn (c .before), c .before .before .loop .inv .2 .ends-hold .enough)
 
 sub-seal-day : tie.Need-sub-seal-day Inv-loop μ-loop
 sub-seal-day c =
     let loop = c .before .before .before .loop in
     omega (arith, c .before .start-of .ensures, c .end-of .ensures, loop .inv .2 .ends-hold .ascend (loop .i) (turn (c .before .before)))
-
-part-seal-day-end : tie.Need-part-seal-day-end Inv-loop μ-loop
-part-seal-day-end c =
-    let loop = c .before .before .before .loop in
-    omega (arith, c .end-of .ensures, loop .inv .2 .ends-hold .within (loop .i) (turn (c .before .before)))
 
 rest-starts : tie.Need-sub-seal-day-2 Inv-loop μ-loop
 rest-starts c = let loop = c .before .before .before .before .loop in place-within (loop .inv .2) (loop .inv .3) (loop .inv .0)
@@ -62,19 +45,30 @@ sealed c =
     (ap₂ (λ (x y : ℕ). take (y - x) (drop x (c .before .before .before .before .before .before .before .before .before .before .before .before .before .before .before .before .before .before .args .ledger .now))) (c .before .before .before .before .before .before .before .before .before .start-of .ensures) (c .before .before .before .before .before .before .before .before .end-of .ensures))
     (day .ensures .0) (day .ensures .1) (c .before .count-of .ensures) (c .wide2 .ensures)
 
-add-at : tie.Need-add-at Inv-loop μ-loop
-add-at c = omega (arith, sealed c .0, c .before .before .before .before .before .before .before .before .before .before .before .before .before .before .before .before .before .before .good .1 .1 .1 .1 .1 .1 .0)
-
-loop-again : tie.Need-loop-again Inv-loop μ-loop
-loop-again c = (search needs, search needs, c .before .before .before .before .before .before .before .before .before .before .before .loop .inv .2, sealed c .1)
-
-returns : tie.Need-returns Inv-loop μ-loop
-returns c =
-    let loop = c .before .loop in
-    all-sealed (loop .inv .2) (loop .inv .3) (omega (arith, loop .inv .0, loop .inv .1, c .loop-test .left))
-
 pub seal-days-spec : {M : Type 1} → statement M
-seal-days-spec = tie.close (tie.spec Inv-loop μ-loop (λ c κs. search needs) (λ c κs. search needs) loop-holds
-    start-of-requires end-of-requires sub-seal-day sub-seal-day part-seal-day-end rest-starts rest-starts
-    (λ c. search needs) (λ c κs. search needs) (λ c κs. search needs) (λ c κs. search needs) (λ c. search needs) add-at
-    (λ c. search needs) (λ c. search needs) loop-again (λ c. search needs) returns)
+seal-days-spec = tie.close (tie.spec Inv-loop μ-loop (λ c κs. search needs) (λ c κs. search needs)
+    (λ c. let none : 0 ≤ c .before .before .before .before .before .before .args .d = omega arith in
+    let ok = sealable _ _ _ _ _ _ _ (c .before .before .before .before .before .before .pre) in
+    (none, c .wide .ensures, ok, no-day-sealed ok _ (ap (λ (x : Opened). x .state) (c .before .before .«open» .ensures))))
+    (λ c κs. omega (arith, turn c, c .before .loop .inv .2 .ends-hold .enough))
+    (λ c κs. omega (arith, turn (c .before), c .before .before .loop .inv .2 .ends-hold .enough)) sub-seal-day
+    sub-seal-day
+    (λ c. let loop = c .before .before .before .loop in
+    omega (arith, c .end-of .ensures, loop .inv .2 .ends-hold .within (loop .i) (turn (c .before .before))))
+    rest-starts rest-starts (λ c. search needs) (λ c κs. search needs) (λ c κs. search needs) (λ c κs. search needs)
+    (λ c. search needs)
+    (λ c. omega (
+      arith,
+      sealed c .0,
+      c .before .before .before .before .before .before .before .before .before .before .before .before .before .before .before .before .before .before .good .1 .1 .1 .1 .1 .1 .0,
+    ))
+    (λ c. search needs) (λ c. search needs)
+    (λ c. (
+      search needs,
+      search needs,
+      c .before .before .before .before .before .before .before .before .before .before .before .loop .inv .2,
+      sealed c .1,
+    ))
+    (λ c. search needs)
+    (λ c. let loop = c .before .loop in
+    all-sealed (loop .inv .2) (loop .inv .3) (omega (arith, loop .inv .0, loop .inv .1, c .loop-test .left))))

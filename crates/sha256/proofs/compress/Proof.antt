@@ -14,20 +14,11 @@ Inv-loop h k v₀ w₀ t₀ v w t = Before h w₀ t v w
 abbrev μ-loop : tie.MeasureT-loop
 μ-loop h k v₀ w₀ t₀ v w t = 64 - t
 
-loop-holds : tie.Need-loop-holds Inv-loop μ-loop
-loop-holds c = before-first _ _ (search needs)
-
-rounds-requires : tie.Need-rounds-requires Inv-loop μ-loop
-rounds-requires c κs = let s = c .before .before .loop .inv .sixteens in omega arith
-
-loop-again : tie.Need-loop-again Inv-loop μ-loop
-loop-again c =
-    before-next _ _ _ (c .before .before .before .before .loop .inv) (search needs) (c .before .before .before .before .before .table .ensures) (c .before .rounds .ensures) (c .if1 .w)
-    (λ q. ⊎-elim (λ a. a .2 ∙ a .1 .ensures) (λ a. absurd (let l = a .0 .left in omega arith)) (c .if1 .came))
-
-returns : tie.Need-returns Inv-loop μ-loop
-returns c = compressed _ _ _ (c .before .before .loop .inv) (omega arith) (c .summed .ensures)
-
 pub compress-spec : {M : Type 1} → statement M
-compress-spec = tie.close (tie.spec Inv-loop μ-loop (λ c. λ κs. search needs) loop-holds rounds-requires
-    (λ c. λ κs. search needs) (λ c. search needs) (λ c. search needs) loop-again (λ c. λ κs. search needs) returns)
+compress-spec = tie.close (tie.spec Inv-loop μ-loop (λ c. λ κs. search needs) (λ c. before-first _ _ (search needs))
+    (λ c κs. let s = c .before .before .loop .inv .sixteens in omega arith) (λ c. λ κs. search needs)
+    (λ c. search needs) (λ c. search needs)
+    (λ c. before-next _ _ _ (c .before .before .before .before .loop .inv) (search needs)
+    (c .before .before .before .before .before .table .ensures) (c .before .rounds .ensures) (c .if1 .w) (λ q. ⊎-elim (λ a. a .2
+    ∙ a .1 .ensures) (λ a. absurd (let l = a .0 .left in omega arith)) (c .if1 .came)))
+    (λ c. λ κs. search needs) (λ c. compressed _ _ _ (c .before .before .loop .inv) (omega arith) (c .summed .ensures)))

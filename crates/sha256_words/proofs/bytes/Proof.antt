@@ -16,19 +16,17 @@ Inv-loop h r₀ i₀ r i = (i ≤ 8) × (length r ≡ 32) × (take (i * 4) r ≡
 abbrev μ-loop : tie.MeasureT-loop
 μ-loop h r₀ i₀ r i = 8 - i
 
-loop-holds : tie.Need-loop-holds Inv-loop μ-loop
-loop-holds c = (search needs, search needs, bytes-none)
-
-loop-again : tie.Need-loop-again Inv-loop μ-loop
-loop-again c =
-    let a = c .before .before .args in let l = c .before .loop in
-    (search needs, simp length-set (l .inv .1), bytes-step (a .t1) (l .r) (l .i) _ _ _ _ (let lb : length (a .t1) ≡ 8 = search needs in omega arith) (omega arith) (l .inv .2) refl refl refl refl)
-
-returns : tie.Need-returns Inv-loop μ-loop
-returns c = bytes-whole _ _ (c .before .loop .i) (omega arith) (search needs) (c .before .loop .inv .1) (c .before .loop .inv .2)
-
 pub bytes-spec : {M : Type 1} → statement M
-bytes-spec = tie.close (tie.spec Inv-loop μ-loop loop-holds (λ c. search needs) (λ c. search needs) (λ c. search needs)
+bytes-spec = tie.close (tie.spec
+    Inv-loop μ-loop (λ c. (search needs, search needs, bytes-none)) (λ c. search needs) (λ c. search needs)
     (λ c. search needs) (λ c. search needs) (λ c. search needs) (λ c. search needs) (λ c. search needs)
     (λ c. search needs) (λ c. search needs) (λ c. search needs) (λ c. search needs) (λ c. search needs)
-    (λ c. search needs) (λ c. search needs) (λ c. search needs) loop-again returns)
+    (λ c. search needs) (λ c. search needs) (λ c. search needs) (λ c. search needs)
+    (λ c. let a = c .before .before .args in
+    let l = c .before .loop in (
+      search needs,
+      simp length-set (l .inv .1),
+      bytes-step (a .t1) (l .r) (l .i) _ _ _ _ (let lb : length (a .t1) ≡ 8 = search
+          needs in omega arith) (omega arith) (l .inv .2) refl refl refl refl,
+    ))
+    (λ c. bytes-whole _ _ (c .before .loop .i) (omega arith) (search needs) (c .before .loop .inv .1) (c .before .loop .inv .2)))

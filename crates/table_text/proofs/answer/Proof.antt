@@ -8,10 +8,6 @@ use borrow.Author.Needs.{needs}
 use Rattle.table_text.proofs.answer.Statement.{statement}
 use Rattle.table_text.proofs.answer.Tie as tie
 
-returns : tie.Need-returns
-returns c = wrote-as _ (answer-early _ _ _ _ (c .before .before .before .before .before .before .before .before .args .outcomes .now)
-    (c .before .before .before .before .before .digit-refusal .ensures) (c .before .before .before .before .if1 .taken)) (c .before .before .refuse .ensures)
-
 returns-2 : tie.Need-returns-2
 returns-2 c = wrote-as _ (answer-late _ _ _ _ (c .before .before .before .before .before .before .before .before .before .before .before .before .before .args .outcomes .now)
     (c .before .before .before .before .before .before .before .before .before .before .digit-refusal .ensures)
@@ -51,7 +47,11 @@ returns-3 c = wrote-as _ (answer-read _ _ _ _ (c .before .before .before .before
     (c .before .before .before .before .before .wide .ensures)) (c .before .before .put-report .ensures)
 
 pub answer-spec : {M : Type 1} → statement M
-answer-spec = tie.close (tie.spec (λ c. λ κs. search needs) (λ c. λ κs. search needs) (λ c. search needs) returns
+answer-spec = tie.close (tie.spec (λ c. λ κs. search needs) (λ c. λ κs. search needs) (λ c. search needs)
+    (λ c. wrote-as _ (answer-early _ _ _ _
+    (c .before .before .before .before .before .before .before .before .args .outcomes .now)
+    (c .before .before .before .before .before .digit-refusal .ensures) (c .before .before .before .before .if1 .taken))
+    (c .before .before .refuse .ensures))
     (λ c. search needs) (λ c. λ κs. search needs) (λ c. λ κs. search needs) (λ c. λ κs. search needs)
     (λ c. search needs) returns-2 (λ c. λ κs. search needs) array-share-prefix-list slice-aggregate-put-report
     put-report-requires (λ c. search needs) returns-3)

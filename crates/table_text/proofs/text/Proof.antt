@@ -4,8 +4,6 @@ use borrow.Author.Needs.{needs}
 use Rattle.table_text.proofs.text.Statement.{statement}
 use Rattle.table_text.proofs.text.Tie as tie
 
-returns : tie.Need-returns
-returns c = (front-count (c .put-text .ensures), front-list (c .put-text .ensures))
-
 pub text-spec : {M : Type 1} → statement M
-text-spec = tie.close (tie.spec (λ c. λ κs. search needs) returns)
+text-spec = tie.close (tie.spec
+    (λ c. λ κs. search needs) (λ c. (front-count (c .put-text .ensures), front-list (c .put-text .ensures))))

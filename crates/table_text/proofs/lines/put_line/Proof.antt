@@ -28,10 +28,6 @@ add-result c =
       );
     }
 
-same-length : tie.Need-same-length
-same-length c = length-set (c .before .before .put-numbers .last .0) (c .before .before .put-numbers .result) _ ∙ c .before .before .put-numbers .kept .0 ∙
-    c .before .before .before .before .before .before .put .kept .0
-
 returns : tie.Need-returns
 returns c =
     let a = c .before .before .before .before .before .before .before .before .before .before .before .args in
@@ -40,5 +36,7 @@ returns c =
     (c .before .before .put-numbers .kept .0) (c .before .before .before .before .before .before .put .ensures) (c .before .before .put-numbers .ensures)
 
 pub put-line-spec : {M : Type 1} → statement M
-put-line-spec = tie.close
-    (tie.spec (λ c. λ κs. search needs) (λ c. λ κs. search needs) slice-write-out add-result same-length returns)
+put-line-spec = tie.close (tie.spec (λ c. λ κs. search needs) (λ c. λ κs. search needs) slice-write-out add-result
+    (λ c. length-set (c .before .before .put-numbers .last .0) (c .before .before .put-numbers .result) _ ∙
+    c .before .before .put-numbers .kept .0 ∙ c .before .before .before .before .before .before .put .kept .0)
+    returns)
