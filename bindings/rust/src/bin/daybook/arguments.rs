@@ -34,12 +34,16 @@ pub enum Command {
         layout: Layout,
         d: u32,
         outcomes: PathBuf,
+        /// The folder of days, for their names alone.
+        days: Option<PathBuf>,
+        names: bool,
     },
     Verify {
         layout: Layout,
         d: Option<u32>,
         source: Source,
         book: PathBuf,
+        names: bool,
     },
 }
 
@@ -87,18 +91,29 @@ const FORMS: [Form; 4] = [
     (
         "read",
         help::READ,
-        &["--scheme", "--n", "--f", "--d", "--outcomes"],
+        &[
+            "--scheme",
+            "--n",
+            "--f",
+            "--d",
+            "--outcomes",
+            "--days",
+            "--names",
+        ],
         read,
     ),
     (
         "verify",
         help::VERIFY,
         &[
-            "--scheme", "--n", "--f", "--d", "--days", "--ledger", "--ends", "--book",
+            "--scheme", "--n", "--f", "--d", "--days", "--ledger", "--ends", "--book", "--names",
         ],
         verify,
     ),
 ];
+
+/// Options that have no value.
+const FLAGS: [&str; 1] = ["--names"];
 
 /// What the words after the program's name ask for.
 pub fn parse(mut words: impl Iterator<Item = OsString>) -> Result<Request, Stop> {
@@ -143,6 +158,8 @@ fn read(options: &mut Options) -> Result<Command, Stop> {
         layout: options.layout()?,
         d: options.needed_number("--d")?,
         outcomes: options.needed_path("--outcomes")?,
+        names: options.names()?,
+        days: options.path("--days"),
     })
 }
 
@@ -150,6 +167,7 @@ fn verify(options: &mut Options) -> Result<Command, Stop> {
     Ok(Command::Verify {
         layout: options.layout()?,
         d: options.number("--d")?,
+        names: options.names()?,
         source: options.source()?,
         book: options.needed_path("--book")?,
     })
@@ -182,6 +200,10 @@ impl Options {
             };
             if options.given.iter().any(|(given, _)| given == name) {
                 return Err(usage(&format!("{name} is given twice")));
+            }
+            if FLAGS.contains(name) {
+                options.given.push((name, OsString::new()));
+                continue;
             }
             match words.next() {
                 Some(value) if is_value(&value) => options.given.push((name, value)),
@@ -227,6 +249,19 @@ impl Options {
             n: self.needed_number("--n")?,
             f: self.needed_number("--f")?,
         })
+    }
+
+    fn flag(&mut self, name: &str) -> bool {
+        self.take(name).is_some()
+    }
+
+    /// Whether the lines have names: these are the names of files.
+    fn names(&mut self) -> Result<bool, Stop> {
+        let files = self.given.iter().any(|(given, _)| *given == "--days");
+        match self.flag("--names") {
+            true if !files => Err(usage("--names needs --days: there are no other names")),
+            names => Ok(names),
+        }
     }
 
     fn source(&mut self) -> Result<Source, Stop> {
@@ -319,6 +354,18 @@ mod tests {
                 layout,
                 d: u32::MAX,
                 outcomes: "o".into(),
+                days: None,
+                names: false,
+            }))
+        );
+        assert_eq!(
+            parsed("verify --scheme 2 --names --n 16 --f 2 --days in --book b"),
+            Ok(Request::Run(Command::Verify {
+                layout,
+                d: None,
+                source: Source::Folder("in".into()),
+                book: "b".into(),
+                names: true,
             }))
         );
     }
@@ -355,6 +402,15 @@ mod tests {
             message("verify --scheme 1 --n 1 --f 1 --days in"),
             "verify needs --book"
         );
+        for line in [
+            "verify --scheme 1 --n 1 --f 1 --names --ledger l --ends e --book b",
+            "read --scheme 1 --n 1 --f 1 --d 1 --names --outcomes o",
+        ] {
+            assert_eq!(
+                message(line),
+                "--names needs --days: there are no other names"
+            );
+        }
     }
 
     #[test]

@@ -52,7 +52,9 @@ passes; 1: some value fails.
 
   --scheme S --n N --f F   the layout that the book was sealed under
   --d D                    check the first D days (else: all days of the source, and the book must
-                           then have no more values than these have)
+                           then have no more values than these have; where D cannot be so many, but
+                           the book's length is that of all days and the names of the files are
+                           numbered without a gap: the greatest D below)
   --book FILE              the book
   --outcomes FILE          the outcomes to write: a byte for each value, in book order, 1 pass, 0 fail
   --digests FILE           the digests of the days to write, 32 bytes each
@@ -62,7 +64,7 @@ of more than 4,294,967,295 bytes has no 32-bit ends and is a fault.
 ";
 
 pub const READ: &str = "\
-daybook read --scheme S --n N --f F --d D --outcomes FILE
+daybook read --scheme S --n N --f F --d D --outcomes FILE [--days DIR [--names]]
 
 Reads the outcomes of D days and prints which days may have been altered.
 
@@ -70,17 +72,21 @@ Reads the outcomes of D days and prints which days may have been altered.
   --d D                    the number of days
   --outcomes FILE          a byte for each value, in book order, 1 pass, 0 fail; bytes past the
                            last value are not read
+  --days DIR               the folder of days, for their names alone
+  --names                  each line of a day has its name too: DAY,g,name
 ";
 
 pub const VERIFY: &str = "\
-daybook verify --scheme S --n N --f F [--d D] SOURCE --book FILE
+daybook verify --scheme S --n N --f F [--d D] SOURCE --book FILE [--names]
 
 Checks the days against the book and prints which days may have been altered. It writes no file.
 
   --scheme S --n N --f F   the layout that the book was sealed under
-  --d D                    verify the first D days (else: all days of the source, and the book must
-                           then have no more values than these have)
+  --d D                    verify the first D days (else: as for check)
   --book FILE              the book
+  --names                  each line of a day has the name of its file too: DAY,g,name, where a comma,
+                           a percent sign and every byte that is not printable ASCII is %XX; with
+                           --days only
 
 SOURCE is as for seal: --days DIR, or --ledger FILE --ends FILE. The days are held in memory. A folder
 of more than 4,294,967,295 bytes has no 32-bit ends and is a fault. Refusal 14 says that no change of

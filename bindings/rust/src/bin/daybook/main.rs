@@ -3,12 +3,17 @@
 #![forbid(unsafe_code)]
 
 mod arguments;
+mod chains;
 mod commands;
 mod days;
+mod explain;
 mod files;
+mod fit;
 mod help;
+mod names;
 mod progress;
 mod stop;
+mod summary;
 
 use std::env;
 use std::io::{self, Write};
@@ -16,6 +21,7 @@ use std::process::ExitCode;
 
 use arguments::Request;
 use commands::Done;
+use daybook::Refusal;
 use stop::Stop;
 
 const CLEAN: u8 = 0;
@@ -39,13 +45,8 @@ fn end(result: Result<Done, Stop>) -> u8 {
             let status = if done.changed { CHANGED } else { CLEAN };
             print(&done.lines, status)
         }
-        Err(Stop::Refused(refusal, context)) => {
-            say(&format!(
-                "refusal {} ({context}): {refusal}",
-                refusal.number()
-            ));
-            print(&format!("NO,{}\n", refusal.number()), REFUSED)
-        }
+        Err(Stop::Refused(refusal, context)) => refused(refusal, &context, &[]),
+        Err(Stop::Explained(refusal, context, lines)) => refused(refusal, &context, &lines),
         Err(Stop::Fault(message)) => {
             say(&message);
             FAULT
@@ -55,6 +56,15 @@ fn end(result: Result<Done, Stop>) -> u8 {
             FAULT
         }
     }
+}
+
+fn refused(refusal: Refusal, context: &str, lines: &[String]) -> u8 {
+    let number = refusal.number();
+    say(&format!("refusal {number} ({context}): {refusal}"));
+    for line in lines {
+        say(line);
+    }
+    print(&format!("NO,{number}\n"), REFUSED)
 }
 
 /// Prints on standard output; gives `status`, or the one of a fault.
