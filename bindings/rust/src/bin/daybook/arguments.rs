@@ -44,6 +44,7 @@ pub enum Command {
         source: Source,
         book: PathBuf,
         names: bool,
+        figure: Option<PathBuf>,
     },
 }
 
@@ -107,6 +108,7 @@ const FORMS: [Form; 4] = [
         help::VERIFY,
         &[
             "--scheme", "--n", "--f", "--d", "--days", "--ledger", "--ends", "--book", "--names",
+            "--figure",
         ],
         verify,
     ),
@@ -168,6 +170,7 @@ fn verify(options: &mut Options) -> Result<Command, Stop> {
         layout: options.layout()?,
         d: options.number("--d")?,
         names: options.names()?,
+        figure: options.path("--figure"),
         source: options.source()?,
         book: options.needed_path("--book")?,
     })
@@ -366,6 +369,7 @@ mod tests {
                 source: Source::Folder("in".into()),
                 book: "b".into(),
                 names: true,
+                figure: None,
             }))
         );
     }

@@ -12,6 +12,7 @@ use daybook::{Checked, Layout, Refusal, Service, VALUE};
 use crate::arguments::{Command, Source};
 use crate::days::{add_file, Days, Halt, Ledger};
 use crate::explain::{bad_end, bad_outcome, impossible_value, short_book};
+use crate::figure::Verified;
 use crate::files::{read_front, test_written, Staged};
 use crate::fit::Fit;
 use crate::names::{field, out_of_order};
@@ -68,9 +69,12 @@ pub fn run(command: &Command) -> Result<Done, Stop> {
             source,
             book,
             names,
+            figure,
         } => {
-            let work = Work::find(*layout, *d, source, Some(book), &[])?;
-            verify(&work, book, *names)
+            let written = Vec::from_iter(figure.as_deref());
+            test_written(&written, &[book], None)?;
+            let work = Work::find(*layout, *d, source, Some(book), &written)?;
+            verify(&work, book, *names, figure.as_deref())
         }
     }
 }
@@ -280,11 +284,12 @@ fn check(work: &Work, book: &Path, outcomes: &Path, digests: Option<&Path>) -> R
     })
 }
 
-fn verify(work: &Work, book: &Path, names: bool) -> Result<Done, Stop> {
+fn verify(work: &Work, book: &Path, named: bool, figure: Option<&Path>) -> Result<Done, Stop> {
     let checked = checked(work, book)?;
     let view = View {
         names: work.names.clone(),
-        named: names,
+        named,
+        figure: figure.map(Path::to_path_buf),
     };
     listed(work.layout, work.d, &checked.outcomes, &view)
 }
@@ -331,6 +336,8 @@ struct View {
     names: Option<Vec<OsString>>,
     /// Whether each line of a day has its name.
     named: bool,
+    /// The picture to write.
+    figure: Option<PathBuf>,
 }
 
 impl View {
@@ -340,7 +347,11 @@ impl View {
             Some(folder) => Days::find(&Source::Folder(folder.to_path_buf()))?.names(),
             None => None,
         };
-        Ok(View { names, named })
+        Ok(View {
+            names,
+            named,
+            figure: None,
+        })
     }
 
     fn names(&self) -> Option<&[OsString]> {
@@ -352,6 +363,18 @@ impl View {
 fn listed(layout: Layout, d: u32, outcomes: &[u8], view: &View) -> Result<Done, Stop> {
     let (reading, days) = read_to_vec(layout, d, outcomes)
         .map_err(|refusal| unread_table(layout, d, outcomes, refusal))?;
+    if let Some(path) = &view.figure {
+        draw(
+            path,
+            &Verified {
+                layout,
+                d,
+                outcomes,
+                reading,
+                days: &days,
+            },
+        )?;
+    }
     if io::stderr().is_terminal() {
         let words = summary(layout, d, &reading, &days, view.names());
         let _ = write!(io::stderr(), "{words}{}", strip(d, &days));
@@ -361,6 +384,17 @@ fn listed(layout: Layout, d: u32, outcomes: &[u8], view: &View) -> Result<Done, 
         lines: lines(layout.scheme, reading.numbers(), &days, named),
         changed: !reading.is_clean(),
     })
+}
+
+fn draw(path: &Path, verified: &Verified) -> Result<(), Stop> {
+    let (first, last) = verified.window();
+    if last - first + 1 < verified.d {
+        let d = verified.d;
+        say(&format!(
+            "note: the figure shows the days {first} to {last} of {d}"
+        ));
+    }
+    Staged::new(path, verified.svg().as_bytes())?.commit()
 }
 
 /// A refusal of the outcomes.

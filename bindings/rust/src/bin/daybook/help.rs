@@ -77,9 +77,10 @@ Reads the outcomes of D days and prints which days may have been altered.
 ";
 
 pub const VERIFY: &str = "\
-daybook verify --scheme S --n N --f F [--d D] SOURCE --book FILE [--names]
+daybook verify --scheme S --n N --f F [--d D] SOURCE --book FILE [--names] [--figure FILE]
 
-Checks the days against the book and prints which days may have been altered. It writes no file.
+Checks the days against the book and prints which days may have been altered. It writes no file but
+the figure. On a terminal standard error has a summary in words and a strip of the days.
 
   --scheme S --n N --f F   the layout that the book was sealed under
   --d D                    verify the first D days (else: as for check)
@@ -87,6 +88,8 @@ Checks the days against the book and prints which days may have been altered. It
   --names                  each line of a day has the name of its file too: DAY,g,name, where a comma,
                            a percent sign and every byte that is not printable ASCII is %XX; with
                            --days only
+  --figure FILE            a picture to write, as SVG: each value over the days that it covers, which
+                           pass and which fail, the listed days and the bounds
 
 SOURCE is as for seal: --days DIR, or --ledger FILE --ends FILE. The days are held in memory. A folder
 of more than 4,294,967,295 bytes has no 32-bit ends and is a fault. Refusal 14 says that no change of

@@ -7,6 +7,7 @@ mod chains;
 mod commands;
 mod days;
 mod explain;
+mod figure;
 mod files;
 mod fit;
 mod help;

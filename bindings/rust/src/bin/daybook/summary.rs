@@ -24,9 +24,8 @@ pub fn summary(
     let Reading::Changed {
         listed,
         first,
-        low,
-        high,
         last_good,
+        ..
     } = *reading
     else {
         return format!("Clean: the days 1 to {d} are as they were sealed.\n");
@@ -36,16 +35,9 @@ pub fn summary(
         1 => format!("1 day of {d} may have been altered: {first_name}.\n"),
         _ => format!("{listed} days of {d} may have been altered, the first is {first_name}.\n"),
     };
-    let validation = d.saturating_sub(layout.f * layout.n);
-    let condition = if low == validation && low >= first {
-        format!(", if the validation at day {validation} was made and passed,")
-    } else {
-        String::new()
-    };
-    let _ = writeln!(
-        text,
-        "When: after the close of day {low}{condition} and by the end of day {high}."
-    );
+    if let Some(when) = when(layout, d, reading) {
+        let _ = writeln!(text, "{when}");
+    }
     let _ = match last_good {
         0 => writeln!(text, "Last good: none; no black value passes."),
         _ => {
@@ -60,6 +52,37 @@ pub fn summary(
         text.push_str(&listing(days, names));
     }
     text
+}
+
+/// The bounds in time in words. The validation at D − F·N counts where it is what bounds it from below.
+pub fn when(layout: Layout, d: u32, reading: &Reading) -> Option<String> {
+    let Reading::Changed {
+        first, low, high, ..
+    } = *reading
+    else {
+        return None;
+    };
+    let validation = d.saturating_sub(layout.f * layout.n);
+    let condition = if low == validation && low >= first {
+        format!(", if the validation at day {validation} was made and passed,")
+    } else {
+        String::new()
+    };
+    Some(format!(
+        "When: after the close of day {low}{condition} and by the end of day {high}."
+    ))
+}
+
+/// Ascending days as runs from one day to another.
+pub fn runs_of(days: &[u32]) -> Vec<(u32, u32)> {
+    let mut runs: Vec<(u32, u32)> = Vec::new();
+    for day in days {
+        match runs.last_mut() {
+            Some((_, last)) if *last + 1 == *day => *last = *day,
+            _ => runs.push((*day, *day)),
+        }
+    }
+    runs
 }
 
 fn listing(days: &[u32], names: Option<&[OsString]>) -> String {
@@ -150,6 +173,12 @@ mod tests {
             summary(Layout::tree(4), 8, &reading, &[], None),
             "Clean: the days 1 to 8 are as they were sealed.\n"
         );
+    }
+
+    #[test]
+    fn days_in_runs() {
+        assert_eq!(runs_of(&[]), []);
+        assert_eq!(runs_of(&[1, 2, 3, 5, 7, 8]), [(1, 3), (5, 5), (7, 8)]);
     }
 
     #[test]
