@@ -361,3 +361,41 @@ fn on_a_terminal() {
     let lines = fs::read_to_string(folder.file("lines")).unwrap();
     assert!(lines.starts_with("REF,2,8,19,32,64,16\nDAY,19\nDAY,20\n"));
 }
+
+#[test]
+fn version_and_help() {
+    let folder = Folder::new("clerk-help");
+    let version = format!("daybook {}\n", env!("CARGO_PKG_VERSION"));
+    said(&folder, "--version", (0, &version), &[]);
+    let all = run(&folder, "--help").1;
+    said(&folder, "help", (0, &all), &[]);
+    for command in ["seal", "check", "read", "verify"] {
+        assert!(all.contains(&format!("daybook {command} ")), "{command}");
+        let text = run(&folder, &format!("{command} --help")).1;
+        said(&folder, &format!("help {command}"), (0, &text), &[]);
+    }
+    assert_eq!(run(&folder, "help nothing").0, 3);
+}
+
+/// The man page has every command and every option that the helps have.
+#[test]
+fn the_man_page_has_every_option() {
+    let folder = Folder::new("clerk-man");
+    let path = concat!(env!("CARGO_MANIFEST_DIR"), "/../../docs/daybook.1");
+    let page = fs::read_to_string(path).unwrap().replace("\\-", "-");
+    let all = run(&folder, "help").1;
+    let commands = all.lines().filter_map(|line| line.strip_prefix("  daybook "));
+    let mut options = 0;
+    for command in commands.filter_map(|line| line.split(' ').next()) {
+        assert!(page.contains(&format!("daybook {command}")), "{command}");
+        let text = run(&folder, &format!("help {command}")).1;
+        let words = text.split(|c: char| !(c.is_ascii_lowercase() || c == '-'));
+        for option in words.filter(|word| word.starts_with("--") && word.len() > 2) {
+            assert!(page.contains(option), "{command} {option}");
+            options += 1;
+        }
+    }
+    assert!(options > 30);
+    let version = format!("daybook {}", env!("CARGO_PKG_VERSION"));
+    assert!(page.contains(&version));
+}

@@ -1,6 +1,7 @@
 //! The command line: `daybook COMMAND --option value ...`.
 
-use std::ffi::OsString;
+use std::ffi::{OsStr, OsString};
+use std::os::unix::ffi::OsStringExt;
 use std::path::PathBuf;
 
 use daybook::Layout;
@@ -125,14 +126,34 @@ pub fn parse(mut words: impl Iterator<Item = OsString>) -> Result<Request, Stop>
     if word == "--help" || word == "-h" {
         return Ok(Request::Help(help::ALL));
     }
-    let form = FORMS.iter().find(|form| word == form.0);
-    let Some((name, text, allowed, make)) = form else {
-        return Err(usage(&format!("there is no command {}", word.display())));
-    };
+    if word == "--version" || word == "-V" {
+        return Ok(Request::Help(help::VERSION));
+    }
+    if word == "help" {
+        return helped(words);
+    }
+    let (name, text, allowed, make) = form(&word)?;
     match Options::collect(name, allowed, words)? {
         None => Ok(Request::Help(text)),
         Some(mut options) => Ok(Request::Run(make(&mut options)?)),
     }
+}
+
+/// `daybook help`, or of one command.
+fn helped(mut words: impl Iterator<Item = OsString>) -> Result<Request, Stop> {
+    let text = match words.next() {
+        None => help::ALL,
+        Some(word) => form(&word)?.1,
+    };
+    match words.next() {
+        None => Ok(Request::Help(text)),
+        Some(_) => Err(usage("help takes one command")),
+    }
+}
+
+fn form(word: &OsStr) -> Result<&'static Form, Stop> {
+    let form = FORMS.iter().find(|form| word == form.0);
+    form.ok_or_else(|| usage(&format!("there is no command {}", word.display())))
 }
 
 fn seal(options: &mut Options) -> Result<Command, Stop> {
@@ -197,6 +218,7 @@ impl Options {
             if word == "--help" || word == "-h" {
                 return Ok(None);
             }
+            let (word, joined) = at_equals(word);
             let Some(name) = allowed.iter().find(|name| word == **name) else {
                 let word = word.display();
                 return Err(usage(&format!("{command} has no option {word}")));
@@ -204,13 +226,17 @@ impl Options {
             if options.given.iter().any(|(given, _)| given == name) {
                 return Err(usage(&format!("{name} is given twice")));
             }
-            if FLAGS.contains(name) {
-                options.given.push((name, OsString::new()));
-                continue;
-            }
-            match words.next() {
-                Some(value) if is_value(&value) => options.given.push((name, value)),
-                _ => return Err(usage(&format!("{name} has no value"))),
+            let value = match joined {
+                Some(_) if FLAGS.contains(name) => {
+                    return Err(usage(&format!("{name} takes no value")));
+                }
+                Some(value) => Some(value).filter(|value| !value.is_empty()),
+                None if FLAGS.contains(name) => Some(OsString::new()),
+                None => words.next().filter(is_value),
+            };
+            match value {
+                Some(value) => options.given.push((name, value)),
+                None => return Err(usage(&format!("{name} has no value"))),
             }
         }
         Ok(Some(options))
@@ -285,6 +311,19 @@ impl Options {
 
     fn missing(&self, name: &str) -> Stop {
         usage(&format!("{} needs {name}", self.command))
+    }
+}
+
+/// An option and its value, where they are written as one word: --option=value.
+fn at_equals(word: OsString) -> (OsString, Option<OsString>) {
+    let bytes = word.as_encoded_bytes();
+    let place = bytes.iter().position(|byte| *byte == b'=');
+    match place {
+        Some(place) if bytes.starts_with(b"--") => {
+            let part = |bytes: &[u8]| OsString::from_vec(bytes.to_vec());
+            (part(&bytes[..place]), Some(part(&bytes[place + 1..])))
+        }
+        _ => (word, None),
     }
 }
 
@@ -382,6 +421,32 @@ mod tests {
         assert_eq!(parsed("check -h"), Ok(Request::Help(help::CHECK)));
         assert_eq!(parsed("read --d 1 --help"), Ok(Request::Help(help::READ)));
         assert_eq!(parsed("verify --help"), Ok(Request::Help(help::VERIFY)));
+        assert_eq!(parsed("help"), Ok(Request::Help(help::ALL)));
+        assert_eq!(parsed("help read"), Ok(Request::Help(help::READ)));
+        assert_eq!(parsed("--version"), Ok(Request::Help(help::VERSION)));
+        assert_eq!(parsed("-V"), Ok(Request::Help(help::VERSION)));
+        assert_eq!(message("help reed"), "there is no command reed");
+        assert_eq!(message("help read all"), "help takes one command");
+    }
+
+    #[test]
+    fn values_behind_an_equals_sign() {
+        assert_eq!(
+            parsed("verify --scheme=2 --n 16 --f=2 --days=--in=x --book b --figure=a=b"),
+            Ok(Request::Run(Command::Verify {
+                layout: Layout::tile(16, 2),
+                d: None,
+                source: Source::Folder("--in=x".into()),
+                book: "b".into(),
+                names: false,
+                figure: Some("a=b".into()),
+            }))
+        );
+        assert_eq!(message("seal --n="), "--n has no value");
+        assert_eq!(message("seal --x=4"), "seal has no option --x");
+        assert_eq!(message("seal =4"), "seal has no option =4");
+        assert_eq!(message("seal --n=4 --n 4"), "--n is given twice");
+        assert_eq!(message("verify --names=yes"), "--names takes no value");
     }
 
     #[test]
@@ -393,7 +458,6 @@ mod tests {
             message("seal --outcomes o"),
             "seal has no option --outcomes"
         );
-        assert_eq!(message("seal --n=4"), "seal has no option --n=4");
         assert_eq!(message("seal --n 4 --n 4"), "--n is given twice");
         assert_eq!(message("seal --n"), "--n has no value");
         assert_eq!(message("seal --n --f 1"), "--n has no value");

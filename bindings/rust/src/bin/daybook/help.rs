@@ -1,4 +1,6 @@
-//! The texts of `--help`.
+//! The texts of `--help` and `--version`.
+
+pub const VERSION: &str = concat!("daybook ", env!("CARGO_PKG_VERSION"), "\n");
 
 pub const ALL: &str = "\
 daybook: seal, check and read day books kept in files
@@ -8,7 +10,8 @@ daybook: seal, check and read day books kept in files
   daybook read    list the days that a file of outcomes tells of
   daybook verify  check and read in one
 
-daybook COMMAND --help says more of each.
+daybook help COMMAND, or daybook COMMAND --help, says more of each; daybook --version the version.
+An option is written --option value or --option=value.
 
 A command that reads prints the lines
   REF,scheme,listed,first,low,high,lastgood
