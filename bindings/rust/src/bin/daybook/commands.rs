@@ -11,6 +11,7 @@ use crate::days::{add_file, Days, Halt, Ledger};
 use crate::files::{read_front, test_written, Staged};
 use crate::progress::Progress;
 use crate::say;
+use crate::state;
 use crate::stop::Stop;
 
 /// A command that was done.
@@ -23,6 +24,7 @@ pub struct Done {
 
 pub fn run(command: &Command) -> Result<Done, Stop> {
     match command {
+        Command::Service { folder, service } => state::run(folder, service),
         Command::Seal {
             layout,
             d,

@@ -7,7 +7,9 @@ mod commands;
 mod days;
 mod files;
 mod help;
+mod leavings;
 mod progress;
+mod state;
 mod stop;
 
 use std::env;
