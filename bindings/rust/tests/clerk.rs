@@ -384,7 +384,9 @@ fn the_man_page_has_every_option() {
     let path = concat!(env!("CARGO_MANIFEST_DIR"), "/../../docs/daybook.1");
     let page = fs::read_to_string(path).unwrap().replace("\\-", "-");
     let all = run(&folder, "help").1;
-    let commands = all.lines().filter_map(|line| line.strip_prefix("  daybook "));
+    let commands = all
+        .lines()
+        .filter_map(|line| line.strip_prefix("  daybook "));
     let mut options = 0;
     for command in commands.filter_map(|line| line.split(' ').next()) {
         assert!(page.contains(&format!("daybook {command}")), "{command}");

@@ -7,6 +7,7 @@ use std::path::PathBuf;
 use daybook::Layout;
 
 use crate::help;
+use crate::state::Service;
 use crate::stop::Stop;
 
 #[derive(Debug, PartialEq, Eq)]
@@ -17,6 +18,8 @@ pub enum Request {
 
 #[derive(Debug, PartialEq, Eq)]
 pub enum Command {
+    /// A command on a state folder.
+    Service { folder: PathBuf, service: Service },
     Seal {
         layout: Layout,
         d: Option<u32>,
@@ -64,7 +67,22 @@ type Form = (
     fn(&mut Options) -> Result<Command, Stop>,
 );
 
-const FORMS: [Form; 4] = [
+const FORMS: [Form; 8] = [
+    (
+        "open",
+        help::OPEN,
+        &[WORDS, "--scheme", "--n", "--f"],
+        |options| options.service(open),
+    ),
+    ("add", help::ADD, &[WORDS, "--day", "--at"], |options| {
+        options.service(add)
+    }),
+    ("close", help::CLOSE, &[WORDS, "--day"], |options| {
+        options.service(close)
+    }),
+    ("status", help::STATUS, &[WORDS], |options| {
+        options.service(status)
+    }),
     (
         "seal",
         help::SEAL,
@@ -117,6 +135,9 @@ const FORMS: [Form; 4] = [
 
 /// Options that have no value.
 const FLAGS: [&str; 1] = ["--names"];
+
+/// In the options of a command: it takes words that are no options, a folder and files.
+const WORDS: &str = "DIR";
 
 /// What the words after the program's name ask for.
 pub fn parse(mut words: impl Iterator<Item = OsString>) -> Result<Request, Stop> {
@@ -197,10 +218,41 @@ fn verify(options: &mut Options) -> Result<Command, Stop> {
     })
 }
 
-/// The options of a command, each given at most once.
+fn open(options: &mut Options) -> Result<Service, Stop> {
+    let layout = options.layout()?;
+    options.no_files()?;
+    Ok(Service::Open { layout })
+}
+
+fn add(options: &mut Options) -> Result<Service, Stop> {
+    let (day, at) = (
+        options.needed_number("--day")?,
+        options.needed_number("--at")?,
+    );
+    let files = options.files()?;
+    if files.is_empty() {
+        return Err(usage("add needs FILE, or - for standard input"));
+    }
+    Ok(Service::Add { day, at, files })
+}
+
+fn close(options: &mut Options) -> Result<Service, Stop> {
+    Ok(Service::Close {
+        day: options.needed_number("--day")?,
+        files: options.files()?,
+    })
+}
+
+fn status(options: &mut Options) -> Result<Service, Stop> {
+    options.no_files()?;
+    Ok(Service::Status)
+}
+
+/// The options of a command, each given at most once, and its other words.
 struct Options {
     command: &'static str,
     given: Vec<(&'static str, OsString)>,
+    words: Vec<OsString>,
 }
 
 impl Options {
@@ -213,10 +265,15 @@ impl Options {
         let mut options = Options {
             command,
             given: Vec::new(),
+            words: Vec::new(),
         };
         while let Some(word) = words.next() {
             if word == "--help" || word == "-h" {
                 return Ok(None);
+            }
+            if allowed.contains(&WORDS) && is_value(&word) {
+                options.words.push(word);
+                continue;
             }
             let (word, joined) = at_equals(word);
             let Some(name) = allowed.iter().find(|name| word == **name) else {
@@ -305,6 +362,39 @@ impl Options {
             _ => Err(usage(&format!(
                 "{} needs either --days, or --ledger and --ends",
                 self.command
+            ))),
+        }
+    }
+
+    /// A command on the folder that is the first word.
+    fn service(
+        &mut self,
+        make: fn(&mut Options) -> Result<Service, Stop>,
+    ) -> Result<Command, Stop> {
+        if self.words.is_empty() {
+            return Err(self.missing(WORDS));
+        }
+        let folder = self.words.remove(0).into();
+        let service = make(self)?;
+        Ok(Command::Service { folder, service })
+    }
+
+    /// The words after the folder. Standard input stands alone.
+    fn files(&mut self) -> Result<Vec<OsString>, Stop> {
+        let files = std::mem::take(&mut self.words);
+        if files.len() > 1 && files.iter().any(|file| file == "-") {
+            return Err(usage("- for standard input stands alone"));
+        }
+        Ok(files)
+    }
+
+    fn no_files(&mut self) -> Result<(), Stop> {
+        match self.words.first() {
+            None => Ok(()),
+            Some(word) => Err(usage(&format!(
+                "{} takes no {}",
+                self.command,
+                word.display()
             ))),
         }
     }
@@ -414,7 +504,65 @@ mod tests {
     }
 
     #[test]
+    fn services() {
+        let service = |folder: &str, service| {
+            Ok(Request::Run(Command::Service {
+                folder: folder.into(),
+                service,
+            }))
+        };
+        let layout = Layout::tile(16, 2);
+        let open = service("s", Service::Open { layout });
+        assert_eq!(parsed("open s --scheme 2 --n 16 --f 2"), open);
+        assert_eq!(parsed("open --scheme 2 --n 16 s --f 2"), open);
+        let files = |names: &[&str]| names.iter().map(OsString::from).collect();
+        assert_eq!(
+            parsed("add s --day 7 --at 0 a b"),
+            service(
+                "s",
+                Service::Add {
+                    day: 7,
+                    at: 0,
+                    files: files(&["a", "b"])
+                }
+            )
+        );
+        assert_eq!(
+            parsed("close s - --day 7"),
+            service(
+                "s",
+                Service::Close {
+                    day: 7,
+                    files: files(&["-"])
+                }
+            )
+        );
+        assert_eq!(parsed("status s"), service("s", Service::Status));
+        assert_eq!(message("status"), "status needs DIR");
+        assert_eq!(message("status s t"), "status takes no t");
+        assert_eq!(
+            message("open s t --scheme 2 --n 16 --f 2"),
+            "open takes no t"
+        );
+        assert_eq!(message("add s --day 7 a"), "add needs --at");
+        assert_eq!(message("add s --at 7 a"), "add needs --day");
+        assert_eq!(
+            message("add s --at 7 --day 1"),
+            "add needs FILE, or - for standard input"
+        );
+        assert_eq!(
+            message("add s --at 7 --day 1 a -"),
+            "- for standard input stands alone"
+        );
+        assert_eq!(message("close s"), "close needs --day");
+    }
+
+    #[test]
     fn helps() {
+        assert_eq!(parsed("open --help"), Ok(Request::Help(help::OPEN)));
+        assert_eq!(parsed("add s -h"), Ok(Request::Help(help::ADD)));
+        assert_eq!(parsed("close --help"), Ok(Request::Help(help::CLOSE)));
+        assert_eq!(parsed("status --help"), Ok(Request::Help(help::STATUS)));
         assert_eq!(parsed("--help"), Ok(Request::Help(help::ALL)));
         assert_eq!(parsed("-h"), Ok(Request::Help(help::ALL)));
         assert_eq!(parsed("seal --help"), Ok(Request::Help(help::SEAL)));

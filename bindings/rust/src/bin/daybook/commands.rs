@@ -18,6 +18,7 @@ use crate::fit::Fit;
 use crate::names::{field, out_of_order};
 use crate::progress::Progress;
 use crate::say;
+use crate::state;
 use crate::stop::Stop;
 use crate::summary::{strip, summary};
 
@@ -31,6 +32,7 @@ pub struct Done {
 
 pub fn run(command: &Command) -> Result<Done, Stop> {
     match command {
+        Command::Service { folder, service } => state::run(folder, service),
         Command::Seal {
             layout,
             d,

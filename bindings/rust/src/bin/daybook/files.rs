@@ -1,12 +1,11 @@
 //! Files read to a length, and files replaced whole.
 
-use std::ffi::OsString;
 use std::fmt::Display;
-use std::fs::{self, File, OpenOptions};
+use std::fs::{self, File};
 use std::io::{self, Read, Write};
 use std::path::{Path, PathBuf};
-use std::process;
 
+use crate::leavings::{self, parent};
 use crate::stop::Stop;
 
 /// The first `need` bytes of a file, or all where it has fewer, and whether it has more.
@@ -75,30 +74,33 @@ fn new_place(path: &Path) -> Result<PathBuf, Stop> {
 pub struct Staged {
     place: PathBuf,
     temporary: PathBuf,
+    /// Holds the lock that tells others that the temporary file is in use.
+    file: File,
     moved: bool,
 }
 
 impl Staged {
     pub fn new(path: &Path, bytes: &[u8]) -> Result<Staged, Stop> {
         let place = place(path)?;
-        let (file, temporary) = create_beside(&place).map_err(|error| unwritten(path, error))?;
-        let staged = Staged {
+        leavings::clean(parent(&place));
+        let made = leavings::make_file(parent(&place));
+        let (file, temporary) = made.map_err(|error| unwritten(path, error))?;
+        let mut staged = Staged {
             place,
             temporary,
+            file,
             moved: false,
         };
-        staged
-            .fill(file, bytes)
-            .map_err(|error| unwritten(path, error))?;
+        staged.fill(bytes).map_err(|error| unwritten(path, error))?;
         Ok(staged)
     }
 
-    fn fill(&self, mut file: File, bytes: &[u8]) -> io::Result<()> {
+    fn fill(&mut self, bytes: &[u8]) -> io::Result<()> {
         if let Ok(old) = fs::metadata(&self.place) {
-            file.set_permissions(old.permissions())?;
+            self.file.set_permissions(old.permissions())?;
         }
-        file.write_all(bytes)?;
-        file.sync_all()
+        self.file.write_all(bytes)?;
+        self.file.sync_all()
     }
 
     /// Takes the file's place, in one step.
@@ -114,10 +116,7 @@ impl Staged {
     }
 
     fn flush_folder(&self) -> io::Result<()> {
-        match self.place.parent() {
-            Some(folder) => File::open(folder)?.sync_all(),
-            None => Ok(()),
-        }
+        File::open(parent(&self.place))?.sync_all()
     }
 }
 
@@ -125,25 +124,6 @@ impl Drop for Staged {
     fn drop(&mut self) {
         if !self.moved {
             let _ = fs::remove_file(&self.temporary);
-        }
-    }
-}
-
-/// A new file of an unused name in the same folder.
-fn create_beside(place: &Path) -> io::Result<(File, PathBuf)> {
-    let mut tries = 0;
-    loop {
-        let mut name = OsString::from(".");
-        name.push(place.file_name().unwrap_or_default());
-        name.push(format!(".{}-{tries}.tmp", process::id()));
-        let temporary = place.with_file_name(name);
-        let made = OpenOptions::new()
-            .write(true)
-            .create_new(true)
-            .open(&temporary);
-        match made {
-            Err(error) if error.kind() == io::ErrorKind::AlreadyExists && tries < 100 => tries += 1,
-            made => return made.map(|file| (file, temporary)),
         }
     }
 }

@@ -5,6 +5,13 @@ pub const VERSION: &str = concat!("daybook ", env!("CARGO_PKG_VERSION"), "\n");
 pub const ALL: &str = "\
 daybook: seal, check and read day books kept in files
 
+A service, day by day, in a state folder:
+  daybook open    make the state folder of a service
+  daybook add     add to the open day
+  daybook close   close the open day: its values go to the book
+  daybook status  say where the service stands
+
+Whole books:
   daybook seal    seal the days of a ledger: write the book
   daybook check   hash the ledger again, compare it with the book, write the outcomes
   daybook read    list the days that a file of outcomes tells of
@@ -24,6 +31,46 @@ Exit status:
   1  days may have been altered, or some value fails
   2  refused: the line NO,number says the cause
   3  a file cannot be read or written or does not have its form, or the command line is wrong
+";
+
+pub const OPEN: &str = "\
+daybook open DIR --scheme S --n N --f F
+
+Makes the state folder DIR of a new service, whole or not at all. A folder that is there must be empty,
+or be what this would make.
+
+  --scheme S --n N --f F   the layout: 1 black, 2 tile, 3 tree; days in an interval; intervals per
+                           validation
+";
+
+pub const ADD: &str = "\
+daybook add DIR --day K --at B FILE...
+
+Adds the bytes of the files, or of standard input for -, to the open day. All of them are on disk and
+part of the state when it ends with 0, and none of them otherwise. A repeat is harmless: what stands in
+day K at B already is said, and not added again.
+
+  --day K    the number of the open day
+  --at B     the bytes that the open day had before
+";
+
+pub const CLOSE: &str = "\
+daybook close DIR --day K [FILE...]
+
+Closes the open day: its values go to DIR/book, its line to DIR/index. With FILE, or - for standard
+input, the day has the bytes of these files, and nothing may have been added before; without, it has what
+was added. The day is closed and on disk when it ends with 0. A repeat is harmless: a day that is
+closed with the same bytes is said, and not closed again.
+
+  --day K    the number of the open day
+";
+
+pub const STATUS: &str = "\
+daybook status DIR
+
+Tests that the files of the state folder fit each other, and prints: scheme, n, f, days (closed),
+open (bytes in the open day), values (in the book), checkable (the greatest D that can be checked; 0
+none), interrupted (yes where a stopped run left something; the next run takes it away).
 ";
 
 pub const SEAL: &str = "\

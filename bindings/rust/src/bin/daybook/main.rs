@@ -11,8 +11,10 @@ mod figure;
 mod files;
 mod fit;
 mod help;
+mod leavings;
 mod names;
 mod progress;
+mod state;
 mod stop;
 mod summary;
 

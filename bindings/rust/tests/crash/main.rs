@@ -1,0 +1,276 @@
+//! Stops a program before every call that writes, renames, truncates, syncs, makes or removes, by a
+//! kill, a full disk, a failing call and a power cut; then repeats it and compares what it leaves with
+//! an undisturbed run. `.ci/crash` builds what this needs and runs it.
+
+mod explore;
+mod model;
+
+use std::env;
+use std::fs;
+use std::path::PathBuf;
+
+use explore::{Bench, Step};
+use model::{put, tree, Call, Tree};
+
+const PROGRAM: &str = env!("CARGO_BIN_EXE_daybook");
+
+/// What `.ci/crash` built.
+fn built(name: &str) -> PathBuf {
+    let path = env::var_os(name).unwrap_or_else(|| panic!("{name} is not set: run .ci/crash"));
+    PathBuf::from(path)
+}
+
+/// A bench whose files are removed at the end.
+fn bench(name: &str, program: impl Into<PathBuf>) -> Bench {
+    Bench::new(name, program.into(), built("CRASH_SHIM"))
+}
+
+fn file(tree: &mut Tree, path: &str, bytes: impl AsRef<[u8]>) {
+    tree.insert(path.to_string(), Some(bytes.as_ref().to_vec()));
+}
+
+/// The files that the days come from.
+fn sources() -> Tree {
+    let mut tree = Tree::new();
+    for (name, text) in [
+        ("a", "rye 12"),
+        ("b", "oats 7, wheat 40"),
+        ("c", "barley 3"),
+        ("none", ""),
+    ] {
+        file(&mut tree, name, text);
+    }
+    tree
+}
+
+/// Explores each step of a service in turn, from what the one before left.
+fn explore_all(bench: &Bench, start: Tree, steps: &[Step]) {
+    let (mut start, mut stops) = (start, 0);
+    for step in steps {
+        let found = bench.explore(&start, step);
+        assert!(
+            found.differences.is_empty(),
+            "{}: {} differences, the first:\n{}",
+            step.line,
+            found.differences.len(),
+            found.differences[0]
+        );
+        stops += found.stops;
+        start = found.after;
+    }
+    println!("crash: {}: {stops} stops, 0 differences", bench.name);
+}
+
+fn steps(lines: &[&str], look: &str) -> Vec<Step> {
+    lines.iter().map(|line| Step::new(line, look)).collect()
+}
+
+#[test]
+#[ignore = "run by .ci/crash"]
+fn a_service_under_the_tree() {
+    let lines = [
+        "open s --scheme 3 --n 2 --f 1",
+        "open s --scheme 3 --n 2 --f 1",
+        "add s --day 1 --at 0 a",
+        "add s --day 1 --at 6 b c",
+        "add s --day 1 --at 6 b c",
+        "close s --day 1",
+        "close s --day 1",
+        "add s --day 1 --at 6 b",
+        "add s --day 2 --at 0 b",
+        "close s --day 2",
+        "close s --day 3 c",
+        "close s --day 3 c",
+        "close s --day 4",
+        "add s --day 5 --at 0 none",
+        "close s --day 5",
+    ];
+    let bench = bench("daybook-tree", PROGRAM);
+    explore_all(&bench, sources(), &steps(&lines, "status s"));
+}
+
+#[test]
+#[ignore = "run by .ci/crash"]
+fn a_service_under_tiles() {
+    let lines = [
+        "open s --scheme 2 --n 2 --f 1",
+        "close s --day 1 a",
+        "close s --day 2 b",
+        "add s --day 3 --at 0 a",
+        "close s --day 3",
+        "add s --day 4 --at 0 c",
+        "add s --day 4 --at 8 a",
+        "close s --day 4",
+        "close s --day 5 none",
+    ];
+    let mut start = sources();
+    start.insert("s".to_string(), None);
+    let bench = bench("daybook-tiles", PROGRAM);
+    explore_all(&bench, start, &steps(&lines, "status s"));
+}
+
+/// The example in Rust.
+#[test]
+#[ignore = "run by .ci/crash"]
+fn the_example_in_rust() {
+    let lines = [
+        "open s",
+        "open s",
+        "close s 1 rye",
+        "close s 1 rye",
+        "close s 2 oats",
+        "close s 3 wheat",
+        "close s 4 barley",
+    ];
+    let bench = bench("example-rust", built("CRASH_RUST_EXAMPLE"));
+    explore_all(&bench, Tree::new(), &steps(&lines, "status s"));
+}
+
+/// The example in C.
+#[test]
+#[ignore = "run by .ci/crash"]
+fn the_example_in_c() {
+    let lines = [
+        "open s",
+        "open s",
+        "close s 1 rye",
+        "close s 1 rye",
+        "close s 2 oats",
+        "close s 3 wheat",
+        "close s 4 barley",
+    ];
+    let bench = bench("example-c", built("CRASH_C_EXAMPLE"));
+    explore_all(&bench, Tree::new(), &steps(&lines, "status s"));
+}
+
+/// The test bites: a program that commits in the wrong order is found out, one in the right order is
+/// not.
+#[test]
+#[ignore = "run by .ci/crash"]
+fn wrong_orders_are_found() {
+    let bench = bench("toy", built("CRASH_TOY"));
+    let mut start = Tree::new();
+    file(&mut start, "record", "1");
+    file(&mut start, "book", "one.");
+    for (order, by) in [
+        ("sound", None),
+        ("in-place", Some("killed before call")),
+        ("record-first", Some("killed before call")),
+        ("unsynced", Some("power cut")),
+    ] {
+        let step = Step::new(&format!("{order} 2 two."), "look");
+        let found = bench.explore(&start, &step);
+        let seen = |by: &str| found.differences.iter().any(|text| text.contains(by));
+        match by {
+            None => assert!(found.differences.is_empty(), "{}", found.differences[0]),
+            Some(by) => assert!(seen(by), "{order}: {:?}", found.differences),
+        }
+        println!(
+            "crash: toy {order}: {} differences",
+            found.differences.len()
+        );
+    }
+}
+
+/// Each sync counts: a run that leaves one out is found out.
+#[test]
+#[ignore = "run by .ci/crash"]
+fn each_sync_counts() {
+    let bench = bench("syncs", PROGRAM);
+    let mut start = sources();
+    for (line, syncs) in [
+        (
+            "open s --scheme 3 --n 2 --f 1",
+            &["/layout", "/record", ".tmp", ""][..],
+        ),
+        (
+            "add s --day 1 --at 0 a",
+            &["s/day-1", "s/record.new", "s"][..],
+        ),
+        (
+            "close s --day 1",
+            &["s/book", "s/index", "s/record.new", "s"][..],
+        ),
+    ] {
+        let step = Step::new(line, "status s");
+        let (calls, after) = bench.traced(&start, &step);
+        assert!(bench.power_cuts(&start, &step, &calls, &after).is_empty());
+        for sync in syncs {
+            let left_out = |call: &Call| match call {
+                Call::Sync(path) if sync.is_empty() => path.is_empty(),
+                Call::Sync(path) => path.ends_with(sync),
+                _ => false,
+            };
+            let others: Vec<Call> = calls
+                .iter()
+                .filter(|call| !left_out(call))
+                .cloned()
+                .collect();
+            assert!(others.len() < calls.len(), "{line} has no sync of {sync}");
+            let found = bench.power_cuts(&start, &step, &others, &after);
+            assert!(
+                !found.is_empty(),
+                "{line}: the sync of {sync} has no weight"
+            );
+        }
+        start = after;
+    }
+}
+
+/// Numbers from a fixed seed (xorshift).
+struct Random(u64);
+
+impl Random {
+    fn below(&mut self, end: u64) -> u64 {
+        self.0 ^= self.0 << 13;
+        self.0 ^= self.0 >> 7;
+        self.0 ^= self.0 << 17;
+        self.0 % end
+    }
+}
+
+const DAYS: u64 = 3000;
+const STOPS: usize = 200;
+/// The calls of a close, from its first sync to its last message.
+const CALLS: u64 = 14;
+
+/// Three thousand days, each closed by a run of its own, two hundred runs killed: the book is that of
+/// one `seal`.
+#[test]
+#[ignore = "run by .ci/crash"]
+fn three_thousand_days() {
+    let bench = bench("days", PROGRAM);
+    put(&bench.root, &Tree::new());
+    fs::create_dir(bench.root.join("in")).unwrap();
+    let mut random = Random(0x9e37_79b9_7f4a_7c15);
+    for day in 1..=DAYS {
+        let length = random.below(100) as usize;
+        let bytes: Vec<u8> = (0..length).map(|_| random.below(256) as u8).collect();
+        fs::write(bench.root.join(format!("in/{day:04}")), bytes).unwrap();
+    }
+    let mut stopped = std::collections::BTreeSet::new();
+    while stopped.len() < STOPS {
+        stopped.insert(1 + random.below(DAYS));
+    }
+    let layout = "--scheme 3 --n 8 --f 1";
+    assert_eq!(bench.run(&format!("open s {layout}")).status, Some(0));
+    let mut kills = 0;
+    for day in 1..=DAYS {
+        let line = format!("close s --day {day} in/{day:04}");
+        if stopped.contains(&day) {
+            let ran = bench.stopped(&line, 1 + random.below(CALLS), "kill");
+            kills += usize::from(ran.status.is_none());
+        }
+        let ran = bench.run(&line);
+        assert_eq!(ran.status, Some(0), "{line}: {}", ran.messages);
+    }
+    assert_eq!(kills, STOPS);
+    let seal = format!("seal {layout} --days in --book sealed");
+    assert_eq!(bench.run(&seal).status, Some(0));
+    let read = |name: &str| fs::read(bench.root.join(name)).unwrap();
+    assert!(read("s/book") == read("sealed"), "the books differ");
+    let lines = String::from_utf8(read("s/index")).unwrap();
+    assert_eq!(lines.lines().count() as u64, DAYS);
+    assert!(!tree(&bench.root).keys().any(|path| path.contains(".new")));
+    println!("crash: {DAYS} days, {kills} kills: the book of one seal");
+}
