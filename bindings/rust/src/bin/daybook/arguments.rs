@@ -6,7 +6,7 @@ use std::path::PathBuf;
 use daybook::Layout;
 
 use crate::help;
-use crate::state::Service;
+use crate::state::{Sealed, Service};
 use crate::stop::Stop;
 
 #[derive(Debug, PartialEq, Eq)]
@@ -24,6 +24,8 @@ pub enum Command {
         d: Option<u32>,
         source: Source,
         book: PathBuf,
+        /// Whether a book that is there is replaced in any case.
+        force: bool,
     },
     Check {
         layout: Layout,
@@ -81,7 +83,7 @@ const FORMS: [Form; 8] = [
         "seal",
         help::SEAL,
         &[
-            "--scheme", "--n", "--f", "--d", "--days", "--ledger", "--ends", "--book",
+            "--scheme", "--n", "--f", "--d", "--days", "--ledger", "--ends", "--book", "--force",
         ],
         seal,
     ),
@@ -97,6 +99,7 @@ const FORMS: [Form; 8] = [
             "--ledger",
             "--ends",
             "--book",
+            "--state",
             "--outcomes",
             "--digests",
         ],
@@ -105,18 +108,21 @@ const FORMS: [Form; 8] = [
     (
         "read",
         help::READ,
-        &["--scheme", "--n", "--f", "--d", "--outcomes"],
+        &["--scheme", "--n", "--f", "--d", "--state", "--outcomes"],
         read,
     ),
     (
         "verify",
         help::VERIFY,
         &[
-            "--scheme", "--n", "--f", "--d", "--days", "--ledger", "--ends", "--book",
+            "--scheme", "--n", "--f", "--d", "--days", "--ledger", "--ends", "--book", "--state",
         ],
         verify,
     ),
 ];
+
+/// Options that have no value.
+const FLAGS: [&str; 1] = ["--force"];
 
 /// In the options of a command: it takes words that are no options, a folder and files.
 const WORDS: &str = "DIR";
@@ -145,10 +151,12 @@ fn seal(options: &mut Options) -> Result<Command, Stop> {
         d: options.number("--d")?,
         source: options.source()?,
         book: options.needed_path("--book")?,
+        force: options.take("--force").is_some(),
     })
 }
 
 fn check(options: &mut Options) -> Result<Command, Stop> {
+    options.use_state()?;
     Ok(Command::Check {
         layout: options.layout()?,
         d: options.number("--d")?,
@@ -160,6 +168,7 @@ fn check(options: &mut Options) -> Result<Command, Stop> {
 }
 
 fn read(options: &mut Options) -> Result<Command, Stop> {
+    options.use_state()?;
     Ok(Command::Read {
         layout: options.layout()?,
         d: options.needed_number("--d")?,
@@ -168,6 +177,7 @@ fn read(options: &mut Options) -> Result<Command, Stop> {
 }
 
 fn verify(options: &mut Options) -> Result<Command, Stop> {
+    options.use_state()?;
     Ok(Command::Verify {
         layout: options.layout()?,
         d: options.number("--d")?,
@@ -240,6 +250,10 @@ impl Options {
             if options.given.iter().any(|(given, _)| given == name) {
                 return Err(usage(&format!("{name} is given twice")));
             }
+            if FLAGS.contains(name) {
+                options.given.push((name, OsString::new()));
+                continue;
+            }
             match words.next() {
                 Some(value) if is_value(&value) => options.given.push((name, value)),
                 _ => return Err(usage(&format!("{name} has no value"))),
@@ -284,6 +298,30 @@ impl Options {
             n: self.needed_number("--n")?,
             f: self.needed_number("--f")?,
         })
+    }
+
+    /// Takes layout, number of days and book from the state folder, as if they had been given.
+    fn use_state(&mut self) -> Result<(), Stop> {
+        let Some(folder) = self.path("--state") else {
+            return Ok(());
+        };
+        for name in ["--scheme", "--n", "--f", "--book"] {
+            if self.take(name).is_some() {
+                return Err(usage(&format!("--state has what {name} gives: not both")));
+            }
+        }
+        let sealed = Sealed::of(&folder, self.number("--d")?)?;
+        let Layout { scheme, n, f } = sealed.layout;
+        for (name, number) in [
+            ("--scheme", scheme),
+            ("--n", n),
+            ("--f", f),
+            ("--d", sealed.d),
+        ] {
+            self.given.push((name, number.to_string().into()));
+        }
+        self.given.push(("--book", sealed.book.into()));
+        Ok(())
     }
 
     fn source(&mut self) -> Result<Source, Stop> {
@@ -385,6 +423,7 @@ mod tests {
                 d: None,
                 source: Source::Folder("in".into()),
                 book: "out".into(),
+                force: false,
             }))
         );
         assert_eq!(

@@ -8,6 +8,7 @@ use daybook::{Checked, Layout, Refusal, Service, VALUE};
 
 use crate::arguments::{Command, Source};
 use crate::days::{add_file, Days, Halt, Ledger};
+use crate::evidence::{test_book, Book};
 use crate::files::{read_front, test_written, Staged};
 use crate::progress::Progress;
 use crate::say;
@@ -30,7 +31,8 @@ pub fn run(command: &Command) -> Result<Done, Stop> {
             d,
             source,
             book,
-        } => seal(&Work::find(*layout, *d, source, &[book])?, book),
+            force,
+        } => seal(&Work::find(*layout, *d, source, &[book])?, book, *force),
         Command::Check {
             layout,
             d,
@@ -125,13 +127,22 @@ fn test_source(source: &Source, written: &[&Path]) -> Result<(), Stop> {
     }
 }
 
-fn seal(work: &Work, book: &Path) -> Result<Done, Stop> {
+fn seal(work: &Work, book: &Path, force: bool) -> Result<Done, Stop> {
     let bytes = match &work.days {
         Days::Files(files) => seal_files(work, files)?,
         Days::Ledger { .. } => seal_ledger(work)?,
     };
-    Staged::new(book, &bytes)?.commit()?;
-    say(&format!("sealed: days {}, values {}", work.d, work.values));
+    let stands = match test_book(book, &bytes, force)? {
+        Book::Stands => ", the book was there already",
+        Book::Write => {
+            Staged::new(book, &bytes)?.commit()?;
+            ""
+        }
+    };
+    say(&format!(
+        "sealed: days {}, values {}{stands}",
+        work.d, work.values
+    ));
     Ok(Done {
         lines: String::new(),
         changed: false,
@@ -182,10 +193,10 @@ fn seal_ledger(work: &Work) -> Result<Vec<u8>, Stop> {
 fn check(work: &Work, book: &Path, outcomes: &Path, digests: Option<&Path>) -> Result<Done, Stop> {
     let checked = checked(work, book)?;
     let staged = Staged::new(outcomes, &checked.outcomes)?;
-    if let Some(path) = digests {
-        Staged::new(path, &checked.digests)?.commit()?;
+    match digests {
+        None => staged.commit()?,
+        Some(path) => staged.commit_after(Staged::new(path, &checked.digests)?)?,
     }
-    staged.commit()?;
     let fail = checked.outcomes.iter().filter(|o| **o == 0).count();
     say(&format!(
         "checked: days {}, values {}, failing {fail}",

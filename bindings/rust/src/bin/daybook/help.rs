@@ -71,15 +71,16 @@ none), interrupted (yes where a stopped run left something; the next run takes i
 ";
 
 pub const SEAL: &str = "\
-daybook seal --scheme S --n N --f F [--d D] SOURCE --book FILE
+daybook seal --scheme S --n N --f F [--d D] SOURCE --book FILE [--force]
 
-Seals the days and writes their values to the book, 32 bytes each. The book is replaced whole, or
-stays as it was.
+Seals the days and writes their values to the book, 32 bytes each. The book is written whole, or
+stays as it was. A book that is there is a fault, unless it is the front of the new one.
 
   --scheme S --n N --f F   the layout: 1 black, 2 tile, 3 tree; days in an interval; intervals per
                            validation
   --d D                    seal the first D days (else: all days of the source)
   --book FILE              the book to write
+  --force                  replace another book; one that is read-only is not replaced even so
 
 SOURCE is one of
   --days DIR                     a folder: each file is a day, in byte order of their names; every
@@ -93,6 +94,7 @@ bytes is refusal 4, in a ledger refusal 10. Fewer days than D is refusal 9.
 
 pub const CHECK: &str = "\
 daybook check --scheme S --n N --f F [--d D] SOURCE --book FILE --outcomes FILE [--digests FILE]
+daybook check --state DIR [--d D] SOURCE --outcomes FILE [--digests FILE]
 
 Hashes the days again, compares them with the book and writes the outcomes. Exit status 0: every value
 passes; 1: some value fails.
@@ -101,6 +103,8 @@ passes; 1: some value fails.
   --d D                    check the first D days (else: all days of the source, and the book must
                            then have no more values than these have)
   --book FILE              the book
+  --state DIR              layout and book of this state folder; D is then the greatest that is
+                           allowed and not above the days closed
   --outcomes FILE          the outcomes to write: a byte for each value, in book order, 1 pass, 0 fail
   --digests FILE           the digests of the days to write, 32 bytes each
 
@@ -110,17 +114,21 @@ of more than 4,294,967,295 bytes has no 32-bit ends and is a fault.
 
 pub const READ: &str = "\
 daybook read --scheme S --n N --f F --d D --outcomes FILE
+daybook read --state DIR [--d D] --outcomes FILE
 
 Reads the outcomes of D days and prints which days may have been altered.
 
   --scheme S --n N --f F   the layout of the book that was checked
   --d D                    the number of days
+  --state DIR              layout and book of this state folder; D is then the greatest that is
+                           allowed and not above the days closed
   --outcomes FILE          a byte for each value, in book order, 1 pass, 0 fail; bytes past the
                            last value are not read
 ";
 
 pub const VERIFY: &str = "\
 daybook verify --scheme S --n N --f F [--d D] SOURCE --book FILE
+daybook verify --state DIR [--d D] SOURCE
 
 Checks the days against the book and prints which days may have been altered. It writes no file.
 
@@ -128,6 +136,8 @@ Checks the days against the book and prints which days may have been altered. It
   --d D                    verify the first D days (else: all days of the source, and the book must
                            then have no more values than these have)
   --book FILE              the book
+  --state DIR              layout and book of this state folder; D is then the greatest that is
+                           allowed and not above the days closed
 
 SOURCE is as for seal: --days DIR, or --ledger FILE --ends FILE. The days are held in memory. A folder
 of more than 4,294,967,295 bytes has no 32-bit ends and is a fault. Refusal 14 says that no change of

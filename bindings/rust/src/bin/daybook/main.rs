@@ -5,6 +5,7 @@
 mod arguments;
 mod commands;
 mod days;
+mod evidence;
 mod files;
 mod help;
 mod leavings;
@@ -59,11 +60,16 @@ fn end(result: Result<Done, Stop>) -> u8 {
     }
 }
 
-/// Prints on standard output; gives `status`, or the one of a fault.
+/// Prints on standard output; gives `status`, or the one of a fault. A reader that has enough is no
+/// fault.
 fn print(text: &str, status: u8) -> u8 {
     let mut out = io::stdout().lock();
     match out.write_all(text.as_bytes()).and_then(|()| out.flush()) {
         Ok(()) => status,
+        Err(error) if error.kind() == io::ErrorKind::BrokenPipe => {
+            say("standard output was closed early: lines are lost, the exit status holds");
+            status
+        }
         Err(error) => {
             say(&format!("standard output cannot be written: {error}"));
             FAULT

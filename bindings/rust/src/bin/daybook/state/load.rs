@@ -5,12 +5,12 @@ use std::path::{Path, PathBuf};
 
 use daybook::{Layout, Refusal, DAY_LIMIT, PART, VALUE};
 
+use super::files::sync_folder;
 use super::files::{append, at, commit, cut, day_name, day_of, front, misfit, record_bytes};
-use super::files::{sync_folder, unwritten};
 use super::form::{test_layout, Extent, Line, Record, LINE_MOST};
 use super::lock::{self, Access};
 use super::{BOOK, INDEX, LAYOUT, RECORD, RECORD_NEW};
-use crate::files::{read_front, unread};
+use crate::files::{read_front, unread, unwritten};
 use crate::say;
 use crate::stop::Stop;
 
