@@ -631,3 +631,105 @@ fn nothing_is_written_when_the_disk_is_full() {
     said(&folder, "close s --day 5", "is closed: bytes 32");
     assert!(!folder.file("t").exists());
 }
+
+/// A folder `in` of the first days, as they are now.
+fn write_days(folder: &Folder, days: &[Vec<u8>]) {
+    let _ = fs::remove_dir_all(folder.file("in"));
+    fs::create_dir(folder.file("in")).unwrap();
+    for (g, day) in days.iter().enumerate() {
+        fs::write(folder.file(&format!("in/{}", g + 1)), day).unwrap();
+    }
+}
+
+#[test]
+fn checking_a_state() {
+    let folder = Folder::new("checking");
+    said(&folder, "open s --scheme 2 --n 2 --f 2", "");
+    let days = days(7);
+    write_days(&folder, &days);
+    let verify = "verify --state s --days in";
+    let (status, out, messages) = run(&folder, verify);
+    assert_eq!((status, out.as_str()), (2, "NO,7\n"), "{messages}");
+    assert!(messages.contains("no day is closed"), "{messages}");
+    for g in 1..=7 {
+        said(&folder, &format!("close s --day {g} in/{g}"), "");
+        let ran = run(&folder, verify);
+        let (expected, later) = match g {
+            1 => ((2, "NO,7\n"), "day 1 is not yet checkable: D goes by 4"),
+            2 | 3 => ((2, "NO,7\n"), "are not yet checkable"),
+            4 => ((0, "REF,2,0,0,0,0,4\n"), ""),
+            5 => ((0, "REF,2,0,0,0,0,4\n"), "day 5 is not yet checkable"),
+            _ => ((0, "REF,2,0,0,0,0,4\n"), "days 5 to "),
+        };
+        assert_eq!((ran.0, ran.1.as_str()), expected, "day {g}: {}", ran.2);
+        assert!(ran.2.contains(later), "day {g}: {}", ran.2);
+        assert_eq!(ran.2.contains("not yet checkable"), g != 4, "{}", ran.2);
+    }
+    // a later day altered is not seen yet, an earlier one is
+    write_days(&folder, &common::altered(&days, &[6]));
+    assert_eq!(run(&folder, verify).1, "REF,2,0,0,0,0,4\n");
+    write_days(&folder, &common::altered(&days, &[4]));
+    let listed = "REF,2,1,4,3,4,2\nDAY,4\n";
+    let (status, out, _) = run(&folder, verify);
+    assert_eq!((status, out.as_str()), (1, listed));
+    let check = "check --state s --days in --outcomes table";
+    let before = tree(&folder.file("s"));
+    assert_eq!(run(&folder, check).0, 1);
+    let read = "read --state s --outcomes table";
+    assert_eq!(run(&folder, read).1, listed);
+    assert_eq!(tree(&folder.file("s")), before);
+    // D given
+    assert_eq!(run(&folder, &format!("{verify} --d 4")).1, listed);
+    assert_eq!(run(&folder, &format!("{verify} --d 6")).1, "NO,7\n");
+    fault(
+        &folder,
+        &format!("{verify} --d 8"),
+        "7 days are closed, and D is 8",
+    );
+    // fewer days than are sealed
+    write_days(&folder, &days[..3]);
+    assert_eq!(run(&folder, verify).1, "NO,9\n");
+}
+
+#[test]
+fn checking_a_state_that_does_not_fit() {
+    let folder = four("checked-misfit");
+    write_days(&folder, &days(4));
+    let verify = "verify --state s --days in";
+    assert_eq!(run(&folder, verify).1, "REF,2,0,0,0,0,4\n");
+    // a stopped run has no part in the answer, and stays
+    fs::write(folder.file("s/record.new"), "half").unwrap();
+    assert_eq!(run(&folder, verify).1, "REF,2,0,0,0,0,4\n");
+    assert!(folder.file("s/record.new").exists());
+    let mut book = read(&folder, "s/book");
+    book[70] ^= 1;
+    fs::write(folder.file("s/book"), book).unwrap();
+    for line in [
+        verify,
+        "check --state s --days in --outcomes table",
+        "read --state s --outcomes d1",
+    ] {
+        fault(&folder, line, "s/book does not fit the state");
+    }
+    for name in ["--scheme", "--n", "--f", "--book"] {
+        fault(
+            &folder,
+            &format!("{verify} {name} 2"),
+            &format!("--state has what {name} gives"),
+        );
+    }
+}
+
+#[test]
+fn no_other_command_writes_into_a_state() {
+    let folder = four("others");
+    write_days(&folder, &days(4));
+    for line in [
+        "seal --scheme 2 --n 2 --f 1 --days in --book s/book --force",
+        "seal --scheme 2 --n 2 --f 1 --days in --book s/new",
+        "check --state s --days in --outcomes s/index",
+        "check --state s --days in --outcomes table --digests s/new",
+    ] {
+        fault(&folder, line, "stands in a state folder");
+    }
+}

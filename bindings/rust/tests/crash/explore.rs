@@ -238,7 +238,7 @@ impl Bench {
         let done = self.look(after, step);
         let mut disk = Disk::of(start);
         let mut seen = BTreeSet::new();
-        for number in 0..calls.len() {
+        for (number, call) in calls.iter().enumerate() {
             put(&self.root, &disk.now());
             let (repeated, ran) = self.log(&step.line);
             if ran.status != Some(0) {
@@ -249,14 +249,14 @@ impl Bench {
                 ));
             }
             let mut again = disk.clone();
-            for call in &repeated {
+            for repeat in &repeated {
                 let left = again.synced();
                 let where_ = format!("killed before call {}, repeated, power cut", number + 1);
                 if seen.insert(left.clone()) {
                     put(&self.root, &left);
                     differences.extend(self.repeat(step, after, &where_));
                 }
-                again.apply(call);
+                again.apply(repeat);
             }
             for left in again.after_power_cut() {
                 if self.look(&left, step) != done {
@@ -266,7 +266,7 @@ impl Bench {
                     ));
                 }
             }
-            disk.apply(&calls[number]);
+            disk.apply(call);
         }
         differences
     }

@@ -7,7 +7,7 @@ use std::path::PathBuf;
 use daybook::Layout;
 
 use crate::help;
-use crate::state::Service;
+use crate::state::{Sealed, Service};
 use crate::stop::Stop;
 
 #[derive(Debug, PartialEq, Eq)]
@@ -25,6 +25,8 @@ pub enum Command {
         d: Option<u32>,
         source: Source,
         book: PathBuf,
+        /// Whether a book that is there is replaced in any case.
+        force: bool,
     },
     Check {
         layout: Layout,
@@ -33,6 +35,7 @@ pub enum Command {
         book: PathBuf,
         outcomes: PathBuf,
         digests: Option<PathBuf>,
+        sealed: Vec<String>,
     },
     Read {
         layout: Layout,
@@ -41,6 +44,7 @@ pub enum Command {
         /// The folder of days, for their names alone.
         days: Option<PathBuf>,
         names: bool,
+        sealed: Vec<String>,
     },
     Verify {
         layout: Layout,
@@ -49,6 +53,8 @@ pub enum Command {
         book: PathBuf,
         names: bool,
         figure: Option<PathBuf>,
+        /// The names of the closed days in the state folder's index; none without one.
+        sealed: Vec<String>,
     },
 }
 
@@ -87,7 +93,7 @@ const FORMS: [Form; 8] = [
         "seal",
         help::SEAL,
         &[
-            "--scheme", "--n", "--f", "--d", "--days", "--ledger", "--ends", "--book",
+            "--scheme", "--n", "--f", "--d", "--days", "--ledger", "--ends", "--book", "--force",
         ],
         seal,
     ),
@@ -103,6 +109,7 @@ const FORMS: [Form; 8] = [
             "--ledger",
             "--ends",
             "--book",
+            "--state",
             "--outcomes",
             "--digests",
         ],
@@ -116,6 +123,7 @@ const FORMS: [Form; 8] = [
             "--n",
             "--f",
             "--d",
+            "--state",
             "--outcomes",
             "--days",
             "--names",
@@ -126,15 +134,15 @@ const FORMS: [Form; 8] = [
         "verify",
         help::VERIFY,
         &[
-            "--scheme", "--n", "--f", "--d", "--days", "--ledger", "--ends", "--book", "--names",
-            "--figure",
+            "--scheme", "--n", "--f", "--d", "--days", "--ledger", "--ends", "--book", "--state",
+            "--names", "--figure",
         ],
         verify,
     ),
 ];
 
 /// Options that have no value.
-const FLAGS: [&str; 1] = ["--names"];
+const FLAGS: [&str; 2] = ["--force", "--names"];
 
 /// In the options of a command: it takes words that are no options, a folder and files.
 const WORDS: &str = "DIR";
@@ -183,10 +191,12 @@ fn seal(options: &mut Options) -> Result<Command, Stop> {
         d: options.number("--d")?,
         source: options.source()?,
         book: options.needed_path("--book")?,
+        force: options.take("--force").is_some(),
     })
 }
 
 fn check(options: &mut Options) -> Result<Command, Stop> {
+    options.use_state()?;
     Ok(Command::Check {
         layout: options.layout()?,
         d: options.number("--d")?,
@@ -194,20 +204,24 @@ fn check(options: &mut Options) -> Result<Command, Stop> {
         book: options.needed_path("--book")?,
         outcomes: options.needed_path("--outcomes")?,
         digests: options.path("--digests"),
+        sealed: std::mem::take(&mut options.sealed),
     })
 }
 
 fn read(options: &mut Options) -> Result<Command, Stop> {
+    options.use_state()?;
     Ok(Command::Read {
         layout: options.layout()?,
         d: options.needed_number("--d")?,
         outcomes: options.needed_path("--outcomes")?,
         names: options.names()?,
         days: options.path("--days"),
+        sealed: std::mem::take(&mut options.sealed),
     })
 }
 
 fn verify(options: &mut Options) -> Result<Command, Stop> {
+    options.use_state()?;
     Ok(Command::Verify {
         layout: options.layout()?,
         d: options.number("--d")?,
@@ -215,6 +229,7 @@ fn verify(options: &mut Options) -> Result<Command, Stop> {
         figure: options.path("--figure"),
         source: options.source()?,
         book: options.needed_path("--book")?,
+        sealed: std::mem::take(&mut options.sealed),
     })
 }
 
@@ -253,6 +268,8 @@ struct Options {
     command: &'static str,
     given: Vec<(&'static str, OsString)>,
     words: Vec<OsString>,
+    /// The names of the days in the state folder's index.
+    sealed: Vec<String>,
 }
 
 impl Options {
@@ -266,6 +283,7 @@ impl Options {
             command,
             given: Vec::new(),
             words: Vec::new(),
+            sealed: Vec::new(),
         };
         while let Some(word) = words.next() {
             if word == "--help" || word == "-h" {
@@ -341,13 +359,40 @@ impl Options {
         self.take(name).is_some()
     }
 
-    /// Whether the lines have names: these are the names of files.
+    /// Whether the lines have names: those of the files, or those of the state's index.
     fn names(&mut self) -> Result<bool, Stop> {
         let files = self.given.iter().any(|(given, _)| *given == "--days");
         match self.flag("--names") {
-            true if !files => Err(usage("--names needs --days: there are no other names")),
+            true if !files && self.sealed.is_empty() => Err(usage(
+                "--names needs --days or --state: there are no other names",
+            )),
             names => Ok(names),
         }
+    }
+
+    /// Takes layout, number of days and book from the state folder, as if they had been given.
+    fn use_state(&mut self) -> Result<(), Stop> {
+        let Some(folder) = self.path("--state") else {
+            return Ok(());
+        };
+        for name in ["--scheme", "--n", "--f", "--book"] {
+            if self.take(name).is_some() {
+                return Err(usage(&format!("--state has what {name} gives: not both")));
+            }
+        }
+        let sealed = Sealed::of(&folder, self.number("--d")?)?;
+        let Layout { scheme, n, f } = sealed.layout;
+        for (name, number) in [
+            ("--scheme", scheme),
+            ("--n", n),
+            ("--f", f),
+            ("--d", sealed.d),
+        ] {
+            self.given.push((name, number.to_string().into()));
+        }
+        self.given.push(("--book", sealed.book.into()));
+        self.sealed = sealed.names;
+        Ok(())
     }
 
     fn source(&mut self) -> Result<Source, Stop> {
@@ -462,6 +507,7 @@ mod tests {
                 d: None,
                 source: Source::Folder("in".into()),
                 book: "out".into(),
+                force: false,
             }))
         );
         assert_eq!(
@@ -478,6 +524,7 @@ mod tests {
                 book: "b".into(),
                 outcomes: "o".into(),
                 digests: None,
+                sealed: vec![],
             }))
         );
         assert_eq!(
@@ -488,6 +535,7 @@ mod tests {
                 outcomes: "o".into(),
                 days: None,
                 names: false,
+                sealed: vec![],
             }))
         );
         assert_eq!(
@@ -499,6 +547,7 @@ mod tests {
                 book: "b".into(),
                 names: true,
                 figure: None,
+                sealed: vec![],
             }))
         );
     }
@@ -588,6 +637,7 @@ mod tests {
                 book: "b".into(),
                 names: false,
                 figure: Some("a=b".into()),
+                sealed: vec![],
             }))
         );
         assert_eq!(message("seal --n="), "--n has no value");
@@ -624,7 +674,7 @@ mod tests {
         ] {
             assert_eq!(
                 message(line),
-                "--names needs --days: there are no other names"
+                "--names needs --days or --state: there are no other names"
             );
         }
     }

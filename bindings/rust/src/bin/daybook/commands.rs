@@ -11,10 +11,11 @@ use daybook::{Checked, Layout, Refusal, Service, VALUE};
 
 use crate::arguments::{Command, Source};
 use crate::days::{add_file, Days, Halt, Ledger};
+use crate::evidence::{test_book, Book};
 use crate::explain::{bad_end, bad_outcome, impossible_value, short_book};
 use crate::figure::Verified;
 use crate::files::{read_front, test_written, Staged};
-use crate::fit::Fit;
+use crate::fit::{moved, Fit};
 use crate::names::{field, out_of_order};
 use crate::progress::Progress;
 use crate::say;
@@ -38,7 +39,11 @@ pub fn run(command: &Command) -> Result<Done, Stop> {
             d,
             source,
             book,
-        } => seal(&Work::find(*layout, *d, source, None, &[book])?, book),
+            force,
+        } => {
+            let work = Work::find(*layout, *d, source, None, &[book])?;
+            seal(&work, book, *force)
+        }
         Command::Check {
             layout,
             d,
@@ -46,11 +51,13 @@ pub fn run(command: &Command) -> Result<Done, Stop> {
             book,
             outcomes,
             digests,
+            sealed,
         } => {
             let mut written = vec![outcomes.as_path()];
             written.extend(digests.as_deref());
             test_written(&written, &[book], None)?;
             let work = Work::find(*layout, *d, source, Some(book), &written)?;
+            work.compare(sealed);
             check(&work, book, outcomes, digests.as_deref())
         }
         Command::Read {
@@ -59,12 +66,11 @@ pub fn run(command: &Command) -> Result<Done, Stop> {
             outcomes,
             days,
             names,
-        } => read(
-            *layout,
-            *d,
-            outcomes,
-            &View::of_folder(days.as_deref(), *names)?,
-        ),
+            sealed,
+        } => {
+            let view = View::of_folder(days.as_deref(), sealed, *names)?;
+            read(*layout, *d, outcomes, &view)
+        }
         Command::Verify {
             layout,
             d,
@@ -72,11 +78,18 @@ pub fn run(command: &Command) -> Result<Done, Stop> {
             book,
             names,
             figure,
+            sealed,
         } => {
             let written = Vec::from_iter(figure.as_deref());
             test_written(&written, &[book], None)?;
             let work = Work::find(*layout, *d, source, Some(book), &written)?;
-            verify(&work, book, *names, figure.as_deref())
+            work.compare(sealed);
+            let view = View {
+                names: work.labels().or_else(|| some(sealed)),
+                named: *names,
+                figure: figure.clone(),
+            };
+            verify(&work, book, &view)
         }
     }
 }
@@ -133,6 +146,32 @@ impl Work {
             found: self.days.count(),
             names: self.names.as_deref(),
             book: self.book,
+            closed: None,
+        }
+    }
+
+    /// The names of the days as fields, where they have names.
+    fn labels(&self) -> Option<Vec<String>> {
+        self.names.as_deref().map(labels)
+    }
+
+    /// Says where the days found are not those of a state's index.
+    fn compare(&self, sealed: &[String]) {
+        let closed = Some(sealed.len() as u32);
+        if sealed.is_empty() {
+            return;
+        }
+        if closed != Some(self.days.count()) {
+            let fit = Fit {
+                closed,
+                ..self.fit()
+            };
+            for line in fit.misfit() {
+                say(&format!("note: {line}"));
+            }
+        }
+        if let Some(line) = moved(sealed, &self.labels().unwrap_or_default()) {
+            say(&format!("note: {line}"));
         }
     }
 
@@ -171,8 +210,8 @@ impl Work {
         let mut lines = match refusal {
             Refusal::BadEnd => {
                 let length = self.days.length(ledger);
-                let names = self.names.as_deref();
-                Vec::from_iter(bad_end(&ledger.ends, self.d, length, names))
+                let names = self.labels();
+                Vec::from_iter(bad_end(&ledger.ends, self.d, length, names.as_deref()))
             }
             Refusal::ShortBook => vec![short_book(self.values, book.len())],
             _ => vec![],
@@ -202,6 +241,15 @@ impl Work {
     }
 }
 
+fn labels(names: &[OsString]) -> Vec<String> {
+    names.iter().map(|name| field(name)).collect()
+}
+
+/// The names of a state's index, where there is a state.
+fn some(sealed: &[String]) -> Option<Vec<String>> {
+    (!sealed.is_empty()).then(|| sealed.to_vec())
+}
+
 fn numbers(layout: Layout, d: u32) -> String {
     format!("{layout}, D {d}")
 }
@@ -214,13 +262,22 @@ fn test_source(source: &Source, written: &[&Path]) -> Result<(), Stop> {
     }
 }
 
-fn seal(work: &Work, book: &Path) -> Result<Done, Stop> {
+fn seal(work: &Work, book: &Path, force: bool) -> Result<Done, Stop> {
     let bytes = match &work.days {
         Days::Files(files) => seal_files(work, files)?,
         Days::Ledger { .. } => seal_ledger(work)?,
     };
-    Staged::new(book, &bytes)?.commit()?;
-    say(&format!("sealed: days {}, values {}", work.d, work.values));
+    let stands = match test_book(book, &bytes, force)? {
+        Book::Stands => ", the book was there already",
+        Book::Write => {
+            Staged::new(book, &bytes)?.commit()?;
+            ""
+        }
+    };
+    say(&format!(
+        "sealed: days {}, values {}{stands}",
+        work.d, work.values
+    ));
     Ok(Done {
         lines: String::new(),
         changed: false,
@@ -271,10 +328,10 @@ fn seal_ledger(work: &Work) -> Result<Vec<u8>, Stop> {
 fn check(work: &Work, book: &Path, outcomes: &Path, digests: Option<&Path>) -> Result<Done, Stop> {
     let checked = checked(work, book)?;
     let staged = Staged::new(outcomes, &checked.outcomes)?;
-    if let Some(path) = digests {
-        Staged::new(path, &checked.digests)?.commit()?;
+    match digests {
+        None => staged.commit()?,
+        Some(path) => staged.commit_after(Staged::new(path, &checked.digests)?)?,
     }
-    staged.commit()?;
     let fail = checked.outcomes.iter().filter(|o| **o == 0).count();
     say(&format!(
         "checked: days {}, values {}, failing {fail}",
@@ -286,14 +343,9 @@ fn check(work: &Work, book: &Path, outcomes: &Path, digests: Option<&Path>) -> R
     })
 }
 
-fn verify(work: &Work, book: &Path, named: bool, figure: Option<&Path>) -> Result<Done, Stop> {
+fn verify(work: &Work, book: &Path, view: &View) -> Result<Done, Stop> {
     let checked = checked(work, book)?;
-    let view = View {
-        names: work.names.clone(),
-        named,
-        figure: figure.map(Path::to_path_buf),
-    };
-    listed(work.layout, work.d, &checked.outcomes, &view)
+    listed(work.layout, work.d, &checked.outcomes, view)
 }
 
 fn checked(work: &Work, book: &Path) -> Result<Checked, Stop> {
@@ -334,8 +386,8 @@ fn read(layout: Layout, d: u32, outcomes: &Path, view: &View) -> Result<Done, St
 
 /// What is shown of a reading.
 struct View {
-    /// The names of the days, where they have names.
-    names: Option<Vec<OsString>>,
+    /// The names of the days as fields, where they have names.
+    names: Option<Vec<String>>,
     /// Whether each line of a day has its name.
     named: bool,
     /// The picture to write.
@@ -343,11 +395,13 @@ struct View {
 }
 
 impl View {
-    /// The names are those of a folder's files.
-    fn of_folder(folder: Option<&Path>, named: bool) -> Result<View, Stop> {
+    /// The names are those of a folder's files, or else those of a state's index.
+    fn of_folder(folder: Option<&Path>, sealed: &[String], named: bool) -> Result<View, Stop> {
         let names = match folder {
-            Some(folder) => Days::find(&Source::Folder(folder.to_path_buf()))?.names(),
-            None => None,
+            Some(folder) => Days::find(&Source::Folder(folder.to_path_buf()))?
+                .names()
+                .map(|names| labels(&names)),
+            None => some(sealed),
         };
         Ok(View {
             names,
@@ -356,7 +410,7 @@ impl View {
         })
     }
 
-    fn names(&self) -> Option<&[OsString]> {
+    fn names(&self) -> Option<&[String]> {
         self.names.as_deref()
     }
 }
@@ -413,12 +467,12 @@ fn lines(
     scheme: u32,
     [listed, first, low, high, last_good]: [u32; 5],
     days: &[u32],
-    names: Option<&[OsString]>,
+    names: Option<&[String]>,
 ) -> String {
     let mut text = format!("REF,{scheme},{listed},{first},{low},{high},{last_good}\n");
     for day in days {
         let name = names.and_then(|names| names.get(*day as usize - 1));
-        let name = name.map_or(String::new(), |name| format!(",{}", field(name)));
+        let name = name.map_or(String::new(), |name| format!(",{name}"));
         let _ = writeln!(text, "DAY,{day}{name}");
     }
     text
@@ -440,6 +494,7 @@ mod tests {
     #[test]
     fn lines_with_names() {
         let names: Vec<OsString> = (1..=8).map(|day| format!("d,{day}").into()).collect();
+        let names = labels(&names);
         assert_eq!(
             lines(2, [2, 6, 5, 8, 4], &[6, 8], Some(&names)),
             "REF,2,2,6,5,8,4\nDAY,6,d%2C6\nDAY,8,d%2C8\n"

@@ -1,14 +1,11 @@
 //! Which day or value a refusal speaks of, in words.
 
-use std::ffi::OsString;
-
 use daybook::{Layout, DAY_LIMIT, VALUE};
 
 use crate::chains::{chains, Chain};
-use crate::names::field;
 
 /// Refusal 10: the first of `d` days whose end is wrong, and why. `length` is that of the ledger.
-pub fn bad_end(ends: &[u32], d: u32, length: u64, names: Option<&[OsString]>) -> Option<String> {
+pub fn bad_end(ends: &[u32], d: u32, length: u64, names: Option<&[String]>) -> Option<String> {
     let mut start = 0;
     for (day, end) in (1..=d).zip(ends) {
         let name = day_name(day, names);
@@ -29,12 +26,12 @@ pub fn bad_end(ends: &[u32], d: u32, length: u64, names: Option<&[OsString]>) ->
 }
 
 /// A day, with its name where it has one.
-pub fn day_name(day: u32, names: Option<&[OsString]>) -> String {
+pub fn day_name(day: u32, names: Option<&[String]>) -> String {
     let name = (day as usize)
         .checked_sub(1)
         .and_then(|place| names?.get(place));
     match name {
-        Some(name) => format!("day {day} ({})", field(name)),
+        Some(name) => format!("day {day} ({name})"),
         None => format!("day {day}"),
     }
 }
@@ -114,7 +111,7 @@ mod tests {
             "day 2 ends at 8, and the ledger has 7 bytes"
         );
         assert_eq!(said(&[3, 8], 1, 7), None);
-        let names = [OsString::from("a,b"), OsString::from("c")];
+        let names = ["a%2Cb".to_string(), "c".to_string()];
         assert_eq!(
             bad_end(&[16_777_217, 16_777_217], 2, 20_000_000, Some(&names)).unwrap(),
             "day 1 (a%2Cb) has more than 16777216 bytes"

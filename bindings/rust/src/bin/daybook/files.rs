@@ -6,7 +6,11 @@ use std::io::{self, Read, Write};
 use std::path::{Path, PathBuf};
 
 use crate::leavings::{self, parent};
+use crate::state;
 use crate::stop::Stop;
+
+/// Links in a row that the system follows.
+const MOST_LINKS: u32 = 40;
 
 /// The first `need` bytes of a file, or all where it has fewer, and whether it has more.
 pub fn read_front(path: &Path, need: u64) -> Result<(Vec<u8>, bool), Stop> {
@@ -40,12 +44,15 @@ pub fn unread(path: &Path, error: impl Display) -> Stop {
     Stop::Fault(format!("{} cannot be read: {error}", path.display()))
 }
 
-fn unwritten(path: &Path, error: impl Display) -> Stop {
+pub fn unwritten(path: &Path, error: impl Display) -> Stop {
     Stop::Fault(format!("{} cannot be written: {error}", path.display()))
 }
 
 /// Where a file to be written stands: an existing regular file, or a new name in an existing folder.
 pub fn place(path: &Path) -> Result<PathBuf, Stop> {
+    if is_stream(path) {
+        return Err(unwritten(path, "it is a stream and not the name of a file"));
+    }
     match fs::canonicalize(path) {
         Ok(place) if place.is_file() => Ok(place),
         Ok(_) => Err(unwritten(path, "it is not a regular file")),
@@ -60,13 +67,35 @@ fn new_place(path: &Path) -> Result<PathBuf, Stop> {
     let (Some(folder), Some(name)) = (path.parent(), path.file_name()) else {
         return Err(unwritten(path, "it is not the name of a file"));
     };
-    let folder = if folder.as_os_str().is_empty() {
-        Path::new(".")
-    } else {
-        folder
-    };
-    let folder = fs::canonicalize(folder).map_err(|error| unwritten(path, error))?;
+    let folder = full_folder(folder).map_err(|error| unwritten(path, error))?;
     Ok(folder.join(name))
+}
+
+fn full_folder(folder: &Path) -> io::Result<PathBuf> {
+    if folder.as_os_str().is_empty() {
+        return fs::canonicalize(".");
+    }
+    fs::canonicalize(folder)
+}
+
+/// Whether a path leads to what a process has open, as /dev/stdout does: the file behind it, if it is
+/// one, is not the one that is named.
+fn is_stream(path: &Path) -> bool {
+    let mut path = path.to_path_buf();
+    for _ in 0..MOST_LINKS {
+        let folder = full_folder(path.parent().unwrap_or(Path::new("/")));
+        let Ok(folder) = folder else {
+            return false;
+        };
+        if folder.starts_with("/proc") {
+            return true;
+        }
+        match fs::read_link(&path) {
+            Ok(target) => path = folder.join(target),
+            Err(_) => return false,
+        }
+    }
+    false
 }
 
 /// A file's new bytes, flushed to disk under a temporary name in its folder. It is removed unless
@@ -115,6 +144,20 @@ impl Staged {
         })
     }
 
+    /// Takes the file's place after another file took its own. In between there is none, so that the
+    /// old one never stands beside the other new one.
+    pub fn commit_after(self, other: Staged) -> Result<(), Stop> {
+        match fs::remove_file(&self.place) {
+            Ok(()) => self
+                .flush_folder()
+                .map_err(|error| unwritten(&self.place, error))?,
+            Err(error) if error.kind() == io::ErrorKind::NotFound => {}
+            Err(error) => return Err(unwritten(&self.place, error)),
+        }
+        other.commit()?;
+        self.commit()
+    }
+
     fn flush_folder(&self) -> io::Result<()> {
         File::open(parent(&self.place))?.sync_all()
     }
@@ -137,6 +180,12 @@ pub fn test_written(
     let folder = folder.map(|folder| (folder, fs::canonicalize(folder).ok()));
     for (index, path) in written.iter().enumerate() {
         let here = place(path)?;
+        if state::is_state(parent(&here)) {
+            return Err(unwritten(
+                path,
+                "it stands in a state folder, which open, add and close alone write",
+            ));
+        }
         if let Some((folder, Some(full))) = &folder {
             if here.parent() == Some(full) {
                 let (path, folder) = (path.display(), folder.display());

@@ -1,5 +1,6 @@
 //! How the days found fit the book: D where it is not given, and which files are strange or missing.
 
+use std::collections::BTreeSet;
 use std::ffi::OsString;
 use std::ops::RangeInclusive;
 
@@ -19,6 +20,8 @@ pub struct Fit<'a> {
     pub names: Option<&'a [OsString]>,
     /// The book's length in bytes, where there is a book.
     pub book: Option<u64>,
+    /// The days that are closed, where a state folder tells.
+    pub closed: Option<u32>,
 }
 
 impl Fit<'_> {
@@ -104,6 +107,9 @@ impl Fit<'_> {
 
     /// How many days there should be.
     fn wanted(&self) -> String {
+        if let Some(closed) = self.closed {
+            return format!("{closed} days are closed");
+        }
         let Some(bytes) = self.book else {
             return self.nearest();
         };
@@ -132,16 +138,80 @@ impl Fit<'_> {
 
     /// The names behind the last day that the book can be of.
     fn beyond(&self) -> Option<String> {
-        let last = *self.days()?.end() as usize;
-        let beyond = self.names?.get(last..)?;
+        let last = match self.closed {
+            Some(closed) => closed,
+            None => *self.days()?.end(),
+        };
+        let beyond = self.names?.get(last as usize..)?;
         let names = fields(beyond.iter(), MOST);
         (!beyond.is_empty()).then(|| format!("beyond the book's days: {names}"))
     }
 }
 
+/// The first day whose file here has another name than the one that it was sealed from, where one of
+/// the two stands at another day. Names are fields; of a source the last part of its path counts.
+pub fn moved(sealed: &[String], found: &[String]) -> Option<String> {
+    let last = |source: &'_ String| source.rsplit('/').next().unwrap_or_default().to_string();
+    let sources: BTreeSet<String> = sealed.iter().map(last).collect();
+    let files: BTreeSet<&String> = found.iter().collect();
+    let mut days = (1u32..).zip(sealed.iter().zip(found));
+    let (day, (source, here)) = days.find(|(_, (source, here))| {
+        let name = last(source);
+        name != **here && (files.contains(&name) || sources.contains(*here))
+    })?;
+    Some(format!(
+        "day {day} was sealed from {source}, and is the file {here} here"
+    ))
+}
+
 #[cfg(test)]
 mod tests {
     use super::*;
+
+    #[test]
+    fn files_that_moved() {
+        let own = |names: &[&str]| -> Vec<String> { names.iter().map(|n| n.to_string()).collect() };
+        let said = |sealed: &[&str], found: &[&str]| moved(&own(sealed), &own(found));
+        assert_eq!(said(&["in/1", "in/2"], &["1", "2"]), None);
+        assert_eq!(said(&["-", "a + b"], &["1", "2"]), None);
+        assert_eq!(said(&["in/1", "in/2"], &["1", "3"]), None);
+        assert_eq!(
+            said(&["in/1", "in/2"], &[".swp", "1", "2"]).unwrap(),
+            "day 1 was sealed from in/1, and is the file .swp here"
+        );
+        assert_eq!(
+            said(&["1", "2", "3"], &["1", "3"]).unwrap(),
+            "day 2 was sealed from 2, and is the file 3 here"
+        );
+    }
+
+    #[test]
+    fn files_of_a_state() {
+        let mut names = numbered(1..=64);
+        names.insert(0, ".swp".into());
+        let state = Fit {
+            closed: Some(64),
+            ..fit(TILE, &names, 24)
+        };
+        assert_eq!(
+            state.misfit(),
+            [
+                "65 files found, from .swp to 64; 64 days are closed",
+                "not named as the others are: .swp",
+            ]
+        );
+        let state = Fit {
+            closed: Some(62),
+            ..fit(TILE, &names[1..], 24)
+        };
+        assert_eq!(
+            state.misfit(),
+            [
+                "64 files found, from 01 to 64; 62 days are closed",
+                "beyond the book's days: 63, 64",
+            ]
+        );
+    }
 
     fn numbered(days: RangeInclusive<u32>) -> Vec<OsString> {
         days.map(|day| format!("{day:02}").into()).collect()
@@ -153,6 +223,7 @@ mod tests {
             found: names.len() as u32,
             names: Some(names),
             book: Some(32 * values),
+            closed: None,
         }
     }
 

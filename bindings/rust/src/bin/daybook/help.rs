@@ -74,15 +74,16 @@ none), interrupted (yes where a stopped run left something; the next run takes i
 ";
 
 pub const SEAL: &str = "\
-daybook seal --scheme S --n N --f F [--d D] SOURCE --book FILE
+daybook seal --scheme S --n N --f F [--d D] SOURCE --book FILE [--force]
 
-Seals the days and writes their values to the book, 32 bytes each. The book is replaced whole, or
-stays as it was.
+Seals the days and writes their values to the book, 32 bytes each. The book is written whole, or
+stays as it was. A book that is there is a fault, unless it is the front of the new one.
 
   --scheme S --n N --f F   the layout: 1 black, 2 tile, 3 tree; days in an interval; intervals per
                            validation
   --d D                    seal the first D days (else: all days of the source)
   --book FILE              the book to write
+  --force                  replace another book; one that is read-only is not replaced even so
 
 SOURCE is one of
   --days DIR                     a folder: each file is a day, in byte order of their names; every
@@ -96,6 +97,7 @@ bytes is refusal 4, in a ledger refusal 10. Fewer days than D is refusal 9.
 
 pub const CHECK: &str = "\
 daybook check --scheme S --n N --f F [--d D] SOURCE --book FILE --outcomes FILE [--digests FILE]
+daybook check --state DIR [--d D] SOURCE --outcomes FILE [--digests FILE]
 
 Hashes the days again, compares them with the book and writes the outcomes. Exit status 0: every value
 passes; 1: some value fails.
@@ -106,6 +108,8 @@ passes; 1: some value fails.
                            the book's length is that of all days and the names of the files are
                            numbered without a gap: the greatest D below)
   --book FILE              the book
+  --state DIR              layout and book of this state folder; D is then the greatest that is
+                           allowed and not above the days closed
   --outcomes FILE          the outcomes to write: a byte for each value, in book order, 1 pass, 0 fail
   --digests FILE           the digests of the days to write, 32 bytes each
 
@@ -114,12 +118,15 @@ of more than 4,294,967,295 bytes has no 32-bit ends and is a fault.
 ";
 
 pub const READ: &str = "\
-daybook read --scheme S --n N --f F --d D --outcomes FILE [--days DIR [--names]]
+daybook read --scheme S --n N --f F --d D --outcomes FILE [--days DIR] [--names]
+daybook read --state DIR [--d D] --outcomes FILE [--days DIR] [--names]
 
 Reads the outcomes of D days and prints which days may have been altered.
 
   --scheme S --n N --f F   the layout of the book that was checked
   --d D                    the number of days
+  --state DIR              layout and book of this state folder; D is then the greatest that is
+                           allowed and not above the days closed
   --outcomes FILE          a byte for each value, in book order, 1 pass, 0 fail; bytes past the
                            last value are not read
   --days DIR               the folder of days, for their names alone
@@ -128,6 +135,7 @@ Reads the outcomes of D days and prints which days may have been altered.
 
 pub const VERIFY: &str = "\
 daybook verify --scheme S --n N --f F [--d D] SOURCE --book FILE [--names] [--figure FILE]
+daybook verify --state DIR [--d D] SOURCE [--names] [--figure FILE]
 
 Checks the days against the book and prints which days may have been altered. It writes no file but
 the figure. On a terminal standard error has a summary in words and a strip of the days.
@@ -135,6 +143,8 @@ the figure. On a terminal standard error has a summary in words and a strip of t
   --scheme S --n N --f F   the layout that the book was sealed under
   --d D                    verify the first D days (else: as for check)
   --book FILE              the book
+  --state DIR              layout and book of this state folder; D is then the greatest that is
+                           allowed and not above the days closed
   --names                  each line of a day has the name of its file too: DAY,g,name, where a comma,
                            a percent sign and every byte that is not printable ASCII is %XX; with
                            --days only

@@ -6,6 +6,7 @@ mod arguments;
 mod chains;
 mod commands;
 mod days;
+mod evidence;
 mod explain;
 mod figure;
 mod files;
@@ -70,11 +71,16 @@ fn refused(refusal: Refusal, context: &str, lines: &[String]) -> u8 {
     print(&format!("NO,{number}\n"), REFUSED)
 }
 
-/// Prints on standard output; gives `status`, or the one of a fault.
+/// Prints on standard output; gives `status`, or the one of a fault. A reader that has enough is no
+/// fault.
 fn print(text: &str, status: u8) -> u8 {
     let mut out = io::stdout().lock();
     match out.write_all(text.as_bytes()).and_then(|()| out.flush()) {
         Ok(()) => status,
+        Err(error) if error.kind() == io::ErrorKind::BrokenPipe => {
+            say("standard output was closed early: lines are lost, the exit status holds");
+            status
+        }
         Err(error) => {
             say(&format!("standard output cannot be written: {error}"));
             FAULT

@@ -1,6 +1,5 @@
 //! What was read, in words and as a strip of the days, for standard error where that is a terminal.
 
-use std::ffi::OsString;
 use std::fmt::Write;
 
 use daybook::{Layout, Reading};
@@ -19,7 +18,7 @@ pub fn summary(
     d: u32,
     reading: &Reading,
     days: &[u32],
-    names: Option<&[OsString]>,
+    names: Option<&[String]>,
 ) -> String {
     let Reading::Changed {
         listed,
@@ -85,7 +84,7 @@ pub fn runs_of(days: &[u32]) -> Vec<(u32, u32)> {
     runs
 }
 
-fn listing(days: &[u32], names: Option<&[OsString]>) -> String {
+fn listing(days: &[u32], names: Option<&[String]>) -> String {
     let mut text = String::from("Listed:\n");
     for day in days.iter().take(MOST) {
         let _ = writeln!(text, "  {}", day_name(*day, names));
@@ -121,7 +120,7 @@ mod tests {
 
     const LISTED: [u32; 8] = [19, 20, 23, 24, 27, 28, 31, 32];
 
-    fn figure(names: Option<&[OsString]>) -> String {
+    fn figure(names: Option<&[String]>) -> String {
         let reading = Reading::Changed {
             listed: 8,
             first: 19,
@@ -140,7 +139,7 @@ mod tests {
             by the end of day 64.\n\
             Last good: day 16; up to it all days are as they were sealed.\n";
         assert_eq!(figure(None), words);
-        let names: Vec<OsString> = (1..=64).map(|day| format!("d-{day}").into()).collect();
+        let names: Vec<String> = (1..=64).map(|day| format!("d-{day}")).collect();
         let named = words
             .replace("day 19.", "day 19 (d-19).")
             .replace("day 16;", "day 16 (d-16);")
@@ -183,7 +182,7 @@ mod tests {
 
     #[test]
     fn many_names() {
-        let names: Vec<OsString> = (1..=30).map(|day| format!("{day}").into()).collect();
+        let names: Vec<String> = (1..=30).map(|day| format!("{day}")).collect();
         let days: Vec<u32> = (1..=22).collect();
         let text = listing(&days, Some(&names));
         assert!(text.ends_with("  day 20 (20)\n  and 2 more; --names has them all\n"));

@@ -6,11 +6,12 @@ use std::path::{Path, PathBuf};
 
 use daybook::{Layout, Service};
 
-use super::files::{at, create, sync_folder, unwritten};
+use super::files::{at, create, sync_folder};
 use super::form::{layout_text, Record};
 use super::load::State;
 use super::lock::{self, Access};
 use super::{BOOK, INDEX, LAYOUT, LOCK, RECORD};
+use crate::files::unwritten;
 use crate::leavings::{self, parent};
 use crate::say;
 use crate::stop::Stop;

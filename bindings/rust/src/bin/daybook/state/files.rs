@@ -7,7 +7,7 @@ use std::path::{Path, PathBuf};
 
 use super::form::{Extent, Record};
 use super::{RECORD, RECORD_NEW};
-use crate::files::{read_front, unread};
+use crate::files::{read_front, unread, unwritten};
 use crate::stop::Stop;
 
 pub fn at(folder: &Path, name: &str) -> PathBuf {
@@ -23,10 +23,6 @@ pub fn day_name(day: u32) -> String {
 pub fn day_of(name: &str) -> Option<u32> {
     let day = name.strip_prefix("day-")?.parse().ok()?;
     (day_name(day) == name).then_some(day)
-}
-
-pub fn unwritten(path: &Path, error: impl Display) -> Stop {
-    Stop::Fault(format!("{} cannot be written: {error}", path.display()))
 }
 
 /// A file that is not what the record says.

@@ -1,7 +1,5 @@
 //! The forms of the files of a state folder. docs/SERVICE.md describes them.
 
-use std::ffi::OsStr;
-
 use daybook::{Layout, Service, DAYS_LIMIT, RECORD, VALUE};
 
 use super::digest::{digest, hex, Digest};
@@ -188,7 +186,10 @@ impl Line {
             digest: digest_of(fields.next()?)?,
             names: fields.next()?.to_string(),
         };
-        let own = line.names.bytes().all(|byte| plain(byte) && byte != b',');
+        let own = line
+            .names
+            .bytes()
+            .all(|byte| (b' '..=b'~').contains(&byte) && byte != b',');
         let same = line.text().strip_suffix('\n') == Some(text);
         (line.day <= DAYS_LIMIT && own && same).then_some(line)
     }
@@ -203,23 +204,6 @@ fn digest_of(text: &str) -> Option<Digest> {
         *byte = u8::from_str_radix(&text[2 * at..2 * at + 2], 16).ok()?;
     }
     Some(digest)
-}
-
-/// A name as a field: a comma, a percent sign and every byte that is not printable ASCII as %XX.
-pub fn field(name: &OsStr) -> String {
-    let mut text = String::new();
-    for byte in name.as_encoded_bytes() {
-        match byte {
-            b',' | b'%' => text.push_str(&format!("%{byte:02X}")),
-            byte if plain(*byte) => text.push(char::from(*byte)),
-            _ => text.push_str(&format!("%{byte:02X}")),
-        }
-    }
-    text
-}
-
-fn plain(byte: u8) -> bool {
-    (b' '..=b'~').contains(&byte)
 }
 
 /// The names of a day's sources with those that come after them. One that comes twice in a row
@@ -243,7 +227,6 @@ const AND: &str = " + ";
 #[cfg(test)]
 mod tests {
     use super::*;
-    use std::os::unix::ffi::OsStringExt;
 
     fn record() -> Record {
         let mut service = Service::open(Layout::tile(16, 2)).unwrap();
@@ -324,8 +307,6 @@ mod tests {
 
     #[test]
     fn names() {
-        let name = std::ffi::OsString::from_vec(b"a, b%\n\x7f\xc3\xa9~".to_vec());
-        assert_eq!(field(&name), "a%2C b%25%0A%7F%C3%A9~");
         assert_eq!(joined("", ["a", "b", "b"].into_iter()), "a + b");
         assert_eq!(joined("a + b", ["b", "a"].into_iter()), "a + b + a");
         assert_eq!(joined("a", std::iter::empty()), "a");

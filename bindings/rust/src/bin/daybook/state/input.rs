@@ -7,8 +7,8 @@ use std::path::Path;
 
 use daybook::DAY_LIMIT;
 
-use super::form::field;
 use crate::files::unread;
+use crate::names::field;
 use crate::stop::Stop;
 
 pub struct Input {

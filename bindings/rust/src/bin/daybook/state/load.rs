@@ -5,12 +5,12 @@ use std::path::{Path, PathBuf};
 
 use daybook::{Layout, Refusal, DAY_LIMIT, PART, VALUE};
 
+use super::files::sync_folder;
 use super::files::{append, at, commit, cut, day_name, day_of, front, misfit, record_bytes};
-use super::files::{sync_folder, unwritten};
 use super::form::{test_layout, Extent, Line, Record, LINE_MOST};
 use super::lock::{self, Access};
 use super::{BOOK, INDEX, LAYOUT, RECORD, RECORD_NEW};
-use crate::files::{read_front, unread};
+use crate::files::{read_front, unread, unwritten};
 use crate::say;
 use crate::stop::Stop;
 
@@ -92,6 +92,22 @@ impl State {
         text.and_then(Line::parse)
             .filter(|line| line.day == day)
             .ok_or_else(|| misfit(&self.path(INDEX), format!("it has no line of day {day}")))
+    }
+
+    /// The names of the closed days' sources, as fields.
+    pub fn names(&self) -> Result<Vec<String>, Stop> {
+        let lines = self
+            .index
+            .split(|byte| *byte == b'\n')
+            .filter_map(Line::parse);
+        let names: Vec<String> = lines.map(|line| line.names).collect();
+        match names.len() == self.days() as usize {
+            true => Ok(names),
+            false => Err(misfit(
+                &self.path(INDEX),
+                format!("it has {} lines of {} days", names.len(), self.days()),
+            )),
+        }
     }
 
     /// The bytes of the last closed day, where they were added and are still there.

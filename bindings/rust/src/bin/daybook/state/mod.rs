@@ -12,6 +12,7 @@ mod form;
 mod input;
 mod load;
 mod lock;
+mod sealed;
 
 use std::ffi::OsString;
 use std::path::Path;
@@ -22,6 +23,8 @@ use crate::commands::Done;
 use crate::stop::Stop;
 use load::State;
 use lock::Access;
+
+pub use sealed::Sealed;
 
 /// The files of a state folder. Beside them stands a file for the bytes of the open day.
 const LAYOUT: &str = "layout";
@@ -49,6 +52,13 @@ pub enum Service {
         files: Vec<OsString>,
     },
     Status,
+}
+
+/// Whether a folder is a state folder, whole or not.
+pub fn is_state(folder: &Path) -> bool {
+    [LAYOUT, RECORD, LOCK]
+        .iter()
+        .all(|name| folder.join(name).is_file())
 }
 
 pub fn run(folder: &Path, service: &Service) -> Result<Done, Stop> {
