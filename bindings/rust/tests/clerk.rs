@@ -362,6 +362,72 @@ fn on_a_terminal() {
     assert!(lines.starts_with("REF,2,8,19,32,64,16\nDAY,19\nDAY,20\n"));
 }
 
+/// Days in the folder `in`, closed one by one in the state folder `s` under scheme 3, N 4; then day 3
+/// is altered. Days, ledger and ends hold the same.
+fn service(name: &str, closed: u32) -> Folder {
+    let folder = Folder::new(&format!("clerk-{name}"));
+    write_days(&folder, &days(closed), numbered);
+    assert_eq!(run(&folder, "open s --scheme 3 --n 4 --f 1").0, 0);
+    for day in 1..=closed {
+        let close = format!("close s --day {day} in/day-{day:02}");
+        assert_eq!(run(&folder, &close).0, 0);
+    }
+    let now = altered(&days(closed), &[3]);
+    fs::write(folder.file("in/day-03"), &now[2]).unwrap();
+    let (bytes, ends) = ledger(&now);
+    fs::write(folder.file("ledger"), bytes).unwrap();
+    let ends: Vec<u8> = ends.iter().flat_map(|end| end.to_le_bytes()).collect();
+    fs::write(folder.file("ends"), ends).unwrap();
+    folder
+}
+
+#[test]
+fn names_of_a_state() {
+    let folder = service("state", 8);
+    let lines = |name: &str| format!("REF,3,1,3,4,8,0\nDAY,3{name}\n");
+    let verify = "verify --state s --days in";
+    said(&folder, verify, (1, &lines("")), &[]);
+    let named = format!("{verify} --names --figure=out.svg");
+    said(&folder, &named, (1, &lines(",day-03")), &[]);
+    assert!(folder.file("out.svg").is_file());
+    // without a folder the names are those of the index
+    let verify = "verify --state s --ledger ledger --ends ends --names";
+    said(&folder, verify, (1, &lines(",in/day-03")), &[]);
+    run(&folder, "check --state s --days in --outcomes table");
+    let read = "read --state s --outcomes table --names";
+    said(&folder, read, (1, &lines(",in/day-03")), &[]);
+    let read = "read --state s --outcomes table --names --days in";
+    said(&folder, read, (1, &lines(",day-03")), &[]);
+    let (status, _, messages) = run(&folder, "verify --state s --days in --figure s/new.svg");
+    assert_eq!(status, 3, "{messages}");
+}
+
+#[test]
+fn days_that_are_not_those_of_a_state() {
+    let folder = service("state-stray", 8);
+    fs::write(folder.file("in/.lock"), "").unwrap();
+    let (status, _, messages) = run(&folder, "verify --state s --days in");
+    assert_eq!(status, 1);
+    let lines: Vec<&str> = messages.lines().collect();
+    assert_eq!(
+        lines,
+        [
+            "daybook: note: 9 files found, from .lock to day-08; 8 days are closed",
+            "daybook: note: not named as the others are: .lock",
+            "daybook: note: day 1 was sealed from in/day-01, and is the file .lock here",
+        ]
+    );
+    fs::remove_file(folder.file("in/.lock")).unwrap();
+    fs::remove_file(folder.file("in/day-05")).unwrap();
+    let (status, out, messages) = run(&folder, "check --state s --days in --outcomes table");
+    assert_eq!((status, out.as_str()), (2, "NO,9\n"));
+    assert!(messages.contains("note: 7 files found, from day-01 to day-08; 8 days are closed\n"));
+    assert!(messages.contains("note: left out in the numbering: day-05\n"));
+    assert!(
+        messages.contains("note: day 5 was sealed from in/day-05, and is the file day-06 here\n")
+    );
+}
+
 #[test]
 fn version_and_help() {
     let folder = Folder::new("clerk-help");
@@ -369,7 +435,9 @@ fn version_and_help() {
     said(&folder, "--version", (0, &version), &[]);
     let all = run(&folder, "--help").1;
     said(&folder, "help", (0, &all), &[]);
-    for command in ["seal", "check", "read", "verify"] {
+    for command in [
+        "open", "add", "close", "status", "seal", "check", "read", "verify",
+    ] {
         assert!(all.contains(&format!("daybook {command} ")), "{command}");
         let text = run(&folder, &format!("{command} --help")).1;
         said(&folder, &format!("help {command}"), (0, &text), &[]);
@@ -400,4 +468,8 @@ fn the_man_page_has_every_option() {
     assert!(options > 30);
     let version = format!("daybook {}", env!("CARGO_PKG_VERSION"));
     assert!(page.contains(&version));
+    for refusal in daybook::Refusal::ALL {
+        let line = format!("{:>2}  {refusal}\n", refusal.number());
+        assert!(page.contains(&line), "{line}");
+    }
 }

@@ -130,7 +130,8 @@ Reads the outcomes of D days and prints which days may have been altered.
   --outcomes FILE          a byte for each value, in book order, 1 pass, 0 fail; bytes past the
                            last value are not read
   --days DIR               the folder of days, for their names alone
-  --names                  each line of a day has its name too: DAY,g,name
+  --names                  each line of a day has its name too: DAY,g,name; it is that of --days, or
+                           else that of the index of --state
 ";
 
 pub const VERIFY: &str = "\
@@ -145,9 +146,9 @@ the figure. On a terminal standard error has a summary in words and a strip of t
   --book FILE              the book
   --state DIR              layout and book of this state folder; D is then the greatest that is
                            allowed and not above the days closed
-  --names                  each line of a day has the name of its file too: DAY,g,name, where a comma,
-                           a percent sign and every byte that is not printable ASCII is %XX; with
-                           --days only
+  --names                  each line of a day has its name too: DAY,g,name, where a comma, a percent
+                           sign and every byte that is not printable ASCII is %XX. It is the name of
+                           the file of --days, or else that of the index of --state
   --figure FILE            a picture to write, as SVG: each value over the days that it covers, which
                            pass and which fail, the listed days and the bounds
 
