@@ -186,6 +186,12 @@ fn a_missing_file() {
             "daybook: left out in the numbering: day-27",
         ],
     );
+    let (status, out, messages) = run(
+        &folder,
+        "verify --scheme 2 --n 16 --f 2 --d 64 --days in --book book",
+    );
+    assert_eq!((status, out.as_str()), (2, "NO,9\n"));
+    assert!(messages.ends_with("daybook: left out in the numbering: day-27\n"));
     // where D may be the number of files, a day that is missing is a fault as before
     let folder = sealed("missing-one", Layout::black(1, 1), 8, 8);
     fs::remove_file(folder.file("in/day-03")).unwrap();
@@ -426,6 +432,40 @@ fn days_that_are_not_those_of_a_state() {
     assert!(
         messages.contains("note: day 5 was sealed from in/day-05, and is the file day-06 here\n")
     );
+}
+
+/// The commands of README.md, in the part on the service, run as they are printed.
+#[test]
+fn the_commands_of_the_readme() {
+    let folder = Folder::new("clerk-readme");
+    fs::create_dir(folder.file("days")).unwrap();
+    let (morning, noon) = ("m".repeat(1800), "n".repeat(700));
+    for (name, bytes) in [
+        ("morning", morning.as_str()),
+        ("noon", noon.as_str()),
+        ("days/day-01", "rye 12"),
+        ("days/day-02", "oats 7"),
+        ("days/day-03", &(morning.clone() + &noon)),
+    ] {
+        fs::write(folder.file(name), bytes).unwrap();
+    }
+    let page = concat!(env!("CARGO_MANIFEST_DIR"), "/../../README.md");
+    let page = fs::read_to_string(page).unwrap();
+    let (_, part) = page.split_once("## A service, day by day").unwrap();
+    let (part, _) = part.split_once("\n## ").unwrap();
+    let lines = part
+        .lines()
+        .filter_map(|line| line.strip_prefix("    daybook "));
+    let lines: Vec<&str> = lines.map(|line| line.split('#').next().unwrap()).collect();
+    assert_eq!(lines.len(), 8);
+    let mut out = String::new();
+    for line in lines {
+        let ran = run(&folder, line);
+        assert_eq!(ran.0, 0, "{line}: {}", ran.2);
+        out = ran.1;
+    }
+    assert_eq!(out, "REF,3,0,0,0,0,3\n");
+    assert!(folder.file("found.svg").is_file());
 }
 
 #[test]

@@ -204,7 +204,7 @@ fn check(options: &mut Options) -> Result<Command, Stop> {
         book: options.needed_path("--book")?,
         outcomes: options.needed_path("--outcomes")?,
         digests: options.path("--digests"),
-        sealed: std::mem::take(&mut options.sealed),
+        sealed: options.sealed.take().unwrap_or_default(),
     })
 }
 
@@ -216,7 +216,7 @@ fn read(options: &mut Options) -> Result<Command, Stop> {
         outcomes: options.needed_path("--outcomes")?,
         names: options.names()?,
         days: options.path("--days"),
-        sealed: std::mem::take(&mut options.sealed),
+        sealed: options.sealed.take().unwrap_or_default(),
     })
 }
 
@@ -229,7 +229,7 @@ fn verify(options: &mut Options) -> Result<Command, Stop> {
         figure: options.path("--figure"),
         source: options.source()?,
         book: options.needed_path("--book")?,
-        sealed: std::mem::take(&mut options.sealed),
+        sealed: options.sealed.take().unwrap_or_default(),
     })
 }
 
@@ -268,8 +268,8 @@ struct Options {
     command: &'static str,
     given: Vec<(&'static str, OsString)>,
     words: Vec<OsString>,
-    /// The names of the days in the state folder's index.
-    sealed: Vec<String>,
+    /// The names of the days in the state folder's index, where there is a state folder.
+    sealed: Option<Vec<String>>,
 }
 
 impl Options {
@@ -283,7 +283,7 @@ impl Options {
             command,
             given: Vec::new(),
             words: Vec::new(),
-            sealed: Vec::new(),
+            sealed: None,
         };
         while let Some(word) = words.next() {
             if word == "--help" || word == "-h" {
@@ -363,7 +363,7 @@ impl Options {
     fn names(&mut self) -> Result<bool, Stop> {
         let files = self.given.iter().any(|(given, _)| *given == "--days");
         match self.flag("--names") {
-            true if !files && self.sealed.is_empty() => Err(usage(
+            true if !files && self.sealed.is_none() => Err(usage(
                 "--names needs --days or --state: there are no other names",
             )),
             names => Ok(names),
@@ -391,7 +391,7 @@ impl Options {
             self.given.push((name, number.to_string().into()));
         }
         self.given.push(("--book", sealed.book.into()));
-        self.sealed = sealed.names;
+        self.sealed = Some(sealed.names);
         Ok(())
     }
 

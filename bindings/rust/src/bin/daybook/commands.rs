@@ -56,7 +56,7 @@ pub fn run(command: &Command) -> Result<Done, Stop> {
             let mut written = vec![outcomes.as_path()];
             written.extend(digests.as_deref());
             test_written(&written, &[book], None)?;
-            let work = Work::find(*layout, *d, source, Some(book), &written)?;
+            let mut work = Work::find(*layout, *d, source, Some(book), &written)?;
             work.compare(sealed);
             check(&work, book, outcomes, digests.as_deref())
         }
@@ -82,7 +82,7 @@ pub fn run(command: &Command) -> Result<Done, Stop> {
         } => {
             let written = Vec::from_iter(figure.as_deref());
             test_written(&written, &[book], None)?;
-            let work = Work::find(*layout, *d, source, Some(book), &written)?;
+            let mut work = Work::find(*layout, *d, source, Some(book), &written)?;
             work.compare(sealed);
             let view = View {
                 names: work.labels().or_else(|| some(sealed)),
@@ -107,6 +107,8 @@ struct Work {
     names: Option<Vec<OsString>>,
     /// The book's length, where there is a book.
     book: Option<u64>,
+    /// Whether the days were compared with those of a state, and what does not fit was said.
+    compared: bool,
 }
 
 impl Work {
@@ -131,8 +133,9 @@ impl Work {
             book: book
                 .and_then(|book| fs::metadata(book).ok())
                 .map(|file| file.len()),
+            compared: false,
         };
-        work.warn_of_order();
+        warn_of_order(work.names.as_deref().unwrap_or_default());
         if !work.given {
             work.fit_book();
         }
@@ -156,11 +159,12 @@ impl Work {
     }
 
     /// Says where the days found are not those of a state's index.
-    fn compare(&self, sealed: &[String]) {
+    fn compare(&mut self, sealed: &[String]) {
         let closed = Some(sealed.len() as u32);
         if sealed.is_empty() {
             return;
         }
+        self.compared = true;
         if closed != Some(self.days.count()) {
             let fit = Fit {
                 closed,
@@ -184,29 +188,21 @@ impl Work {
         }
     }
 
-    fn warn_of_order(&self) {
-        let names = self.names.as_deref().unwrap_or_default();
-        if let Some((first, second)) = out_of_order(names) {
-            say(&format!(
-                "warning: days go in byte order of the names, and so {} comes before {}",
-                field(first),
-                field(second)
-            ));
-        }
-    }
-
     /// A refusal of the number of days.
     fn misfit(&self, refusal: Refusal) -> Stop {
-        let lines = if self.given {
-            vec![]
-        } else {
-            self.fit().misfit()
+        let lines = match refusal {
+            Refusal::FewEnds if !self.compared => self.fit().misfit(),
+            Refusal::BadD if !self.given => self.fit().misfit(),
+            _ => vec![],
         };
         Stop::Explained(refusal, self.numbers(), lines)
     }
 
     /// A refusal of the ledger or the book.
     fn explained(&self, refusal: Refusal, ledger: &Ledger, book: &[u8]) -> Stop {
+        if refusal == Refusal::FewEnds {
+            return self.misfit(refusal);
+        }
         let mut lines = match refusal {
             Refusal::BadEnd => {
                 let length = self.days.length(ledger);
@@ -238,6 +234,16 @@ impl Work {
             say("note: the ledger has bytes past the last end; they are in no day");
         }
         Ok(ledger)
+    }
+}
+
+fn warn_of_order(names: &[OsString]) {
+    if let Some((first, second)) = out_of_order(names) {
+        say(&format!(
+            "warning: days go in byte order of the names, and so {} comes before {}",
+            field(first),
+            field(second)
+        ));
     }
 }
 
@@ -288,7 +294,7 @@ fn seal(work: &Work, book: &Path, force: bool) -> Result<Done, Stop> {
 fn seal_files(work: &Work, files: &[PathBuf]) -> Result<Vec<u8>, Stop> {
     let files = files
         .get(..work.d as usize)
-        .ok_or_else(|| work.refused(Refusal::FewEnds))?;
+        .ok_or_else(|| work.misfit(Refusal::FewEnds))?;
     let mut service = Service::open(work.layout).map_err(|refusal| work.refused(refusal))?;
     let mut book = vec![0; VALUE * work.values as usize];
     let mut written = 0;
@@ -398,9 +404,12 @@ impl View {
     /// The names are those of a folder's files, or else those of a state's index.
     fn of_folder(folder: Option<&Path>, sealed: &[String], named: bool) -> Result<View, Stop> {
         let names = match folder {
-            Some(folder) => Days::find(&Source::Folder(folder.to_path_buf()))?
-                .names()
-                .map(|names| labels(&names)),
+            Some(folder) => {
+                let days = Days::find(&Source::Folder(folder.to_path_buf()))?;
+                let names = days.names().unwrap_or_default();
+                warn_of_order(&names);
+                Some(labels(&names))
+            }
             None => some(sealed),
         };
         Ok(View {
