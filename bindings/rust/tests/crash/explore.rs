@@ -8,10 +8,20 @@ use std::process::{self, Command, Stdio};
 
 use crate::model::{plain, put, tree, Call, Disk, Tree};
 
+/// The system calls that write, rename, truncate, sync, make or remove.
+const TRACED: &str = "trace=open,openat,openat2,creat,write,writev,pwrite64,pwritev,pwritev2,\
+    truncate,ftruncate,fallocate,copy_file_range,sendfile,splice,fsync,fdatasync,sync,syncfs,\
+    sync_file_range,msync,rename,renameat,renameat2,link,linkat,symlink,symlinkat,unlink,unlinkat,\
+    mkdir,mkdirat,rmdir,mknod,mknodat,fchmod,chmod,fchmodat,io_uring_enter";
+
 /// A run to be stopped, and a command that prints the state without changing it.
 pub struct Step {
     pub line: String,
     look: String,
+    /// Commands that may come next in place of a repeat.
+    others: Vec<String>,
+    /// What must hold of the files at every stop.
+    holds: fn(&Tree) -> bool,
 }
 
 impl Step {
@@ -19,7 +29,19 @@ impl Step {
         Step {
             line: line.to_string(),
             look: look.to_string(),
+            others: Vec::new(),
+            holds: |_| true,
         }
+    }
+
+    pub fn or_next(mut self, others: &[&str]) -> Step {
+        self.others = others.iter().map(|line| line.to_string()).collect();
+        self
+    }
+
+    pub fn holding(mut self, holds: fn(&Tree) -> bool) -> Step {
+        self.holds = holds;
+        self
     }
 }
 
@@ -35,7 +57,10 @@ pub struct Ran {
 pub struct Found {
     /// The files that the undisturbed run left.
     pub after: Tree,
+    /// The calls before which the run was stopped.
     pub stops: usize,
+    /// What power cuts left, each different from the others.
+    pub cuts: usize,
     pub differences: Vec<String>,
 }
 
@@ -82,6 +107,35 @@ impl Bench {
         command
     }
 
+    /// The number of calls that the shim sees, and the number that strace sees; none where there is no
+    /// strace, or it may not trace.
+    pub fn counted(&self, start: &Tree, line: &str) -> (usize, Option<usize>) {
+        put(&self.root, start);
+        let seen = self.log(line).0.len();
+        put(&self.root, start);
+        let log = self.root.with_extension("log");
+        let mut command = Command::new("strace");
+        command.args(["-f", "-qq", "-e", TRACED, "-o"]).arg(&log);
+        command.arg(&self.program).args(line.split(' '));
+        let traced = command
+            .current_dir(&self.root)
+            .stdout(Stdio::null())
+            .stderr(Stdio::null())
+            .status();
+        if !traced.is_ok_and(|status| status.success()) {
+            return (seen, None);
+        }
+        let text = fs::read_to_string(&log).unwrap();
+        fs::remove_file(&log).unwrap();
+        // an open that neither makes nor cuts a file changes nothing
+        let changes = |line: &&str| {
+            let name = line.split('(').next().unwrap_or_default();
+            !name.contains("open") || line.contains("O_CREAT") || line.contains("O_TRUNC")
+        };
+        let calls = text.lines().filter(|line| line.contains('('));
+        (seen, Some(calls.filter(changes).count()))
+    }
+
     /// The calls of an undisturbed run on what is in the folder, and how it ended.
     fn log(&self, line: &str) -> (Vec<Call>, Ran) {
         let log = self.root.with_extension("log");
@@ -108,13 +162,46 @@ impl Bench {
         for how in ["EIO", "ENOSPC"] {
             differences.extend(self.failures(start, step, calls.len(), &after, how));
         }
+        let left = states(start, &calls);
         differences.extend(self.power_cuts(start, step, &calls, &after));
         differences.extend(self.power_cuts_after_repeats(start, step, &calls, &after));
+        differences.extend(self.others(start, step, &left, &after));
         Found {
             after,
             stops: calls.len(),
+            cuts: left.len(),
             differences,
         }
+    }
+
+    /// Other commands after a stop: they go on from before or from after the step.
+    fn others(
+        &self,
+        start: &Tree,
+        step: &Step,
+        left: &BTreeSet<Tree>,
+        after: &Tree,
+    ) -> Vec<String> {
+        let mut differences = Vec::new();
+        for other in &step.others {
+            let ends = |tree: &Tree| {
+                put(&self.root, tree);
+                let ran = self.run(other);
+                (ran.status, crate::model::tree(&self.root))
+            };
+            let expected = [ends(start), ends(after)];
+            for stopped in left {
+                let (status, made) = ends(stopped);
+                // a command that is refused leaves what was there, leavings too
+                let same = |(end, tree): &(Option<i32>, Tree)| {
+                    *end == status && (status != Some(0) || *tree == made)
+                };
+                if !expected.iter().any(same) || (status != Some(0) && made != *stopped) {
+                    differences.push(format!("power cut, then {other}: status {status:?}"));
+                }
+            }
+        }
+        differences
     }
 
     fn look(&self, tree: &Tree, step: &Step) -> (Option<i32>, String) {
@@ -216,6 +303,9 @@ impl Bench {
                 if tree(&self.root) != left {
                     differences.push(format!("{where_}: looking wrote"));
                 }
+                if !(step.holds)(&left) {
+                    differences.push(format!("{where_}: the files do not belong together"));
+                }
                 differences.extend(self.repeat(step, after, &where_));
             }
             if !ended {
@@ -277,6 +367,17 @@ impl Drop for Bench {
         let _ = fs::remove_dir_all(&self.root);
         let _ = fs::remove_file(self.root.with_extension("log"));
     }
+}
+
+/// All that power cuts can leave of a run.
+fn states(start: &Tree, calls: &[Call]) -> BTreeSet<Tree> {
+    let mut disk = Disk::of(start);
+    let mut left = disk.after_power_cut();
+    for call in calls {
+        disk.apply(call);
+        left.extend(disk.after_power_cut());
+    }
+    left
 }
 
 fn ended(command: &mut Command) -> Ran {
