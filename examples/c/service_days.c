@@ -36,15 +36,13 @@ static void stop(const char *what, const char *name) {
 }
 
 static void refused(uint32_t number) {
-  fprintf(stderr, "service_days: refused with %u\n", number);
+  fprintf(stderr, "service_days: refused with %u: %s\n", number, daybook_refusal_text(number));
   exit(2);
 }
 
 static uint32_t number_at(const uint8_t *bytes) {
   return bytes[0] | (uint32_t)bytes[1] << 8 | (uint32_t)bytes[2] << 16 | (uint32_t)bytes[3] << 24;
 }
-
-static uint32_t days_closed(const uint8_t *record) { return number_at(record + 12); }
 
 /* The digest of a day of these bytes: a check of one day writes it. */
 static void digest(const uint8_t *bytes, uint32_t size, uint8_t out[DAYBOOK_VALUE]) {
@@ -104,7 +102,7 @@ static void load_state(int folder, uint8_t *state, uint8_t *book) {
   if (size != STATE_BYTES || memcmp(sum, state + SUM_AT, sizeof sum)) stop("the state is not whole", "");
   if (daybook_open(DAYBOOK_TREE, N, F, fresh) || memcmp(state, fresh, 12)) stop("the state is of another layout", "");
   uint32_t length = number_at(state + LENGTH_AT);
-  if (days_closed(state) > MOST_DAYS || length > BOOK_BYTES) stop("more than this example holds", "");
+  if (daybook_record_days(state) > MOST_DAYS || length > BOOK_BYTES) stop("more than this example holds", "");
   if (load(folder, "book", book, BOOK_BYTES + DAYBOOK_PART) < (long)length) stop("the book is missing or too short", "");
   digest(book, length, sum);
   if (memcmp(sum, state + DIGEST_AT, sizeof sum)) stop("the book does not fit the state", "");
@@ -142,7 +140,7 @@ static int open_service(const char *name) {
   int there = load(folder, "state", old, sizeof old) >= 0;
   if (there) {
     load_state(folder, state, book);
-    if (days_closed(state)) stop("it has days already: ", name);
+    if (daybook_record_days(state)) stop("it has days already: ", name);
   } else {
     test_unused(name);
     if (load(folder, "book", book, sizeof book) > 0) stop("there is a book, and no state", "");
@@ -167,7 +165,7 @@ static int close_day(const char *name, uint32_t day, const char *text) {
   int folder = locked(name);
   load_state(folder, state, book);
   sync_folder(folder); /* the state that was found is on disk: a stopped run may not have come to that */
-  uint32_t closed = days_closed(state), length = number_at(state + LENGTH_AT);
+  uint32_t closed = daybook_record_days(state), length = number_at(state + LENGTH_AT);
   snprintf(file, sizeof file, "day-%u", day);
   if (day >= 1 && day <= closed) {
     if (load(folder, file, old, sizeof old) != (long)size || memcmp(old, text, size)) stop("closed with other bytes: ", file);
@@ -189,7 +187,7 @@ static int close_day(const char *name, uint32_t day, const char *text) {
 
 static int show(const char *name) {
   load_state(locked(name), state, book);
-  printf("%u days, %u values\n", days_closed(state), number_at(state + LENGTH_AT) / DAYBOOK_VALUE);
+  printf("%u days, %u values\n", daybook_record_days(state), number_at(state + LENGTH_AT) / DAYBOOK_VALUE);
   return 0;
 }
 
@@ -199,7 +197,7 @@ static int check_days(const char *name) {
   uint32_t number, end = 0;
   int folder = locked(name);
   load_state(folder, state, book);
-  uint32_t d = days_closed(state);
+  uint32_t d = daybook_record_days(state);
   for (uint32_t i = 0; i < d; i++) {
     char file[32];
     snprintf(file, sizeof file, "day-%u", i + 1);
