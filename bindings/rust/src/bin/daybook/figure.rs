@@ -47,14 +47,13 @@ impl Verified<'_> {
         if self.d <= MOST_DAYS {
             return (1, self.d);
         }
-        let (first, last) = match self.days {
-            [] => (self.d, self.d),
-            [first, .., last] if last - first < WINDOW => (*first, *last),
-            [first, ..] => (*first, first + WINDOW - 1),
-        };
+        let first = *self.days.first().unwrap_or(&self.d);
+        let last = *self.days.last().unwrap_or(&self.d);
+        let last = last.min(first + WINDOW - 1);
         let before = (WINDOW - (last - first + 1)) / 2;
-        let start = first.saturating_sub(before + 1) / 64 * 64;
-        let start = start.min(self.d - WINDOW);
+        let start = first.saturating_sub(before + 1).min(self.d - WINDOW);
+        let even = start / 64 * 64;
+        let start = if even + WINDOW < last { start } else { even };
         (start + 1, start + WINDOW)
     }
 
@@ -378,6 +377,11 @@ impl Picture {
     /// From the close of one day to that of another.
     fn bracket(&mut self, (from, to): (u32, u32), y: f64) {
         let (x, end) = (self.close(from), self.close(to));
+        if from >= self.last || to < self.first {
+            let when = if to < self.first { "earlier" } else { "later" };
+            let text = format!("{when} than the days drawn");
+            return self.label("key", LEFT, y + 4.0, &text);
+        }
         let (top, bottom) = (y - 5.0, y + 5.0);
         self.line("bracket", (x, y), (end, y));
         for (day, x) in [(from, x), (to, end)] {
@@ -501,4 +505,36 @@ fn bar(x: f64, y: f64, width: f64, height: f64) -> String {
 fn short(number: f64) -> String {
     let text = format!("{number:.2}");
     text.trim_end_matches('0').trim_end_matches('.').to_string()
+}
+
+#[cfg(test)]
+mod tests {
+    use super::*;
+
+    #[test]
+    fn days_drawn() {
+        let window = |d, days: &[u32]| {
+            let reading = Reading::Clean { last_good: d };
+            let (layout, outcomes) = (Layout::tree(1), &[][..]);
+            let verified = Verified {
+                layout,
+                d,
+                outcomes,
+                reading,
+                days,
+            };
+            verified.window()
+        };
+        assert_eq!(window(64, &[19]), (1, 64));
+        assert_eq!(window(2048, &[19]), (1, 2048));
+        assert_eq!(window(2049, &[19]), (1, 1024));
+        assert_eq!(window(2049, &[2049]), (1026, 2049));
+        assert_eq!(window(65_536, &[]), (64_513, 65_536));
+        assert_eq!(window(65_536, &[65_536]), (64_513, 65_536));
+        // 30000 in the middle, from a multiple of 64 on
+        assert_eq!(window(65_536, &[30_000]), (29_441, 30_464));
+        // listed days as wide as the window, or wider
+        assert_eq!(window(65_536, &[100, 1123]), (100, 1123));
+        assert_eq!(window(65_536, &[100, 1124]), (100, 1123));
+    }
 }
