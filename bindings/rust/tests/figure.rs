@@ -174,6 +174,11 @@ fn many_days_around_the_listed_ones() {
         "daybook: note: the figure shows the days 1473 to 2496 of 2560\n"
     );
     assert!(picture.contains("2560 days, of which 1473 to 2496 are drawn"));
+    let folder = altered("later", layout, 3072, &[2]);
+    let (picture, _) = drawn(&folder, layout, 1);
+    assert!(picture.contains(">low 2560, high 3072</text>"));
+    assert!(picture.contains(">later than the days drawn</text>"));
+    assert!(picture.contains(">none</text>")); // last good
     let layout = "--scheme 2 --n 256 --f 1";
     let folder = altered("all", layout, 2048, &[2000]);
     let (picture, messages) = drawn(&folder, layout, 1);

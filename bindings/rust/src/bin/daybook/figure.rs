@@ -377,10 +377,14 @@ impl Picture {
     /// From the close of one day to that of another.
     fn bracket(&mut self, (from, to): (u32, u32), y: f64) {
         let (x, end) = (self.close(from), self.close(to));
-        if from >= self.last || to < self.first {
-            let when = if to < self.first { "earlier" } else { "later" };
-            let text = format!("{when} than the days drawn");
-            return self.label("key", LEFT, y + 4.0, &text);
+        let missed = match to {
+            0 => Some("none"),
+            _ if to < self.first => Some("earlier than the days drawn"),
+            _ if from >= self.last => Some("later than the days drawn"),
+            _ => None,
+        };
+        if let Some(text) = missed {
+            return self.label("key", LEFT, y + 4.0, text);
         }
         let (top, bottom) = (y - 5.0, y + 5.0);
         self.line("bracket", (x, y), (end, y));
