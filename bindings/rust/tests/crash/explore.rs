@@ -164,7 +164,8 @@ impl Bench {
         }
         let left = states(start, &calls);
         differences.extend(self.power_cuts(start, step, &calls, &after));
-        differences.extend(self.power_cuts_after_repeats(start, step, &calls, &after));
+        let all = |_: &Call| true;
+        differences.extend(self.power_cuts_after_repeats(start, step, &calls, &after, all));
         differences.extend(self.others(start, step, &left, &after));
         Found {
             after,
@@ -316,13 +317,14 @@ impl Bench {
     }
 
     /// A kill, a repeat, and a power cut before each call of the repeat and after its last: what the
-    /// repeat says must last.
-    fn power_cuts_after_repeats(
+    /// repeat says must last. Of the repeat's calls those are made that are told.
+    pub fn power_cuts_after_repeats(
         &self,
         start: &Tree,
         step: &Step,
         calls: &[Call],
         after: &Tree,
+        made: fn(&Call) -> bool,
     ) -> Vec<String> {
         let mut differences = Vec::new();
         let done = self.look(after, step);
@@ -339,7 +341,7 @@ impl Bench {
                 ));
             }
             let mut again = disk.clone();
-            for repeat in &repeated {
+            for repeat in repeated.iter().filter(|call| made(call)) {
                 let left = again.synced();
                 let where_ = format!("killed before call {}, repeated, power cut", number + 1);
                 if seen.insert(left.clone()) {

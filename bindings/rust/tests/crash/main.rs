@@ -2,8 +2,11 @@
 //! kill, a full disk, a failing call and a power cut; then repeats it and compares what it leaves with
 //! an undisturbed run. `.ci/crash` builds what this needs and runs it.
 
+#[path = "../common/mod.rs"]
+mod common;
 mod explore;
 mod model;
+mod plain;
 
 use std::env;
 use std::fs;
@@ -11,6 +14,7 @@ use std::path::PathBuf;
 
 use explore::{Bench, Step};
 use model::{put, tree, Call, Tree};
+use plain::{Asked, Plain};
 
 const PROGRAM: &str = env!("CARGO_BIN_EXE_daybook");
 
@@ -296,8 +300,14 @@ fn each_sync_counts() {
                 "{line}: the sync of {sync} has no weight"
             );
         }
+        // a repeat that finds its step done must flush the folder too
+        let flushed =
+            |call: &Call| !matches!(call, Call::Sync(path) if path.is_empty() || path == "s");
+        let found = bench.power_cuts_after_repeats(&start, &step, &calls, &after, flushed);
+        assert!(!found.is_empty(), "{line}: a repeat's flush has no weight");
         start = after;
     }
+    println!("crash: each flush of open, add and close that is left out is found");
 }
 
 /// Numbers from a fixed seed (xorshift).
@@ -312,6 +322,70 @@ impl Random {
     }
 }
 
+/// Commands at random, many of them killed, against a plain account of what they are to do.
+#[test]
+#[ignore = "run by .ci/crash"]
+fn commands_at_random() {
+    let bench = bench("random", PROGRAM);
+    put(&bench.root, &Tree::new());
+    assert_eq!(bench.run("open s --scheme 3 --n 1 --f 1").status, Some(0));
+    let mut random = Random(0x2545_f491_4f6c_dd1d);
+    let mut plain = Plain::default();
+    let (mut kills, mut statuses) = (0, [0; 4]);
+    for number in 0..RUNS {
+        let asked = Asked::random(&plain, &mut |end| random.below(end));
+        let line = asked.line(&bench.root);
+        let (status, after) = plain.asked(&asked);
+        if random.below(3) == 0 {
+            let ran = bench.stopped(&line, 1 + random.below(CALLS), "kill");
+            if ran.status.is_none() {
+                kills += 1;
+                // before or after it: the rest goes on from there
+                if plain::status(&bench) == after.numbers() {
+                    plain = after;
+                }
+                assert_eq!(plain::status(&bench), plain.numbers(), "{number}: {line}");
+                continue;
+            }
+            assert_eq!(
+                ran.status,
+                Some(status),
+                "{number}: {line}: {}",
+                ran.messages
+            );
+        } else {
+            let ran = bench.run(&line);
+            assert_eq!(
+                ran.status,
+                Some(status),
+                "{number}: {line}: {}",
+                ran.messages
+            );
+        }
+        plain = after;
+        statuses[status as usize] += 1;
+        assert_eq!(plain::status(&bench), plain.numbers(), "{number}: {line}");
+    }
+    let days = plain.days();
+    let read = |name: &str| fs::read(bench.root.join(name)).unwrap();
+    let sealed = common::book(daybook::Layout::tree(1), &days);
+    assert!(read("s/book") == sealed, "the book is another one");
+    let index = String::from_utf8(read("s/index")).unwrap();
+    assert_eq!(index.lines().count(), days.len());
+    for (line, (number, day)) in index.lines().zip(days.iter().enumerate()) {
+        let digest = common::hex(&common::digest(day));
+        let front = format!("{},{},{digest},", number + 1, day.len());
+        assert!(line.starts_with(&front), "{line}");
+    }
+    println!(
+        "crash: {RUNS} commands at random: {} done, {} faults, {kills} kills, {} days, as told",
+        statuses[0],
+        statuses[3],
+        days.len()
+    );
+}
+
+const RUNS: usize = 1000;
 const DAYS: u64 = 3000;
 const STOPS: usize = 200;
 /// The calls of a close, from its first sync to its last message.

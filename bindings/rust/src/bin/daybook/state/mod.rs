@@ -56,9 +56,8 @@ pub enum Service {
 
 /// Whether a folder is a state folder, whole or not.
 pub fn is_state(folder: &Path) -> bool {
-    [LAYOUT, RECORD, LOCK]
-        .iter()
-        .all(|name| folder.join(name).is_file())
+    let has = |name: &str| folder.join(name).is_file();
+    has(LOCK) && (has(LAYOUT) || has(RECORD))
 }
 
 pub fn run(folder: &Path, service: &Service) -> Result<Done, Stop> {
