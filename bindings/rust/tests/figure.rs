@@ -6,7 +6,7 @@ use std::fs;
 use std::path::Path;
 use std::process::{Command, Stdio};
 
-use common::Folder;
+use common::{ledger, Folder};
 
 const PROGRAM: &str = env!("CARGO_BIN_EXE_daybook");
 
@@ -22,26 +22,33 @@ fn run(folder: &Folder, line: &str) -> (i32, String, String) {
     (status, text(output.stdout), text(output.stderr))
 }
 
-/// The days of the demonstration, sealed under the layout; then some are altered.
+/// The days of the demonstration as a ledger with its ends, sealed under the layout; then some are
+/// altered.
 fn altered(name: &str, layout: &str, d: u32, changed: &[u32]) -> Folder {
     let folder = Folder::new(&format!("figure-{name}"));
-    fs::create_dir(folder.file("days")).unwrap();
-    let file = |day: u32| folder.file(&format!("days/{day:05}"));
-    for day in 1..=d {
-        let text = format!("day {day}: wheat {}\n", day * 37 % 101);
-        fs::write(file(day), text).unwrap();
-    }
-    let seal = run(&folder, &format!("seal {layout} --days days --book book"));
+    let plain = |day: u32| format!("day {day}: wheat {}\n", day * 37 % 101);
+    let mut days: Vec<Vec<u8>> = (1..=d).map(|day| plain(day).into_bytes()).collect();
+    write_ledger(&folder, &days);
+    let seal = format!("seal {layout} --ledger ledger --ends ends --book book");
+    let seal = run(&folder, &seal);
     assert_eq!(seal.0, 0, "{}", seal.2);
     for day in changed {
-        fs::write(file(*day), format!("day {day}: wheat 999\n")).unwrap();
+        days[*day as usize - 1] = format!("day {day}: wheat 999\n").into_bytes();
     }
+    write_ledger(&folder, &days);
     folder
+}
+
+fn write_ledger(folder: &Folder, days: &[Vec<u8>]) {
+    let (bytes, ends) = ledger(days);
+    let ends: Vec<u8> = ends.iter().flat_map(|end| end.to_le_bytes()).collect();
+    fs::write(folder.file("ledger"), bytes).unwrap();
+    fs::write(folder.file("ends"), ends).unwrap();
 }
 
 /// Verifies and gives the picture and the messages.
 fn drawn(folder: &Folder, layout: &str, status: i32) -> (String, String) {
-    let line = format!("verify {layout} --days days --book book --figure out.svg");
+    let line = format!("verify {layout} --ledger ledger --ends ends --book book --figure out.svg");
     let ran = run(folder, &line);
     assert_eq!(ran.0, status, "{}", ran.2);
     let picture = fs::read_to_string(folder.file("out.svg")).unwrap();
@@ -190,11 +197,11 @@ fn many_days_around_the_listed_ones() {
 fn where_a_figure_is_written() {
     let layout = "--scheme 2 --n 4 --f 1";
     let folder = altered("where", layout, 4, &[4]);
-    let verify = format!("verify {layout} --days days --book book --figure");
+    let verify = format!("verify {layout} --ledger ledger --ends ends --book book --figure");
     let book = fs::read(folder.file("book")).unwrap();
     for (path, text) in [
         ("book", "the same file"),
-        ("days/new.svg", "would be a day"),
+        ("ends", "the same file"),
         ("none/new.svg", "cannot be written"),
     ] {
         let (status, out, messages) = run(&folder, &format!("{verify} {path}"));
@@ -202,6 +209,13 @@ fn where_a_figure_is_written() {
         assert!(messages.contains(text), "{messages}");
     }
     assert_eq!(fs::read(folder.file("book")).unwrap(), book);
+    fs::create_dir(folder.file("days")).unwrap();
+    let days = format!("verify {layout} --days days --book book --figure days/new.svg");
+    let (status, _, messages) = run(&folder, &days);
+    assert!(
+        status == 3 && messages.contains("would be a day"),
+        "{messages}"
+    );
     // a refusal draws nothing, and an old figure stays
     fs::write(folder.file("old.svg"), "old").unwrap();
     fs::write(folder.file("book"), &book[..127]).unwrap();
