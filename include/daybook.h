@@ -22,8 +22,8 @@ extern "C" {
 #endif
 
 /* The version of this header: 10000 * major + 100 * minor + patch, and as text. */
-#define DAYBOOK_VERSION 100
-#define DAYBOOK_VERSION_TEXT "0.1.0"
+#define DAYBOOK_VERSION 200
+#define DAYBOOK_VERSION_TEXT "0.2.0"
 
 /* The bytes of a record. To be kept on disk as it is: no padding, the same on every machine.
  * Numbers are 32 bits, little-endian:
@@ -148,6 +148,13 @@ static inline uint32_t daybook_record_open_bytes(const uint8_t record[DAYBOOK_RE
 
 /* The number of values in the book of D days, to values[0]. Refusals 1 2 3 7. */
 uint32_t daybook_values(uint32_t scheme, uint32_t n, uint32_t f, uint32_t d, uint32_t values[1]);
+
+/* The number of values of the days that a record has closed, to values[0], whether or not they make
+ * whole intervals: what its closes have written so far. Refusal 6. */
+uint32_t daybook_record_values(const uint8_t record[DAYBOOK_RECORD], uint32_t values[1]);
+
+/* The version of the archive, as DAYBOOK_VERSION is that of this header. */
+uint32_t daybook_version(void);
 
 #ifdef __cplusplus
 }

@@ -59,6 +59,12 @@ pub const DAYS_LIMIT: u32 = 65_536;
 /// Bytes that are enough for any book: scheme 3, N 1, 65,536 days.
 pub const BOOK_LIMIT: usize = 6_290_880;
 
+/// The version of the archive: 10000 · major + 100 · minor + patch.
+#[must_use]
+pub fn version() -> u32 {
+    ffi::version()
+}
+
 /// The code of the package's page, as doc tests.
 #[cfg(doctest)]
 #[doc = include_str!("../README.md")]

@@ -154,6 +154,28 @@ impl Service {
         self.number_at(16)
     }
 
+    /// The number of values of the days closed: what the closes have written so far.
+    ///
+    /// # Errors
+    ///
+    /// [`Refusal::BadRecord`], as for [`Service::add`].
+    ///
+    /// ```
+    /// use daybook::{Layout, Refusal, Service};
+    ///
+    /// let mut service = Service::open(Layout::tree(4))?;
+    /// for _ in 0..3 {
+    ///     service.close_day()?;
+    /// }
+    /// assert_eq!(service.values(), Ok(4)); // days 1, 2 and 3 have 1, 2 and 1
+    /// # Ok::<(), Refusal>(())
+    /// ```
+    pub fn values(&self) -> Result<u32, Refusal> {
+        let mut values = [0];
+        Refusal::answer(ffi::record_values(&self.record, &mut values))?;
+        Ok(values[0])
+    }
+
     /// The 32 bits at this place of the record, little-endian.
     fn number_at(&self, at: usize) -> u32 {
         let mut bytes = [0; 4];

@@ -57,6 +57,7 @@ fn version() {
     let parts: Vec<u32> = text.split('.').map(|part| part.parse().unwrap()).collect();
     let number = 10_000 * parts[0] + 100 * parts[1] + parts[2];
     assert_eq!(defined(&header, "DAYBOOK_VERSION"), number.to_string());
+    assert_eq!(daybook::version(), number);
 }
 
 /// The names of the refusals by their numbers, from the enum.
