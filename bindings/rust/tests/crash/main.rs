@@ -75,17 +75,18 @@ fn steps(lines: &[&str], look: &str) -> Vec<Step> {
 
 /// The steps of a service, each with others that may come next.
 fn service(lines: &[&str]) -> Vec<Step> {
-    let others: Vec<String> = (1..=5)
-        .flat_map(|day| {
-            [
-                format!("add s --day {day} --at 0 b"),
-                format!("close s --day {day} c"),
-            ]
-        })
-        .chain(["close s --day 2".to_string()])
-        .collect();
-    let others: Vec<&str> = others.iter().map(String::as_str).collect();
-    let step = |line: &&str| Step::new(line, "status s").or_next(&others);
+    let step = |line: &&str| {
+        let mut words = line.split(' ').skip_while(|word| *word != "--day");
+        let day: u32 = words.nth(1).map_or(0, |day| day.parse().unwrap());
+        let next = day + 1;
+        Step::new(line, "status s").or_next(&[
+            &format!("add s --day {day} --at 0 b"),
+            &format!("close s --day {day} c"),
+            &format!("close s --day {day}"),
+            &format!("add s --day {next} --at 0 b"),
+            &format!("close s --day {next} c"),
+        ])
+    };
     lines.iter().map(step).collect()
 }
 

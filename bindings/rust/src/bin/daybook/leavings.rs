@@ -14,11 +14,12 @@ pub fn parent(place: &Path) -> &Path {
     place.parent().unwrap_or(Path::new("/"))
 }
 
-/// A new file of a temporary name, locked as long as it is held.
+/// A new file of a temporary name, locked as long as it is held. Where files cannot be locked, the
+/// number of the process alone tells that it is in use.
 pub fn make_file(folder: &Path) -> io::Result<(File, PathBuf)> {
     make(folder, |path| {
         let file = OpenOptions::new().write(true).create_new(true).open(path)?;
-        file.try_lock()?;
+        let _ = file.try_lock();
         Ok(file)
     })
 }

@@ -89,16 +89,13 @@ pub fn sync_folder(folder: &Path) -> Result<(), Stop> {
     })
 }
 
-/// Writes the bytes behind the first `length` of a file, which end it then, flushed to disk. A file
-/// that is not there is made, if its front is empty.
+/// Writes the bytes behind a file that has `length` of them, flushed to disk. A file that is not there
+/// is made, if it has none.
 pub fn append(path: &Path, length: u64, bytes: &[u8]) -> Result<(), Stop> {
     let written = || -> io::Result<()> {
         let mut options = OpenOptions::new();
         options.write(true).create(length == 0).truncate(false);
         let mut file = options.open(path)?;
-        if file.metadata()?.len() > length {
-            file.set_len(length)?;
-        }
         file.seek(SeekFrom::Start(length))?;
         file.write_all(bytes)?;
         file.sync_all()
