@@ -97,24 +97,35 @@ check-day-requires c κs = day-needs (c .before .before .before .before .before 
 
 -- the day's bytes are those between its start and its end
 is-day : (c : tie.After-wide2 Inv-loop μ-loop) →
-    take (c .before .before .before .before .before .before .before .before .before .before .before .before .before .end-of .result -
-    c .before .before .before .before .before .before .before .before .before .before .before .before .before .before .start-of .result)
-    (drop (c .before .before .before .before .before .before .before .before .before .before .before .before .before .before .start-of .result)
-    (c .before .before .before .before .before .before .before .before .before .before .before .before .before .before .before .before .before .before .before .before .before .before .before .before .args .ledger .now)) ≡
-    dayAt (c .before .before .before .before .before .before .before .before .before .before .before .before .before .before .before .before .before .before .before .before .before .before .before .before .args .ledger .now) (c .before .before .before .before .before .before .before .before .before .before .before .before .before .before .before .before .before .before .before .before .before .before .before .before .args .ends .now) (c .before .before .before .before .before .before .before .before .before .before .before .before .before .before .before .before .loop .i)
-is-day c = ap₂ (λ (x y : ℕ). take (y - x) (drop x (c .before .before .before .before .before .before .before .before .before .before .before .before .before .before .before .before .before .before .before .before .before .before .before .before .args .ledger .now))) (c .before .before .before .before .before .before .before .before .before .before .before .before .before .before .start-of .ensures) (c .before .before .before .before .before .before .before .before .before .before .before .before .before .end-of .ensures)
+    let loop = c .before .before .before .before .before .before .before .before .before .before .before .before .before .before .before .before in
+    let args = loop .before .before .before .before .before .before .before .before .args in
+    let start = c .before .before .before .before .before .before .before .before .before .before .before .before .before .before .start-of .result in
+    let end = c .before .before .before .before .before .before .before .before .before .before .before .before .before .end-of .result in
+    take (end - start) (drop start (args .ledger .now)) ≡ dayAt (args .ledger .now) (args .ends .now) (loop .loop .i)
+is-day c =
+    let loop = c .before .before .before .before .before .before .before .before .before .before .before .before .before .before .before .before in
+    ap₂ (λ (x y : ℕ). take (y - x) (drop x (loop .before .before .before .before .before .before .before .before .args .ledger .now)))
+    (c .before .before .before .before .before .before .before .before .before .before .before .before .before .before .start-of .ensures) (c .before .before .before .before .before .before .before .before .before .before .before .before .before .end-of .ensures)
 
 add-at : tie.Need-add-at Inv-loop μ-loop
 add-at c =
-    let q = outcomes-fit (c .before .before .before .before .before .before .before .before .before .before .before .before .before .before .before .before .before .before .before .before .before .before .before .before .pre) (c .before .before .before .before .before .before .before .before .before .before .before .before .before .before .before .before .loop .inv .3) (turn (c .before .before .before .before .before .before .before .before .before .before .before .before .before .before .before)) (is-day c) (c .before .before .before .before .before .before .before .before .before .before .before .before .day-number .ensures) (c .before .before .before .before .before .before .before .before .before .before .before .before .before .before .before .before .loop .inv .2) (c .before .before .before .before .before .before .before .check-day .ensures .0) (c .before .before .before .before .before .before .before .check-day .ensures .1 .0) (c .before .before .before .before .before .before .before .check-day .ensures .1 .1) in
-    omega (arith, q, c .wide2 .ensures, c .before .before .before .before .before .before .before .before .before .before .before .before .before .before .before .before .before .before .before .before .before .before .before .before .good .1 .1 .1 .1 .1 .1 .1 .0 .0)
+    let loop = c .before .before .before .before .before .before .before .before .before .before .before .before .before .before .before .before in
+    let day = c .before .before .before .before .before .before .before .check-day .ensures in
+    let start = loop .before .before .before .before .before .before .before .before in
+    let q = outcomes-fit (start .pre) (loop .loop .inv .3) (turn (c .before .before .before .before .before .before .before .before .before .before .before .before .before .before .before)) (is-day c) (c .before .before .before .before .before .before .before .before .before .before .before .before .day-number .ensures)
+    (loop .loop .inv .2) (day .0) (day .1 .0) (day .1 .1) in
+    omega (arith, q, c .wide2 .ensures, start .good .1 .1 .1 .1 .1 .1 .1 .0 .0)
 
 loop-again : tie.Need-loop-again Inv-loop μ-loop
 loop-again c = (
   search needs,
   search needs,
   c .before .before .before .before .before .before .before .before .before .before .before .before .before .before .before .before .loop .inv .2,
-  rw (c .wide2 .ensures) (through-next (c .before .before .before .before .before .before .before .before .before .before .before .before .before .before .before .before .before .before .before .before .before .before .before .before .pre) (c .before .before .before .before .before .before .before .before .before .before .before .before .before .before .before .before .loop .inv .3) (turn (c .before .before .before .before .before .before .before .before .before .before .before .before .before .before .before)) (is-day c) (c .before .before .before .before .before .before .before .before .before .before .before .before .day-number .ensures) (c .before .before .before .before .before .before .before .before .before .before .before .before .before .before .before .before .loop .inv .2) (c .before .before .before .before .before .before .before .check-day .ensures .0) (c .before .before .before .before .before .before .before .check-day .ensures .1 .0) (c .before .before .before .before .before .before .before .check-day .ensures .1 .1)),
+  let loop = c .before .before .before .before .before .before .before .before .before .before .before .before .before .before .before .before in
+      let day = c .before .before .before .before .before .before .before .check-day .ensures in
+      rw (c .wide2 .ensures)
+      (through-next (loop .before .before .before .before .before .before .before .before .pre) (loop .loop .inv .3) (turn (c .before .before .before .before .before .before .before .before .before .before .before .before .before .before .before)) (is-day c)
+      (c .before .before .before .before .before .before .before .before .before .before .before .before .day-number .ensures) (loop .loop .inv .2) (day .0) (day .1 .0) (day .1 .1)),
 )
 
 returns : tie.Need-returns Inv-loop μ-loop
