@@ -10,9 +10,9 @@ use lib.Dec.{eqb, leb}
 use lib.ListN.{length, getD, drop}
 use lib.Seq.{drop-cons, drop-length}
 use borrow.Author.Tests.{eqb-true, ne-eqb, le-leb, lt-leb, leb-true}
-use Rattle.evidence.specs.Evidence.{meets, tableOf, accepted}
+use Rattle.evidence.specs.Evidence.{tableOf, accepted}
 use Rattle.lists.proofs.Laws.{true-or-false, or-split, and-both, bool-ext, mem-has}
-use Rattle.evidence.proofs.TableLaws.{given-iff-accepted}
+use Rattle.evidence.proofs.TableLaws.{none-met, given-iff-accepted}
 use Rattle.acceptance.specs.Private.{Bits}
 use Rattle.reading.specs.Contract.{bits}
 use Rattle.reading.specs.Private.{inTurn, greatest, least}
@@ -56,10 +56,6 @@ bits-by t = bits-from t 0
 least-most : (t : List ℕ) (v : ℕ) → inTurn min v t ≤ v
 least-most [] v = omega arith
 least-most (o ∷ t) v = let e = least-most t (min v o) in omega arith
-
-none-met : (c : List ℕ) → meets [] c ≡ false
-none-met [] = refl
-none-met (g ∷ c) = none-met c
 
 -- no changed day gives a table of passes
 pass-table : (cs : List (List ℕ)) (t : List ℕ) → length t ≡ length cs → bits t ≡ true → least t ≡ 1 → tableOf cs [] ≡ t
