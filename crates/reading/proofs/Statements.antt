@@ -1,6 +1,6 @@
 -- The statements of specs/Statements.antt, proved.
 use mathlib.Core.Path.{_≡_, refl, sym, ap, _∙_}
-use mathlib.Core.Logic.{_⊎_, inl, inr}
+use mathlib.Core.Logic.{inl, inr}
 use mathlib.Core.Bool.{Bool, true, false, cond}
 use mathlib.Core.List.{List, [], _∷_, _++_}
 use Prim.Native.Nat.{ℕ, zero, suc, _≤_}
@@ -84,20 +84,11 @@ read-if-given s n f d o l u = (
 )
 
 pub says-no-set : SaysNoSet
-says-no-set s n f d o l u = (forth, back)
-  where
-    forth : readout s n f d o l .report .refusal ≡ 14 → (bits (tableIn s n d o) ≡ true) × (SomeSet s n d o → ⊥)
-    forth e =
-        let q = failed (bits (tableIn s n d o)) (accepted (chains s n d) d (tableIn s n d o)) (sym (by-given s n f d o l u) ∙ e) in
-        (q .0, λ h. true-or-false (set-accepted s n f d o l u h) (q .1))
-
-    no-set : (SomeSet s n d o → ⊥) → (accepted (chains s n d) d (tableIn s n d o) ≡ true) ⊎ (accepted (chains s n d) d (tableIn s n d o) ≡ false) →
-        accepted (chains s n d) d (tableIn s n d o) ≡ false
-    no-set h (inl e) = absurd (h (accepted-set s n f d o l u e))
-    no-set h (inr e) = e
-
-    back : (bits (tableIn s n d o) ≡ true) × (SomeSet s n d o → ⊥) → readout s n f d o l .report .refusal ≡ 14
-    back h = by-given s n f d o l u ∙ rw (h .0, no-set (h .1) (split (accepted (chains s n d) d (tableIn s n d o))))
+says-no-set s n f d o l u =
+    let a = accepted (chains s n d) d (tableIn s n d o) in (
+      λ e. let q = failed (bits (tableIn s n d o)) a (sym (by-given s n f d o l u) ∙ e) in (q .0, λ h. true-or-false (set-accepted s n f d o l u h) (q .1)),
+      λ h. let no : a ≡ false = elim (split a) [ inl e ↦ absurd (h .1 (accepted-set s n f d o l u e)) | inr e ↦ e ] in by-given s n f d o l u ∙ rw (h .0, no),
+    )
 
 -- ---- the days listed
 

@@ -43,9 +43,6 @@ start-of-requires c κs = omega (arith, turn c, c .before .before .before .befor
 end-of-requires : tie.Need-end-of-requires Inv-loop μ-loop
 end-of-requires c κs = omega (arith, turn (c .before), c .before .before .before .before .before .before .before .before .before .before .pre .ends-hold .enough)
 
-mul-from : tie.Need-mul-from Inv-loop μ-loop
-mul-from c = omega (arith, begin (c .before .before) .0)
-
 mul-done : tie.Need-mul-done Inv-loop μ-loop
 mul-done c = omega (arith, begin (c .before .before) .1, turn (c .before .before), c .before .before .before .before .before .before .before .before .before .before .before .pre .days-most)
 
@@ -61,9 +58,6 @@ sub-check-day c = omega (
       (turn (c .before .before .before)),
 )
 
-part-check-day-start : tie.Need-part-check-day-start Inv-loop μ-loop
-part-check-day-start c = sub-check-day c
-
 part-check-day-end : tie.Need-part-check-day-end Inv-loop μ-loop
 part-check-day-end c = omega (
   arith,
@@ -71,24 +65,6 @@ part-check-day-end c = omega (
   c .before .before .before .before .before .before .before .before .before .before .before .before .pre .ends-hold .within
       (c .before .before .before .before .loop .i) (turn (c .before .before .before)),
 )
-
-sub-check-day-2 : tie.Need-sub-check-day-2 Inv-loop μ-loop
-sub-check-day-2 c = begin (c .before .before .before .before) .0
-
-part-check-day-start-2 : tie.Need-part-check-day-start-2 Inv-loop μ-loop
-part-check-day-start-2 c = begin (c .before .before .before .before) .0
-
-sub-check-day-3 : tie.Need-sub-check-day-3 Inv-loop μ-loop
-sub-check-day-3 c = begin (c .before .before .before .before .before) .1
-
-part-check-day-start-3 : tie.Need-part-check-day-start-3 Inv-loop μ-loop
-part-check-day-start-3 c = begin (c .before .before .before .before .before) .1
-
-sub-check-day-4 : tie.Need-sub-check-day-4 Inv-loop μ-loop
-sub-check-day-4 c = begin (c .before .before .before .before .before .before) .2
-
-part-check-day-start-4 : tie.Need-part-check-day-start-4 Inv-loop μ-loop
-part-check-day-start-4 c = begin (c .before .before .before .before .before .before) .2
 
 check-day-requires : tie.Need-check-day-requires Inv-loop μ-loop
 check-day-requires c κs = day-needs (c .before .before .before .before .before .before .before .before .before .before .before .before .before .before .before .before .pre)
@@ -135,8 +111,12 @@ returns c =
 
 pub check-days-spec : {M : Type 1} → statement M
 check-days-spec = tie.close (tie.spec Inv-loop μ-loop (λ c. λ κs. search needs) (λ c. λ κs. search needs) loop-holds
-    start-of-requires end-of-requires mul-from mul-done day-number-requires sub-check-day part-check-day-start
-    part-check-day-end sub-check-day-2 part-check-day-start-2 (λ c. search needs) sub-check-day-3 part-check-day-start-3
-    (λ c. search needs) sub-check-day-4 part-check-day-start-4 (λ c. search needs) check-day-requires
+    start-of-requires end-of-requires (λ c. omega (arith, begin (c .before .before) .0)) mul-done day-number-requires
+    sub-check-day (λ c. sub-check-day c) part-check-day-end (λ c. begin (c .before .before .before .before) .0)
+    (λ c. begin (c .before .before .before .before) .0) (λ c. search needs)
+    (λ c. begin (c .before .before .before .before .before) .1)
+    (λ c. begin (c .before .before .before .before .before) .1) (λ c. search needs)
+    (λ c. begin (c .before .before .before .before .before .before) .2)
+    (λ c. begin (c .before .before .before .before .before .before) .2) (λ c. search needs) check-day-requires
     (λ c. λ κs. search needs) add-at (λ c. search needs) (λ c. search needs) loop-again (λ c. search needs)
     (λ c. search needs) returns)

@@ -18,15 +18,11 @@ abbrev μ-loop : tie.MeasureT-loop
 
 pub ends-refusal-spec : {M : Type 1} → statement M
 ends-refusal-spec = tie.close (tie.spec
-    Inv-loop μ-loop (λ c. λ κs. search needs) (λ c. sym (refusal-9 _ _ _ (omega arith))) (λ c. (search needs, refl))
-    (λ c. λ κs. search needs) (λ c. λ κs. search needs) (λ c. λ κs. search needs)
-    (λ c. sym (test-bad _ _ _ _ _ _ (c .before .before .before .start-of .ensures) (c .before .before .end-of .ensures)
-    (c .before .good-end .ensures) (not-true _ (c .if2 .taken)) _ (omega arith) (omega arith)))
+    Inv-loop μ-loop (λ c κs. search needs) (λ c. sym (refusal-9 _ _ _ (omega arith))) (λ c. (search needs, refl))
+    (λ c κs. search needs) (λ c κs. search needs) (λ c κs. search needs)
+    (λ c. let b = c .before in
+    sym (test-bad _ _ _ _ _ _ (b .before .before .start-of .ensures) (b .before .end-of .ensures) (b .good-end .ensures) (not-true _ (c .if2 .taken)) _ (omega arith) (omega arith)))
     (λ c. search needs) (λ c. search needs)
-    (λ c. let l = c .before .before .before .before .before .loop in (
-      search needs,
-      test-good (c .before .before .before .before .before .before .before .before .before .args .ends .now) _
-          (l .i) _ _ _ (c .before .before .before .start-of .ensures) (c .before .before .end-of .ensures)
-          (c .before .good-end .ensures) (not-false _ (c .if2 .left)) (l .inv .1),
-    ))
+    (λ c. let b = c .before in let l = b .before .before .before .before .loop in
+    (search needs, test-good _ _ (l .i) _ _ _ (b .before .before .start-of .ensures) (b .before .end-of .ensures) (b .good-end .ensures) (not-false _ (c .if2 .left)) (l .inv .1)))
     (λ c. sym (refusal-0 _ _ _ (c .before .loop .i) (c .before .loop .inv .1) (omega arith) (omega arith))))

@@ -16,18 +16,13 @@ abbrev μ-loop : tie.MeasureT-loop
 
 pub digits-end-spec : {M : Type 1} → statement M
 digits-end-spec = tie.close (tie.spec
-    Inv-loop μ-loop (λ c. search needs) (λ c. search needs) (λ c. λ κs. search needs)
-    (λ c. let a = c .before .before .before .before .before .before .args in
-    let l = c .before .before .before .before .loop in
-    digits-found (a .s .now) (a .at) (l .i) (c .before .before .before .loop-test .taken) (c .before .is-digit .ensures)
-    (c .if1 .taken) (l .inv .2))
+    Inv-loop μ-loop (λ c. search needs) (λ c. search needs) (λ c κs. search needs)
+    (λ c. let b = c .before .before .before in let a = b .before .before .before .args in
+    digits-found (a .s .now) (a .at) (b .before .loop .i) (b .loop-test .taken) (c .before .is-digit .ensures) (c .if1 .taken) (b .before .loop .inv .2))
     (λ c. search needs) (λ c. search needs)
-    (λ c. let a = c .before .before .before .before .before .before .args in
-    let l = c .before .before .before .before .loop in (
+    (λ c. let b = c .before .before .before in let a = b .before .before .before .args in (
       search needs,
       search needs,
-      digits-next (a .s .now) (a .at) (l .i) (c .before .before .before .loop-test .taken)
-          (c .before .is-digit .ensures) (c .if1 .left) (l .inv .2),
+      digits-next (a .s .now) (a .at) (b .before .loop .i) (b .loop-test .taken) (c .before .is-digit .ensures) (c .if1 .left) (b .before .loop .inv .2),
     ))
-    (λ c. digits-all (c .before .before .before .args .s .now) (c .before .before .before .args .at) (c .before .loop .i)
-    (c .loop-test .left) (c .before .loop .inv .2)))
+    (λ c. let a = c .before .before .before .args in digits-all (a .s .now) (a .at) (c .before .loop .i) (c .loop-test .left) (c .before .loop .inv .2)))

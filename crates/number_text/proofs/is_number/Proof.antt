@@ -1,13 +1,17 @@
 -- `number_text::is_number` meets its contract.
-use Rattle.number_text.proofs.FieldLaws.{number-none, number-long, number-one, number-more}
-use mathlib.Core.Path.{refl}
+use Rattle.number_text.proofs.FieldLaws.{number-more}
+use Rattle.number_text.specs.Numbers.{isNumber}
+use native.Mathlib.Omega.{arith}
+use lib.ListN.{length}
+use borrow.Author.Tests.{le-leb, lt-leb}
 use borrow.Author.Needs.{needs}
 use Rattle.number_text.proofs.is_number.Statement.{statement}
 use Rattle.number_text.proofs.is_number.Tie as tie
 
 pub is-number-spec : {M : Type 1} → statement M
-is-number-spec = tie.close (tie.spec (λ c. number-none (c .before .args .ds .now) refl (c .if1 .taken))
-    (λ c. number-long (c .before .before .args .ds .now) (c .if2 .taken))
-    (λ c. number-one (c .before .before .before .args .ds .now) (c .if3 .taken)) (λ c. search needs)
-    (λ c. number-more (c .before .before .before .before .args .ds .now) (c .before .before .before .if1 .left)
-    (c .before .before .if2 .left) (c .before .if3 .left)))
+unfolding isNumber
+is-number-spec = tie.close (tie.spec
+    (λ c. rw (lt-leb 1 (length (c .before .args .ds .now)) (omega (arith, c .if1 .taken))))
+    (λ c. let k = length (c .before .before .args .ds .now) in rw (le-leb 1 k (omega (arith, c .if2 .taken)), lt-leb k 5 (c .if2 .taken)))
+    (λ c. rw (c .if3 .taken)) (λ c. search needs)
+    (λ c. number-more (c .before .before .before .before .args .ds .now) (c .before .before .before .if1 .left) (c .before .before .if2 .left) (c .before .if3 .left)))

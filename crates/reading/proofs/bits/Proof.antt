@@ -1,7 +1,4 @@
 -- `reading::bits` meets its contract.
-use Prim.Native.Nat.{ℕ}
-use mathlib.Core.Path.{ap, _∙_}
-use lib.Dec.{leb}
 use Rattle.reading.proofs.BitLaws.{bits-by}
 use borrow.Author.Needs.{needs}
 use Rattle.reading.proofs.bits.Statement.{statement}
@@ -9,4 +6,4 @@ use Rattle.reading.proofs.bits.Tie as tie
 
 pub bits-spec : {M : Type 1} → statement M
 bits-spec = tie.close (tie.spec (λ c. λ κs. search needs)
-    (λ c. ap (λ (x : ℕ). leb x 1) (c .greatest .ensures) ∙ bits-by (c .before .before .args .t .now)))
+    (λ c. rw (c .greatest .ensures) (bits-by (c .before .before .args .t .now))))

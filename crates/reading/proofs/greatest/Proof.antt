@@ -17,12 +17,7 @@ abbrev μ-loop : tie.MeasureT-loop
 
 pub greatest-spec : {M : Type 1} → statement M
 greatest-spec = tie.close (tie.spec
-    Inv-loop μ-loop (λ c. (omega arith, refl)) (λ c. search needs) (λ c. λ κs. search needs) (λ c. search needs)
-    (λ c. search needs)
-    (λ c. let l = c .before .before .before .loop in (
-      search needs,
-      turn-next max (c .before .before .before .before .before .args .t .now) (l .i) _ _ _ (search needs)
-          (l .inv .1) (c .larger .ensures),
-    ))
-    (λ c. turn-last max (c .before .before .before .args .t .now) (c .before .loop .i) _ _ (omega arith)
-    (c .before .loop .inv .1)))
+    Inv-loop μ-loop (λ c. (omega arith, refl)) (λ c. search needs) (λ c κs. search needs) (λ c. search needs) (λ c. search needs)
+    (λ c. let b = c .before .before .before in
+    (search needs, turn-next max (b .before .before .args .t .now) (b .loop .i) _ _ _ (search needs) (b .loop .inv .1) (c .larger .ensures)))
+    (λ c. turn-last max (c .before .before .before .args .t .now) (c .before .loop .i) _ _ (omega arith) (c .before .loop .inv .1)))

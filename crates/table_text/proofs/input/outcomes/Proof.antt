@@ -16,17 +16,8 @@ abbrev μ-loop : tie.MeasureT-loop
 μ-loop ds to₀ i₀ to i = length ds - i
 
 pub outcomes-spec : {M : Type 1} → statement M
-outcomes-spec = tie.close (tie.spec
-    Inv-loop μ-loop (λ c. (search needs, refl, refl)) (λ c. search needs) (λ c. λ κs. search needs) (λ c. search needs)
-    (λ c. search needs) (λ c. search needs)
-    (λ c. let a = c .before .before .before .before .before .before .args in
-    let l = c .before .before .before .loop in (
-      search needs,
-      search needs,
-      outcomes-next (a .ds .now) (a .to .now) (l .to) (l .i) (c .before .before .loop-test .taken)
-          (c .before .before .before .before .before .before .pre) (l .inv .2) (c .digit .ensures),
-    ))
+outcomes-spec = tie.close (tie.spec Inv-loop μ-loop (λ c. (search needs, refl, refl)) (λ c. search needs) (λ c κs. search needs) (λ c. search needs) (λ c. search needs) (λ c. search needs)
+    (λ c. let b = c .before .before .before in let a = b .before .before .before in
+    (search needs, search needs, outcomes-next (a .args .ds .now) (a .args .to .now) _ (b .loop .i) (c .before .before .loop-test .taken) (a .pre) (b .loop .inv .2) (c .digit .ensures)))
     (λ c. search needs)
-    (λ c. let a = c .before .before .before .before .args in
-    let l = c .before .loop in
-    outcomes-done (a .ds .now) (a .to .now) (l .to) (l .i) (search needs) (l .inv .2)))
+    (λ c. let a = c .before .before .before .before .args in outcomes-done (a .ds .now) (a .to .now) _ (c .before .loop .i) (search needs) (c .before .loop .inv .2)))
