@@ -16,7 +16,7 @@ abbrev μ-loop : tie.MeasureT-loop
 μ-loop ds v₀ i₀ v i = length ds - i
 
 -- the next number fits
-fits : (c : tie.After-wide Inv-loop μ-loop) → 10 * c .before .before .before .before .loop .v + c .wide .result < 2 ^ 32
+fits : (c : tie.After-byte Inv-loop μ-loop) → 10 * c .before .before .before .before .loop .v + c .byte .result < 2 ^ 32
 fits c = let l = c .before .before .before in
     number-fits (l .before .loop .i) (l .before .loop .v) (length (l .before .before .before .args .ds .now)) (l .before .loop .inv .1) (l .loop-test .taken) (l .before .before .before .pre)
     (c .byte .ensures .1)
