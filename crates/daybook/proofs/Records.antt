@@ -14,11 +14,11 @@ use Rattle.hasher.proofs.Laws.{length-rest}
 use Rattle.layouts.specs.Layouts.{setupRefusal}
 use Rattle.layouts.proofs.AllowedLaws.{setup-is, allowed-scheme-is, allowed-n-is, allowed-f-is}
 use Rattle.chains.specs.declared.Value.{Value}
-use Rattle.chains.specs.Step.{startValue, linked, each, linkSlot, restartSlot, linkedSlots, restarted}
+use Rattle.chains.specs.Step.{startValue, linked, each, linksSlot, storesSlot, linkSlot, restartSlot, linkedSlots, restarted}
 use Rattle.chains.specs.Book.{bookOf}
 use Rattle.chains.proofs.BookLaws.{book-length}
 use Rattle.service.specs.declared.Record.{Record}
-use Rattle.service.specs.Contract.{fresh, opened, grown, nextDay, added, addRefusal, closing, closeRefusal, countOf, writingNumber, writtenSoFar}
+use Rattle.service.specs.Contract.{fresh, opened, grown, digestOf, nextDay, added, addRefusal, closing, closeRefusal, writtenSoFar}
 use Rattle.service.proofs.CallLaws.{opened-number}
 use Rattle.journal.specs.Journal.{Journal}
 use Rattle.journal.specs.Run.{Call, add, close, called, stateAfter, bookWritten}
@@ -29,9 +29,14 @@ use Rattle.daybook.specs.Records.{Told, RecordsTold}
 
 -- ---- words that a hash value has
 
-below-cons : {x : ℕ} {l : List ℕ} → x < 2 ^ 32 → ((i : ℕ) → getD l i 0 < 2 ^ 32) → (i : ℕ) → getD (x ∷ l) i 0 < 2 ^ 32
-below-cons h f zero = h
-below-cons h f (suc i) = f i
+abbrev Below : List ℕ → Type 0
+Below [] = Unit {0}
+Below (x ∷ l) = (x < 2 ^ 32) × Below l
+
+below-at : (l : List ℕ) → Below l → (i : ℕ) → getD l i 0 < 2 ^ 32
+below-at [] b i = omega arith
+below-at (x ∷ l) b zero = b .0
+below-at (x ∷ l) b (suc i) = below-at l (b .1) i
 
 sum-below : (x y : ℕ) → add32 x y < 2 ^ 32
 unfolding add32
@@ -39,11 +44,7 @@ sum-below x y = omega arith
 
 summed-words : (h v : List ℕ) → Words (summed h v)
 unfolding summed
-summed-words h v = (
-  refl,
-  below-cons (sum-below _ _) (below-cons (sum-below _ _) (below-cons (sum-below _ _) (below-cons (sum-below _ _)
-      (below-cons (sum-below _ _) (below-cons (sum-below _ _) (below-cons (sum-below _ _) (below-cons (sum-below _ _) (λ i. omega arith)))))))),
-)
+summed-words h v = (refl, below-at (summed h v) (sum-below _ _, (sum-below _ _, (sum-below _ _, (sum-below _ _, (sum-below _ _, (sum-below _ _, (sum-below _ _, (sum-below _ _, tt)))))))))
 
 chunks-words : (k : ℕ) (h l : List ℕ) → Words h → Words (chunks k h l)
 unfolding chunks compress
@@ -53,11 +54,7 @@ chunks-words (suc k) h l w =
 
 initial-words : Words initial
 unfolding initial
-initial-words = (
-  refl,
-  below-cons (omega arith) (below-cons (omega arith) (below-cons (omega arith) (below-cons (omega arith)
-      (below-cons (omega arith) (below-cons (omega arith) (below-cons (omega arith) (below-cons (omega arith) (λ i. omega arith)))))))),
-)
+initial-words = (refl, below-at initial (omega arith, (omega arith, (omega arith, (omega arith, (omega arith, (omega arith, (omega arith, (omega arith, tt)))))))))
 
 begun-words : (m : List ℕ) → Words (begun m .words)
 unfolding begun onward blocks
@@ -79,11 +76,7 @@ linked-words v h = chunks-words _ initial _ initial-words
 
 start-words : (s n : ℕ) → Words (startValue s n .words)
 unfolding startValue
-start-words s n = (
-  refl,
-  below-cons (omega arith) (below-cons (omega arith) (below-cons (omega arith) (below-cons (omega arith)
-      (below-cons (omega arith) (below-cons (omega arith) (below-cons (omega arith) (below-cons (omega arith) (λ i. omega arith)))))))),
-)
+start-words s n = (refl, below-at (replicate 8 0) (omega arith, (omega arith, (omega arith, (omega arith, (omega arith, (omega arith, (omega arith, (omega arith, tt)))))))))
 
 -- ---- slots
 
@@ -109,11 +102,13 @@ record Chained (r : Record) : Type 0 where
 chained-next : (r : Record) → Chained r → Chained (nextDay r)
 unfolding nextDay linkedSlots restarted
 chained-next r c =
+    let s = r .scheme in let n = r .n in let g = suc (r .days) in let h = digestOf r in
     record {
-      black-fits = linked-words _ _;
+      black-fits = linked-words (r .black) h;
       running-fit =
-          each-slots _ (λ i v w. cond-words _ _ v (start-words _ _) w) 0 _
-          (each-slots _ (λ i v w. cond-words _ _ v (linked-words v _) w) 0 (r .running) (c .running-fit));
+          each-slots (restartSlot s n g (startValue s n)) (λ i v w. cond-words (storesSlot s n g i) (startValue s n) v (start-words s n) w)
+          0 (each (linkSlot s n g h) 0 (r .running))
+          (each-slots (linkSlot s n g h) (λ i v w. cond-words (linksSlot s n g i) (linked v h) v (linked-words v h) w) 0 (r .running) (c .running-fit));
     }
 
 chained-unless : (x : ℕ) (new old : Record) → Chained new → Chained old → Chained (unlessRefused x new old)
@@ -133,7 +128,7 @@ chained-after r (c ∷ cs) h = chained-after (called r c .state) cs (chained-cal
 chained-open : (s n f : ℕ) → numberOf (opened s n f .answer) ≡ 0 → Chained (opened s n f .state)
 unfolding opened fresh
 chained-open s n f e =
-    rw (sym (opened-number s n f) ∙ e) (record { black-fits = start-words s n; running-fit = same-slots 17 _ (start-words s n) })
+    rw (sym (opened-number s n f) ∙ e) (record { black-fits = start-words s n; running-fit = same-slots 17 (startValue s n) (start-words s n) })
 
 -- ---- the record that a list of calls leaves
 
