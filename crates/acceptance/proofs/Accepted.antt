@@ -1,13 +1,8 @@
 -- Acceptance is the rules, and the listing is the days listed locally.
-use mathlib.Core.Path.{_≡_, refl, sym, ap, _∙_}
-use mathlib.Core.Logic.{inl, inr}
-use mathlib.Core.Bool.{Bool, true, false, not, _&&_}
-use mathlib.Core.List.{List, List·Memᴰ·head, Memᴰ·map}
-use Prim.Native.Nat.{ℕ, zero, suc, pred, _-_, _/_, _%_, _^_, _≤_}
-use native.Mathlib.Nat.{mod-one}
-use native.Mathlib.Omega.{arith}
-use lib.Dec.{eqb}
-use lib.Pow.{pow-pos}
+use mathlib.Core.{Path._≡_, Path.refl, Path.sym, Path.ap, Path._∙_, Logic.inl, Logic.inr, Bool.Bool, Bool.true, Bool.false, Bool.not, List.List, List.List·Memᴰ·head, List.Memᴰ·map}
+use Prim.Native.Nat.{ℕ, suc, pred, _-_, _/_, _%_, _^_, _≤_}
+use native.Mathlib.{Nat.mod-one, Omega.arith}
+use lib.{Dec.eqb, Pow.pow-pos}
 use borrow.Author.Tests.{eq-eqb, not-false}
 use Rattle.lists.specs.Lists.{_among_, upFrom, keep}
 use Rattle.evidence.specs.Evidence.{days, Within, Gives, cleared, listing, accepted}
@@ -18,7 +13,7 @@ use Rattle.layouts.proofs.AllowedLaws.{Power, allowed-n-is, allowed-scheme-is}
 use Rattle.layouts.proofs.Coverage.{by-scheme, chains-within}
 use Rattle.acceptance.specs.Private.{Table, Bits, passes, levelsRule, blocksRule, rules, endOf, tileBit, bitRule, bitsRule, isListed}
 use Rattle.acceptance.proofs.Runs.{some, meets-keep, lastDays-mem, lastDays-bounds, days-bounds}
-use Rattle.acceptance.proofs.Lookup.{Block, each-1, each-2, each-3, passes-gives, gives-passes, tile-named, tree-named, black-named}
+use Rattle.acceptance.proofs.Lookup.{each-1, each-2, each-3, passes-gives, gives-passes, tile-named, tree-named, black-named}
 use Rattle.acceptance.proofs.Given.{given-rules}
 use Rattle.acceptance.proofs.Listed.{at-block, black-up, black-1, tile-2, black-2, tree-3, black-3, isListed-1, isListed-2, isListed-3, covers-bit, block-day}
 

@@ -1,22 +1,15 @@
 -- Black values: the last value of a day that n divides is over the days 1 to it, and the position of black indexes it.
-use mathlib.Core.Path.{_≡_, refl, ap, _∙_}
-use mathlib.Core.Logic.{inl, inr}
-use mathlib.Core.Bool.{true}
+use mathlib.Core.{Path._≡_, Path.refl, Path.ap, Path._∙_, Logic.inl, Logic.inr, Bool.true}
 use mathlib.Core.List.{List, [], _∷_, _++_, map, map-append, append-nil}
 use Prim.Native.Nat.{ℕ, zero, suc, pred, _+_, _-_, _%_, _^_, _≤_, _<_}
-use native.Mathlib.Nat.{mod-self, zero-add}
-use native.Mathlib.Omega.{arith}
-use lib.Dec.{eqb}
-use lib.ListN.{length, getD, length-append, length-map}
-use lib.Pow.{pow-mono}
-use lib.Seq.{getD-at}
+use native.Mathlib.{Nat.mod-self, Nat.zero-add, Omega.arith}
+use lib.{Dec.eqb, ListN.length, ListN.getD, ListN.length-append, ListN.length-map, Pow.pow-mono, Seq.getD-at}
 use borrow.Author.Tests.{eqb-true, eq-eqb}
 use Rattle.lists.specs.Lists.{_among_, upFrom}
 use Rattle.lists.proofs.Laws.{split, true-or-false, and-both, upFrom-mem, keep-mem, upFrom-snoc}
 use Rattle.layouts.specs.Layouts.{divides, lg, Name, black, tile, tree, lastDays, coveredDays, levels, storedOnce, namesOfDay, namesThrough, chains, blackAt}
 use Rattle.layouts.specs.Private.{position}
-use Rattle.layouts.proofs.Coverage.{divisor-le, namesThrough-suc, namesThrough-add}
-use Rattle.layouts.proofs.Counts.{power-of}
+use Rattle.layouts.proofs.{Coverage.divisor-le, Coverage.namesThrough-suc, Coverage.namesThrough-add, Counts.power-of}
 use Rattle.layouts.proofs.Positions.{levels-run, level-in, in-day, to-chains}
 
 -- where n divides the day, the last value that closes is over days 1 to g

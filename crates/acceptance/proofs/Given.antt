@@ -1,22 +1,16 @@
 -- A table that a set gives meets the rules.
-use mathlib.Core.Path.{_≡_, refl, sym, ap, _∙_}
+use mathlib.Core.{Path._≡_, Path.refl, Path.sym, Path.ap, Path._∙_, Logic.inl, Logic.inr, List.List, List._++_}
 use mathlib.Core.Bool.{Bool, true, false, not, _&&_, _||_, or-true}
-use mathlib.Core.Logic.{inl, inr}
-use mathlib.Core.List.{List, _++_}
 use Prim.Native.Nat.{ℕ, zero, suc, _+_, _-_, _*_, _/_, _^_, _≤_}
-use native.Mathlib.Nat.{le-div-iff-mul-le, mul-pos, suc-mul, zero-mul, pow-succ'}
-use native.Mathlib.Omega.{arith}
-use lib.Dec.{eqb}
-use lib.Pow.{pow-pos}
+use native.Mathlib.{Nat.le-div-iff-mul-le, Nat.mul-pos, Nat.suc-mul, Nat.zero-mul, Nat.pow-succ', Omega.arith}
+use lib.{Dec.eqb, Pow.pow-pos}
 use borrow.Author.Tests.{eqb-true, le-leb, lt-leb}
 use Rattle.lists.specs.Lists.{_among_, upFrom, keep, every}
 use Rattle.evidence.specs.Evidence.{meets, Gives}
 use Rattle.lists.proofs.Laws.{split, and-of, upFrom-bounds, keep-mem, every-of}
 use Rattle.evidence.proofs.TableLaws.{meets-of, meets-day}
 use Rattle.layouts.specs.Layouts.{divides, lg, black, tile, tree, lastDays, offset, covers, coveredDays, chains}
-use Rattle.layouts.proofs.AllowedLaws.{Power}
-use Rattle.layouts.proofs.Coverage.{by-scheme}
-use Rattle.layouts.proofs.Positions.{divides-half}
+use Rattle.layouts.proofs.{AllowedLaws.Power, Coverage.by-scheme, Positions.divides-half}
 use Rattle.acceptance.specs.Private.{alike, passes, prior, tileRule, blockRule, blockAt, halvesRule, halvesAt, levelRule, levelsRule, blocksRule, rules}
 use Rattle.acceptance.proofs.Runs.{meets-append, keep-all, lastDays-split, divides-multiple}
 use Rattle.acceptance.proofs.Lookup.{Block, gives-passes, gives-black, tile-named, tree-named}

@@ -1,23 +1,19 @@
 -- Under the rules each value passes exactly if no day of its chain is listed locally: what this takes, by scheme.
-use mathlib.Core.Path.{_≡_, refl, sym, ap, _∙_}
-use mathlib.Core.Logic.{inl, inr}
+use mathlib.Core.{Path._≡_, Path.refl, Path.sym, Path.ap, Path._∙_, Logic.inl, Logic.inr, List.List}
 use mathlib.Core.Bool.{Bool, true, false, not, _&&_, _||_, cond, and-false}
-use mathlib.Core.List.{List}
 use Prim.Native.Nat.{ℕ, zero, suc, pred, _+_, _-_, _*_, _/_, _%_, _^_, _≤_, _<_}
 use native.Mathlib.Nat.{le-div-iff-mul-le, div-lt-iff-lt-mul, mul-pos, mul-le-mul-right, mul-div-cancel, suc-mul, zero-mul, pow-succ', mod-lt, div-add-mod'}
-use native.Mathlib.Decide.{decLt}
-use native.Mathlib.Omega.{arith}
-use lib.Arith.{digits-div, digits-mod}
-use lib.Dec.{eqb}
-use lib.Pow.{pow-pos, pow-lt, pow-add}
+use native.Mathlib.{Decide.decLt, Omega.arith}
+use lib.{Arith.digits-div, Arith.digits-mod, Dec.eqb, Pow.pow-pos, Pow.pow-lt, Pow.pow-add}
 use Rattle.lists.specs.Lists.{_among_, upFrom, keep, every}
 use Rattle.evidence.specs.Evidence.{days}
 use Rattle.lists.proofs.Laws.{split, true-or-false, and-both, upFrom-mem, upFrom-bounds, keep-mem, mem-keep, every-at, every-of, every-fails}
 use Rattle.layouts.specs.Layouts.{divides, lg, black, tile, tree, lastDays, offset, covers, coveredDays}
-use Rattle.layouts.proofs.AllowedLaws.{Power}
-use Rattle.layouts.proofs.Coverage.{divisor-le}
-use Rattle.acceptance.specs.Private.{alike, passes, prior, tileRule, blockRule, blockAt, halvesRule, halvesAt, levelRule, levelsRule, blocksRule, rules, endOf, tileBit, bitRule, bitsRule, isListed}
-use Rattle.acceptance.proofs.Runs.{some, some-append, some-of, some-none, some-same, keep-all, lastDays-bounds, lastDays-mem, days-bounds, bit-low, divides-multiple, div-whole}
+use Rattle.layouts.proofs.{AllowedLaws.Power, Coverage.divisor-le}
+use Rattle.acceptance.specs.Private.{alike, passes, prior, tileRule, blockRule, blockAt, halvesRule, halvesAt, levelRule}
+use Rattle.acceptance.specs.Private.{levelsRule, blocksRule, rules, endOf, tileBit, bitRule, bitsRule, isListed}
+use Rattle.acceptance.proofs.Runs.{some, some-append, some-of, some-none, some-same, keep-all, lastDays-bounds}
+use Rattle.acceptance.proofs.Runs.{lastDays-mem, days-bounds, bit-low, divides-multiple, div-whole}
 use Rattle.acceptance.proofs.Lookup.{Block}
 use Rattle.acceptance.proofs.Given.{block-split, half-point, half-split, prior-first, prior-next}
 

@@ -1,21 +1,17 @@
 -- A table by names: a set gives a table exactly if each value, looked up by its name, is what the set says of its chain.
-use mathlib.Core.Path.{_≡_, refl, sym, ap, _∙_}
-use mathlib.Core.Logic.{_⊎_, inl, inr}
+use mathlib.Core.{Path._≡_, Path.refl, Path.sym, Path.ap, Path._∙_, Logic._⊎_, Logic.inl, Logic.inr}
 use mathlib.Core.Bool.{Bool, true, false, not, _&&_, cond}
-use mathlib.Core.List.{List, [], _∷_, _++_, map, flatMap, map-append, map-map, append-nil, List·Memᴰ·head, List·Memᴰ·tail, List·Memᴰ·append-cases, List·Memᴰ·eq-of-singleton, Memᴰ·append-left, Memᴰ·map, Memᴰ·of-map}
+use mathlib.Core.List.{List, [], _∷_, _++_, map, flatMap, map-append, map-map, append-nil, List·Memᴰ·head, List·Memᴰ·tail, Memᴰ·append-left, Memᴰ·map}
 use Prim.Native.Nat.{ℕ, zero, suc, pred, _+_, _^_, _≤_, _<_}
-use native.Mathlib.Nat.{zero-add, add-zero}
-use native.Mathlib.Omega.{arith}
-use lib.Dec.{eqb}
-use lib.ListN.{length, getD, length-append, length-map}
+use native.Mathlib.{Nat.zero-add, Nat.add-zero, Omega.arith}
+use lib.{Dec.eqb, ListN.length, ListN.getD, ListN.length-append, ListN.length-map}
 use Rattle.lists.specs.Lists.{_among_, upFrom}
-use Rattle.evidence.specs.Evidence.{days, Within, meets, setOutcome, tableOf, Gives}
-use Rattle.lists.proofs.Laws.{split, true-or-false, and-both, upFrom-mem, upFrom-bounds, keep-mem, mem-keep, map-same, length-upFrom, upFrom-append}
+use Rattle.evidence.specs.Evidence.{Within, meets, setOutcome, tableOf, Gives}
+use Rattle.lists.proofs.Laws.{split, true-or-false, upFrom-mem, upFrom-bounds, mem-keep, map-same, length-upFrom, upFrom-append}
 use Rattle.layouts.specs.Layouts.{divides, lg, Name, black, tile, tree, lastDays, coveredDays, levels, storedOnce, namesOfDay, namesThrough, chains}
 use Rattle.layouts.specs.Private.{position}
 use Rattle.layouts.proofs.Coverage.{divisor-le, of-day-1, of-day-2, of-day-3, namesThrough-suc, namesThrough-at, namesThrough-in}
-use Rattle.layouts.proofs.Counts.{below-pow}
-use Rattle.layouts.proofs.Positions.{levels-run}
+use Rattle.layouts.proofs.{Counts.below-pow, Positions.levels-run}
 use Rattle.acceptance.specs.Private.{Bits, passes}
 use Rattle.acceptance.proofs.BlackLaws.{black-position}
 

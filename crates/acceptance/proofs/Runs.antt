@@ -1,17 +1,12 @@
 -- Laws of tests over lists and of runs of days.
-use mathlib.Core.Path.{_≡_, refl, sym, ap, _∙_}
-use mathlib.Core.Logic.{_⊎_, inl, inr}
+use mathlib.Core.{Path._≡_, Path.refl, Path.sym, Path.ap, Path._∙_, Logic._⊎_, Logic.inl, Logic.inr}
 use mathlib.Core.Bool.{Bool, true, false, _||_, cond, or-true, or-assoc}
 use mathlib.Core.List.{List, [], _∷_, _++_, append-nil, List·Memᴰ·head, List·Memᴰ·tail}
 use Prim.Native.Nat.{ℕ, zero, suc, _+_, _-_, _*_, _/_, _%_, _^_, _≤_, _<_}
-use native.Mathlib.Nat.{div-add-mod'}
-use native.Mathlib.Decide.{ℕ-discrete}
-use native.Mathlib.Omega.{arith}
-use lib.Arith.{digits-mod}
-use lib.ListN.{length}
-use lib.Pow.{field, mod-mod-pow}
+use native.Mathlib.{Nat.div-add-mod', Decide.ℕ-discrete, Omega.arith}
+use lib.{Arith.digits-mod, ListN.length, Pow.field, Pow.mod-mod-pow}
 use borrow.Author.Tests.{eqb-true, eq-eqb}
-use Rattle.lists.specs.Lists.{_among_, has, upFrom, keep, lastOf}
+use Rattle.lists.specs.Lists.{_among_, has, keep, lastOf}
 use Rattle.evidence.specs.Evidence.{days, Within, meets}
 use Rattle.lists.proofs.Laws.{split, upFrom-append, mem-has, upFrom-mem, upFrom-bounds, has-keep, keep-append, upFrom-snoc}
 use Rattle.layouts.specs.Layouts.{divides, lastDays}

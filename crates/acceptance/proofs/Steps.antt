@@ -1,28 +1,19 @@
 -- What the functions that test a table need: values in range, and each rule from its parts.
-use mathlib.Core.Path.{_≡_, refl, sym, ap, _∙_}
-use mathlib.Core.Bool.{Bool, true, false, not, _&&_, _||_}
-use mathlib.Core.List.{List}
-use Prim.Native.Nat.{ℕ, zero, suc, pred, _+_, _-_, _*_, _/_, _^_, _≤_, _<_}
+use mathlib.Core.{Path._≡_, Path.sym, Path._∙_, Bool.Bool, Bool.true, Bool.false, Bool.not, List.List}
+use Prim.Native.Nat.{ℕ, suc, pred, _+_, _-_, _*_, _/_, _^_, _≤_, _<_}
 use native.Mathlib.Nat.{mul-pos, suc-mul, le-trans, mul-le-mul-right, div-mul-le-self, div-le-self}
-use native.Mathlib.Numerals.{add-one}
-use native.Mathlib.Omega.{arith}
-use lib.Dec.{eqb}
-use lib.ListN.{length, getD, length-append}
-use lib.Pow.{pow-pos}
-use borrow.Author.Tests.{eq-eqb, ne-eqb, le-leb, lt-leb, not-true, not-false}
+use native.Mathlib.{Numerals.add-one, Omega.arith}
+use lib.{Dec.eqb, ListN.length, ListN.getD, ListN.length-append, Pow.pow-pos}
+use borrow.Author.Tests.{not-true, not-false}
 use Rattle.lists.specs.Lists.{upFrom, every}
 use Rattle.lists.proofs.Laws.{upFrom-mem, every-more, every-fails}
 use Rattle.layouts.specs.Layouts.{divides, allowedScheme, allowedN, lg, Name, black, tile, tree, chains}
 use Rattle.layouts.specs.Private.{position}
-use Rattle.layouts.proofs.AllowedLaws.{allowed-n-is, allowed-scheme-is}
-use Rattle.layouts.proofs.Coverage.{divisor-le, chains-front}
+use Rattle.layouts.proofs.{AllowedLaws.allowed-n-is, AllowedLaws.allowed-scheme-is, Coverage.divisor-le, Coverage.chains-front}
 use Rattle.layouts.proofs.Positions.{divides-half}
-use Rattle.acceptance.specs.Private.{Table, Has, Interval, Chain, alike, passes, prior, tileRule, blockRule, blockAt, halvesRule, halvesAt, levelRule, levelsRule, blocksRule, rules, tileBit}
-use Rattle.acceptance.proofs.BlackLaws.{black-position}
-use Rattle.acceptance.proofs.Runs.{divides-multiple}
+use Rattle.acceptance.specs.Private.{Table, Has, Interval, Chain, passes, halvesRule, halvesAt, levelRule}
+use Rattle.acceptance.proofs.{BlackLaws.black-position, Runs.divides-multiple, Given.half-point, Listed.block-number}
 use Rattle.acceptance.proofs.Lookup.{position-bound, tile-named, tree-named}
-use Rattle.acceptance.proofs.Given.{half-point}
-use Rattle.acceptance.proofs.Listed.{block-number}
 
 -- ---- values in range
 

@@ -1,6 +1,5 @@
 -- Laws of tables: acceptance is that some set gives the table; the listing is the union of the sets that do.
-use mathlib.Core.Path.{_≡_, refl, sym, ap, _∙_}
-use mathlib.Core.Logic.{_↔_, inl, inr}
+use mathlib.Core.{Path._≡_, Path.refl, Path.sym, Path.ap, Path._∙_, Logic._↔_, Logic.inl, Logic.inr}
 use mathlib.Core.Bool.{Bool, true, false, not, _&&_, and-false}
 use mathlib.Core.List.{List, [], _∷_, List·Memᴰ·head, List·Memᴰ·tail, List·Memᴰ·eq-of-singleton}
 use Prim.Native.Nat.{ℕ}
@@ -10,7 +9,8 @@ use borrow.Author.Tests.{not-true}
 use Rattle.lists.specs.Lists.{_among_, has, keep, Ascends}
 use Rattle.evidence.specs.Statements.{AcceptedIfGiven, AcceptedLists}
 use Rattle.evidence.specs.Evidence.{days, Within, meets, setOutcome, tableOf, Gives, cleared, listing, accepted}
-use Rattle.lists.proofs.Laws.{split, true-or-false, or-split, or-left, or-right, bool-ext, has-mem, mem-has, same-eq, eq-same, upFrom-mem, upFrom-bounds, keep-mem, mem-keep, keep-congr, keep-ascends, no-mem, mem-nil, map-same}
+use Rattle.lists.proofs.Laws.{split, true-or-false, or-split, or-left, or-right, bool-ext, has-mem, mem-has, same-eq, eq-same}
+use Rattle.lists.proofs.Laws.{upFrom-mem, upFrom-bounds, keep-mem, mem-keep, keep-congr, keep-ascends, no-mem, mem-nil, map-same}
 
 -- a chain covers a day of S exactly if there is such a day
 pub meets-of : (S c : List ℕ) (g : ℕ) → g among c → g among S → meets S c ≡ true

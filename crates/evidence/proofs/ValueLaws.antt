@@ -1,17 +1,15 @@
 -- Laws of values: what equal values say of the days, and that a check against the book of the sealed days finds the
 -- changed days' table. Nothing is assumed of the hash but its length; that two inputs do not collide is a premise, and only
 -- of the inputs hashed.
-use mathlib.Core.Path.{_≡_, refl, _∙_}
-use mathlib.Core.Logic.{_↔_, inl, inr}
-use mathlib.Core.Bool.{true, false, not, cond}
+use mathlib.Core.{Path._≡_, Path.refl, Path._∙_, Logic._↔_, Logic.inl, Logic.inr, Bool.true, Bool.false, Bool.not, Bool.cond}
 use mathlib.Core.List.{List, [], _∷_, _++_, map, flatMap, append-assoc, List·Memᴰ·head, List·Memᴰ·tail, List·Memᴰ·cases-cons, Memᴰ·append-left, Memᴰ·append-right, Memᴰ·map}
-use Prim.Native.Nat.{ℕ, _+_, _*_, _≤_}
+use Prim.Native.Nat.{ℕ, _*_, _≤_}
 use native.Mathlib.Omega.{arith}
-use lib.ListN.{length, length-append}
-use lib.Seq.{take-at, drop-at}
+use lib.{ListN.length, ListN.length-append, Seq.take-at, Seq.drop-at}
 use borrow.Author.Tests.{not-true}
 use Rattle.lists.specs.Lists.{_among_, same}
-use Rattle.evidence.specs.Evidence.{days, Within, meets, setOutcome, tableOf, listing, dayOf, changed, digest, linkInput, value, values, checkOutcomes, linkInputs, inputs, NoCollision}
+use Rattle.evidence.specs.Evidence.{days, Within, meets, setOutcome, tableOf, listing, dayOf, changed, digest}
+use Rattle.evidence.specs.Evidence.{linkInput, value, values, checkOutcomes, linkInputs, inputs, NoCollision}
 use Rattle.lists.proofs.Laws.{split, true-or-false, same-eq, eq-same, upFrom-mem, upFrom-bounds, keep-mem, mem-keep, map-same}
 use Rattle.evidence.proofs.TableLaws.{meets-of, meets-day, none-met, lists-all, lists-exactly, lists-none}
 
@@ -165,7 +163,8 @@ module _ (H : List ℕ → List ℕ) (sized : (x : List ℕ) → length (H x) �
     unfolding tableOf sameValue
     check-table rest =
         outcomes-same start started A B chains rest ∙
-        map-same (sameValue H start A B) (setOutcome (changed d A B)) chains (λ c m. rw (same-value c m) (elim (meets (changed d A B) c) as (λ b. _≡_ {A = ℕ} (cond (not b) 1 0) (cond b 0 1)) [ true ↦ refl | false ↦ refl ]))
+        map-same (sameValue H start A B) (setOutcome (changed d A B)) chains (λ c m. rw (same-value c m)
+        (elim (meets (changed d A B) c) as (λ b. _≡_ {A = ℕ} (cond (not b) 1 0) (cond b 0 1)) [ true ↦ refl | false ↦ refl ]))
 
   -- with no premise: where the days agree, each value passes
   pub check-unaltered : (start : List ℕ) → length start ≡ 32 → (chains : List (List ℕ)) (d : ℕ) → ((c : List ℕ) → c among chains → Within d c) →

@@ -1,23 +1,18 @@
 -- What the tests of scheme, n, f and d say, and counts of bits as logarithms.
-use mathlib.Core.Path.{_≡_, refl, sym, ap, _∙_}
-use mathlib.Core.Logic.{inl, inr}
+use mathlib.Core.{Path._≡_, Path.refl, Path.sym, Path.ap, Path._∙_, Logic.inl, Logic.inr, List.List, List.[], List._∷_}
 use mathlib.Core.Bool.{Bool, true, false, not, _&&_, _||_, cond}
-use mathlib.Core.List.{List, [], _∷_}
 use Prim.Native.Nat.{ℕ, zero, suc, pred, _+_, _-_, _*_, _/_, _%_, _^_, _≤_, _<_}
 use native.Mathlib.Nat.{le-div-iff-mul-le, div-add-mod', mul-assoc, div-le-self, le-trans, mul-le-mul, le-add-right}
 use native.Mathlib.Omega.{arith}
-use lib.Arith.{digits-mod}
-use lib.Count.{ones, leadingZeros, leading-top, leading-of-zero}
-use lib.Dec.{eqb, leb}
-use lib.ListN.{length, length-map, length-append}
-use lib.Pow.{pow-pos, pow-mono}
+use lib.{Arith.digits-mod, Count.ones, Count.leadingZeros, Count.leading-top, Count.leading-of-zero, Dec.eqb}
+use lib.{Dec.leb, ListN.length, ListN.length-map, ListN.length-append, Pow.pow-pos, Pow.pow-mono}
 use borrow.Author.Tests.{eqb-true, eq-eqb, leb-true, not-true}
 use Rattle.lists.proofs.Laws.{split, and-both, has-mem, upFrom-mem, every-at}
 use Rattle.refusals.specs.Refusals.{bookLimit, _orRefuse_}
 use Rattle.refusals.proofs.TestLaws.{passed, failed, Pass, none-fails, pass-split, refused-before, last-fails, last-passes}
-use Rattle.layouts.specs.Statements.{ValuesCounted, BookFront}
-use Rattle.layouts.specs.Layouts.{divides, allowedScheme, allowedN, allowedF, allowedD, setupTests, layoutTests, setupRefusal, layoutRefusal, lg, black, covers, namesThrough, coveredDays, chainsOfDay, chains}
-use Rattle.layouts.specs.Private.{position}
+use Rattle.layouts.specs.{Statements.ValuesCounted, Statements.BookFront, Private.position}
+use Rattle.layouts.specs.Layouts.{divides, allowedScheme, allowedN, allowedF, allowedD, setupTests, layoutTests, setupRefusal}
+use Rattle.layouts.specs.Layouts.{layoutRefusal, lg, black, covers, namesThrough, coveredDays, chainsOfDay, chains}
 use Rattle.layouts.proofs.Coverage.{by-scheme, divisor-le, chains-suc, chains-front}
 use Rattle.layouts.proofs.Counts.{lg-unique, ones-small, digits, digits-small, through, count-through, values-length}
 

@@ -1,19 +1,14 @@
 -- How many values a layout has: 01's formulas are the number of chains; and the count through any day.
-use mathlib.Core.Path.{_≡_, refl, sym, ap, _∙_}
-use mathlib.Core.Logic.{_⊎_, inl, inr}
+use mathlib.Core.{Path._≡_, Path.refl, Path.sym, Path.ap, Path._∙_, Logic._⊎_, Logic.inl, Logic.inr}
 use mathlib.Core.Bool.{Bool, true, false, not, _&&_, cond}
 use mathlib.Core.List.{List, [], _∷_, _++_, map, flatMap, Memᴰ·map, Memᴰ·of-map, Memᴰ·cast}
 use Prim.Native.Nat.{ℕ, zero, suc, pred, _+_, _-_, _*_, _/_, _%_, _^_, _≤_, _<_}
 use native.Mathlib.Nat.{mod-one, mod-lt, div-eq-of-lt, mod-self, div-add-mod', suc-mul, add-zero, pow-succ', eq-of-mul-eq-mul-left, mul-le-mul-left, mul-comm, lt-of-not-le}
-use native.Mathlib.Decide.{decLt, decLe, ℕ-discrete}
-use native.Mathlib.Omega.{arith}
-use lib.Dec.{eqb, leb, lit<}
-use lib.Arith.{digits-div, digits-mod}
-use lib.Pow.{pow-pos, pow-mono, pow-add}
-use lib.Count.{ones, ones-step, ones-le}
-use lib.ListN.{length, length-append, length-map}
+use native.Mathlib.{Decide.decLt, Decide.decLe, Decide.ℕ-discrete, Omega.arith}
+use lib.{Dec.eqb, Dec.leb, Dec.lit<, Arith.digits-div, Arith.digits-mod, Pow.pow-pos, Pow.pow-mono, Pow.pow-add}
+use lib.{Count.ones, Count.ones-step, Count.ones-le, ListN.length, ListN.length-append, ListN.length-map}
 use borrow.Author.Tests.{eqb-true, eq-eqb, ne-eqb, leb-true, leb-false}
-use Rattle.lists.specs.Lists.{_among_, upFrom, keep}
+use Rattle.lists.specs.Lists.{upFrom, keep}
 use Rattle.lists.proofs.Laws.{length-upFrom, split, bool-ext, has-mem, mem-has, upFrom-mem, mem-keep}
 use Rattle.layouts.specs.Layouts.{divides, lgIn, lg, Name, black, tile, levels, storedOnce, namesOfDay, namesThrough, coveredDays, chains, valueCount}
 use Rattle.layouts.proofs.Coverage.{by-scheme, namesThrough-suc}

@@ -1,18 +1,17 @@
 -- What the chains of the three layouts cover: days 1 to d only; every day; in the tree each day alone. The chains of d days
 -- are the front of those of more.
-use mathlib.Core.Path.{_≡_, refl, sym, ap, _∙_}
-use mathlib.Core.Logic.{inl, inr}
-use mathlib.Core.Bool.{Bool, true, false, not, cond}
-use mathlib.Core.List.{List, [], _∷_, _++_, map, flatMap, map-append, append-assoc, append-nil, List·Memᴰ·head, List·Memᴰ·tail, List·Memᴰ·append-cases, List·Memᴰ·eq-of-singleton, Memᴰ·append-left, Memᴰ·append-right, Memᴰ·map, Memᴰ·of-map, Memᴰ·cast}
-use Prim.Native.Nat.{ℕ, zero, suc, _+_, _-_, _%_, _^_, _≤_, _<_}
-use native.Mathlib.Nat.{mod-eq-of-lt, mod-one, lt-of-not-le, add-zero, add-suc}
-use native.Mathlib.Decide.{decLe}
-use native.Mathlib.Omega.{arith}
+use mathlib.Core.{Path._≡_, Path.refl, Path.sym, Path.ap, Path._∙_, Logic.inl, Logic.inr}
+use mathlib.Core.Bool.{Bool, true, false, cond}
+use mathlib.Core.List.{List, [], _∷_, _++_, map, flatMap, map-append, append-assoc, append-nil, List·Memᴰ·head, List·Memᴰ·tail}
+use mathlib.Core.List.{List·Memᴰ·append-cases, List·Memᴰ·eq-of-singleton, Memᴰ·append-left, Memᴰ·append-right, Memᴰ·map, Memᴰ·of-map, Memᴰ·cast}
+use Prim.Native.Nat.{ℕ, zero, suc, _+_, _-_, _%_, _^_, _≤_}
+use native.Mathlib.{Nat.mod-eq-of-lt, Nat.mod-one, Nat.lt-of-not-le, Nat.add-zero, Nat.add-suc, Decide.decLe, Omega.arith}
 use borrow.Author.Tests.{eqb-true, eq-eqb}
 use Rattle.lists.specs.Lists.{_among_, upFrom}
 use Rattle.evidence.specs.Evidence.{days, Within}
 use Rattle.lists.proofs.Laws.{split, and-both, upFrom-snoc, has-mem, upFrom-mem, upFrom-bounds, keep-mem, mem-keep}
-use Rattle.layouts.specs.Layouts.{divides, lg, Name, black, tile, tree, lastDays, offset, covers, coveredDays, levels, storedOnce, storesBlackOfTree, namesOfDay, namesThrough, chainsOfDay, chains}
+use Rattle.layouts.specs.Layouts.{divides, lg, Name, black, tile, tree, lastDays, offset, covers, coveredDays, levels}
+use Rattle.layouts.specs.Layouts.{storedOnce, storesBlackOfTree, namesOfDay, namesThrough, chainsOfDay, chains}
 
 -- what holds of each scheme holds of all
 pub by-scheme : (P : ℕ → Type 0) → P 1 → P 2 → P 3 → (s : ℕ) → 1 ≤ s → s ≤ 3 → P s
@@ -57,7 +56,7 @@ pub of-day-3 : (P : Name → Type 0) (n g : ℕ) → (divides n g ≡ true → P
 of-day-3 P n g f h x m = elim (List·Memᴰ·append-cases (map (λ l. tree l g) (levels g)) m) [
   | inl k ↦ let y = Memᴰ·of-map (λ l. tree l g) (levels g) k in rw (← (y .2)) (h (y .0) (keep-mem (λ l. divides (2 ^ l) g) (upFrom 0 g) (y .0) (y .1) .1))
   | inr k ↦ let o = cond-mem (storesBlackOfTree n g) (black g ∷ []) k in
-      rw (List·Memᴰ·eq-of-singleton (o .1)) (f (and-both (divides n g) (not (storedOnce g)) (o .0) .0))
+      rw (List·Memᴰ·eq-of-singleton (o .1)) (f (and-both (divides n g) _ (o .0) .0))
 ]
 
 -- a name of the scheme at day g covers days 1 to g only

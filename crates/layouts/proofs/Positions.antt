@@ -1,22 +1,16 @@
 -- Where values stand in the book: the position of a name indexes the chains.
-use mathlib.Core.Path.{_≡_, refl, sym, ap, _∙_}
-use mathlib.Core.Logic.{inl, inr}
-use mathlib.Core.Bool.{Bool, true, false, cond}
-use mathlib.Core.List.{List, [], _∷_, _++_, map}
+use mathlib.Core.{Path._≡_, Path.refl, Path.sym, Path.ap, Path._∙_, Logic.inl, Logic.inr, Bool.Bool}
+use mathlib.Core.{Bool.true, Bool.false, Bool.cond, List.List, List.[], List._∷_, List._++_, List.map}
 use Prim.Native.Nat.{ℕ, zero, suc, _+_, _-_, _*_, _/_, _%_, _^_, _≤_, _<_}
-use native.Mathlib.Nat.{pow-succ', div-add-mod', zero-add}
-use native.Mathlib.Omega.{arith}
-use lib.Arith.{digits-mod}
+use native.Mathlib.{Nat.pow-succ', Nat.div-add-mod', Nat.zero-add, Omega.arith}
+use lib.{Arith.digits-mod, Pow.pow-pos, Seq.getD-append-add}
 use lib.ListN.{length, getD, length-append, length-map, List·getD-append, List·getD-map}
-use lib.Pow.{pow-pos}
-use lib.Seq.{getD-append-add}
 use borrow.Author.Tests.{eqb-true, eq-eqb}
 use Rattle.lists.specs.Lists.{_among_, upFrom, keep}
 use Rattle.lists.proofs.Laws.{split, true-or-false, upFrom-mem, upFrom-bounds, mem-keep, length-upFrom}
 use Rattle.layouts.specs.Layouts.{divides, lg, Name, black, tile, tree, coveredDays, levels, storesBlackOfTree, namesOfDay, namesThrough, chains}
 use Rattle.layouts.specs.Private.{position}
-use Rattle.layouts.proofs.Coverage.{divisor-le, namesThrough-suc, namesThrough-add}
-use Rattle.layouts.proofs.Counts.{below-pow}
+use Rattle.layouts.proofs.{Coverage.divisor-le, Coverage.namesThrough-suc, Coverage.namesThrough-add, Counts.below-pow}
 
 -- ---- the numbers that pass a test are the first ones, where each number below one that passes does
 

@@ -1,14 +1,11 @@
 -- Laws of the days of a ledger.
-use mathlib.Core.Path.{_≡_, refl, sym, _∙_}
-use mathlib.Core.Logic.{inl, inr}
+use mathlib.Core.{Path._≡_, Path.refl, Path.sym, Path._∙_, Logic.inl, Logic.inr}
 use mathlib.Core.List.{List, [], _∷_, _++_, map-append}
 use Prim.Native.Nat.{ℕ, zero, suc, _+_, _-_, _≤_, _<_}
-use native.Mathlib.Nat.{eq-or-lt-of-le, le-refl}
-use native.Mathlib.Omega.{arith}
+use native.Mathlib.{Nat.eq-or-lt-of-le, Nat.le-refl, Omega.arith}
 use lib.ListN.{length, getD, take, drop, length-append, length-drop, List·getD-append}
 use lib.Seq.{take-take, getD-take, getD-at, length-take-le}
-use Rattle.ledger.specs.Ledger.{startOf, endOf, dayAt, upTo, daysOf}
-use Rattle.ledger.specs.Private.{EndsHold}
+use Rattle.ledger.specs.{Ledger.startOf, Ledger.endOf, Ledger.dayAt, Ledger.upTo, Ledger.daysOf, Private.EndsHold}
 use Rattle.ledger.proofs.EndLaws.{start-ascends, start-front}
 
 -- ---- one after the other

@@ -1,15 +1,9 @@
 -- Laws of the ends of days, and of the refusals 9 and 10.
-use mathlib.Core.Path.{_≡_, refl, sym, _∙_}
-use mathlib.Core.Logic.{inl, inr}
-use mathlib.Core.Bool.{Bool, true, false, _&&_}
+use mathlib.Core.{Path._≡_, Path.refl, Path.sym, Path._∙_, Logic.inl, Logic.inr, Bool.Bool, Bool.true, Bool.false, Bool._&&_}
 use mathlib.Core.List.{List}
 use Prim.Native.Nat.{ℕ, zero, suc, _+_, _-_, _≤_, _<_}
-use native.Mathlib.Nat.{eq-or-lt-of-le, le-refl}
-use native.Mathlib.Numerals.{add-one}
-use native.Mathlib.Omega.{arith}
-use lib.Dec.{leb}
-use lib.ListN.{length, take}
-use lib.Seq.{getD-take, take-all, length-take-le}
+use native.Mathlib.{Nat.eq-or-lt-of-le, Nat.le-refl, Numerals.add-one, Omega.arith}
+use lib.{Dec.leb, ListN.length, ListN.take, Seq.getD-take, Seq.take-all, Seq.length-take-le}
 use borrow.Author.Tests.{leb-true, leb-false, le-leb, lt-leb}
 use Rattle.refusals.specs.Refusals.{dayLimit}
 use Rattle.lists.proofs.Laws.{split, true-or-false, and-both}

@@ -9,8 +9,7 @@ use Rattle.lists.specs.Lists.{_among_, joined}
 use Rattle.lists.proofs.Laws.{joined-append, joined-one, joined-single}
 use Rattle.refusals.specs.Refusals.{dayLimit}
 use Rattle.ledger.specs.Ledger.{startOf, endOf, dayAt, daysOf, endsFrom, endsRefusal}
-use Rattle.ledger.proofs.EndLaws.{none-refusal}
-use Rattle.ledger.proofs.DayLaws.{days-length, days-at}
+use Rattle.ledger.proofs.{EndLaws.none-refusal, DayLaws.days-length, DayLaws.days-at}
 
 -- the bytes of the first i days
 total : List (List ℕ) → ℕ → ℕ

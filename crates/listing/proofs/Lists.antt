@@ -1,28 +1,19 @@
 -- The lists of an interval, of the intervals in turn and of the tree's maximal chains in turn are the days listed locally.
-use mathlib.Core.Path.{_≡_, refl, sym, ap, _∙_}
-use mathlib.Core.Bool.{Bool, true, false, cond}
-use mathlib.Core.List.{List, [], _++_, append-nil}
-use Prim.Native.Nat.{ℕ, zero, suc, pred, _+_, _-_, _*_, _/_, _%_, _^_, _≤_, _<_}
-use native.Mathlib.Nat.{pow-succ', suc-mul, mul-assoc, div-one, div-eq-of-lt, div-mul-le-self}
-use native.Mathlib.Decide.{ℕ-discrete}
-use native.Mathlib.Numerals.{add-one}
-use native.Mathlib.Omega.{arith}
-use lib.Dec.{eqb}
-use lib.ListN.{length}
-use lib.Pow.{shr-shr}
+use mathlib.Core.{Path._≡_, Path.sym, Path._∙_, Bool.Bool, Bool.true, Bool.false, List.List, List.[], List._++_, List.append-nil}
+use Prim.Native.Nat.{ℕ, suc, pred, _+_, _-_, _*_, _/_, _%_, _^_, _≤_, _<_}
+use native.Mathlib.{Nat.pow-succ', Nat.suc-mul, Nat.div-one, Nat.div-eq-of-lt, Nat.div-mul-le-self, Decide.ℕ-discrete, Numerals.add-one, Omega.arith}
+use lib.{ListN.length, Pow.shr-shr}
 use borrow.Author.Tests.{eq-eqb, ne-eqb}
 use Rattle.lists.specs.Lists.{upFrom, keep}
 use Rattle.evidence.specs.Evidence.{days}
 use Rattle.lists.proofs.Laws.{and-both, length-upFrom}
 use Rattle.layouts.specs.Layouts.{divides, allowedScheme, lg, black, tile, lastDays}
-use Rattle.layouts.proofs.AllowedLaws.{allowed-n-is, allowed-scheme-is}
-use Rattle.layouts.proofs.Coverage.{divisor-le}
+use Rattle.layouts.proofs.{AllowedLaws.allowed-n-is, AllowedLaws.allowed-scheme-is, Coverage.divisor-le}
 use Rattle.acceptance.specs.Private.{Table, Interval, Chain, passes, levelsRule, rules, blocksRule, tileBit, isListed}
 use Rattle.listing.specs.Private.{Tile, tileDays, treeDays, topDays}
 use Rattle.buffers.specs.Private.{Wrote}
-use Rattle.acceptance.proofs.Runs.{keep-length, div-whole}
+use Rattle.acceptance.proofs.{Runs.keep-length, Runs.div-whole, Steps.interval-number, Steps.interval-end, Steps.chain-of}
 use Rattle.listing.proofs.Walks.{run-none, run-all, tile-none, tile-days, tree-days, days-block}
-use Rattle.acceptance.proofs.Steps.{interval-number, interval-end, chain-of}
 use Rattle.buffers.proofs.Writes.{wrote-none, wrote-length, wrote-join}
 
 -- ---- an interval

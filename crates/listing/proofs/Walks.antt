@@ -1,11 +1,9 @@
 -- The walks of an interval, a tile and a tree's chain list the days that are listed locally.
-use mathlib.Core.Path.{_≡_, refl, sym, ap, ap₂, _∙_}
-use mathlib.Core.Logic.{inl, inr}
+use mathlib.Core.{Path._≡_, Path.refl, Path.sym, Path.ap, Path.ap₂, Path._∙_, Logic.inl, Logic.inr}
 use mathlib.Core.Bool.{Bool, true, false, not, _&&_, cond, and-true, and-false}
 use mathlib.Core.List.{List, [], _∷_, _++_}
 use Prim.Native.Nat.{ℕ, zero, suc, pred, _+_, _-_, _*_, _/_, _%_, _^_, _≤_}
-use native.Mathlib.Nat.{suc-mul, pow-succ'}
-use native.Mathlib.Omega.{arith}
+use native.Mathlib.{Nat.suc-mul, Nat.pow-succ', Omega.arith}
 use lib.Arith.{digits-div}
 use borrow.Author.Tests.{not-true}
 use Rattle.lists.specs.Lists.{_among_, upFrom, keep, every}

@@ -1,13 +1,9 @@
 -- What the functions that write the list need: what was written after what, and the walks by their steps.
-use mathlib.Core.Path.{_≡_, refl, sym, ap, _∙_}
-use mathlib.Core.Logic.{inl, inr}
-use mathlib.Core.Bool.{Bool, true, false}
+use mathlib.Core.{Path._≡_, Path.refl, Path.ap, Path._∙_, Logic.inl, Logic.inr, Bool.Bool, Bool.true, Bool.false}
 use mathlib.Core.List.{List, [], _∷_, _++_}
 use Prim.Native.Nat.{ℕ, zero, suc, _+_, _-_, _^_, _≤_, _<_}
-use native.Mathlib.Nat.{pow-succ'}
-use native.Mathlib.Omega.{arith}
-use lib.ListN.{length, set, length-append}
-use lib.Pow.{pow-pos}
+use native.Mathlib.{Nat.pow-succ', Omega.arith}
+use lib.{ListN.length, ListN.set, ListN.length-append, Pow.pow-pos}
 use Rattle.lists.specs.Lists.{upFrom}
 use Rattle.layouts.specs.Layouts.{lg, tree}
 use Rattle.layouts.proofs.AllowedLaws.{allowed-n-is}

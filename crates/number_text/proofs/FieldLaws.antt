@@ -1,15 +1,11 @@
 -- Laws of reading numbers: digits, numbers, marks, fields.
-use mathlib.Core.Path.{_≡_, refl, sym, ap, ap₂, _∙_}
-use mathlib.Core.Bool.{Bool, true, false, not, _&&_, _||_}
-use mathlib.Core.Logic.{inl, inr}
-use mathlib.Core.List.{List, [], _∷_, _++_}
+use mathlib.Core.{Path._≡_, Path.refl, Path.sym, Path.ap, Path.ap₂, Path._∙_, Logic.inl, Logic.inr, Bool.Bool}
+use mathlib.Core.{Bool.true, Bool.false, Bool.not, Bool._&&_, Bool._||_, List.List, List.[], List._∷_, List._++_}
 use Prim.Native.Nat.{ℕ, zero, suc, _+_, _-_, _*_, _≤_, _<_, _^_}
-use native.Mathlib.Numerals.{add-one}
-use native.Mathlib.Omega.{arith}
-use lib.Dec.{eqb, leb}
+use native.Mathlib.{Numerals.add-one, Omega.arith}
+use lib.{Dec.eqb, Dec.leb, Seq.take-all, Seq.take-suc, Seq.drop-cons, Seq.drop-drop, Seq.drop-append-seam}
 use lib.ListN.{length, getD, take, drop, length-drop, drop-of-length-le, take-append-drop}
-use lib.Seq.{take-all, take-suc, drop-cons, drop-drop, drop-append-seam}
-use borrow.Author.Tests.{eq-eqb, eqb-true, ne-eqb, le-leb, lt-leb, leb-true, not-true, not-false}
+use borrow.Author.Tests.{eq-eqb, eqb-true, ne-eqb, le-leb, leb-true, not-true, not-false}
 use Rattle.lists.proofs.Laws.{split, true-or-false, and-both, upFrom-mem, every-at}
 use Rattle.lists.specs.Lists.{upFrom}
 use Rattle.number_text.specs.Numbers.{isDigit, digitOf, digits, afterDigits, isNumber, numberFrom, Number, startsWith, isField, valueIn, afterField}

@@ -1,13 +1,9 @@
 -- What is written in decimal reads back.
-use mathlib.Core.Path.{_≡_, refl, sym, _∙_}
-use mathlib.Core.Bool.{true, or-true}
-use mathlib.Core.Logic.{inl, inr}
+use mathlib.Core.{Path._≡_, Path.refl, Path.sym, Path._∙_, Bool.true, Bool.or-true, Logic.inl, Logic.inr}
 use mathlib.Core.List.{List, [], _∷_, _++_}
-use Prim.Native.Nat.{ℕ, zero, suc, _+_, _*_, _/_, _%_, _^_, _≤_, _<_}
-use native.Mathlib.Nat.{div-add-mod', mod-lt, div-lt-iff-lt-mul, pow-suc}
-use native.Mathlib.Omega.{arith}
-use lib.Dec.{eqb, leb, ltb}
-use lib.ListN.{length, getD, length-append, List·getD-append}
+use Prim.Native.Nat.{ℕ, zero, suc, _+_, _/_, _%_, _^_, _≤_, _<_}
+use native.Mathlib.{Nat.div-add-mod', Nat.mod-lt, Nat.div-lt-iff-lt-mul, Nat.pow-suc, Omega.arith}
+use lib.{Dec.eqb, Dec.ltb, ListN.length, ListN.getD, ListN.length-append, ListN.List·getD-append}
 use borrow.Author.Tests.{le-leb, lt-ltb, ltb-true, ltb-false, ne-eqb}
 use Rattle.lists.proofs.Laws.{split}
 use Rattle.number_text.specs.Numbers.{isDigit, digits, isNumber, numberFrom, decimalIn, decimal}

@@ -1,13 +1,10 @@
 -- Laws of the tests of a call: the first that fails, none that fails; and of what a refusal leaves.
-use mathlib.Core.Path.{_≡_, refl, sym, _∙_}
-use mathlib.Core.Bool.{Bool, true, false, not, _&&_}
+use mathlib.Core.{Path._≡_, Path.refl, Path.sym, Path._∙_, Bool.Bool, Bool.true, Bool.false, Bool.not, Bool._&&_}
 use mathlib.Core.List.{List, [], _∷_, _++_}
 use Prim.Native.Nat.{ℕ, zero, suc}
-use native.Mathlib.Decide.{ℕ-discrete}
-use native.Mathlib.Omega.{arith}
+use native.Mathlib.{Decide.ℕ-discrete, Omega.arith}
 use borrow.Author.Tests.{not-true, not-false}
-use lib.Dec.{eqb}
-use lib.ListN.{length, drop}
+use lib.{Dec.eqb, ListN.length, ListN.drop}
 use Rattle.lists.proofs.Laws.{true-or-false, and-both}
 use Rattle.refusals.specs.Refusals.{Test, _orRefuse_, firstRefusal, answerOf, unlessRefused, frontWritten}
 use Rattle.refusals.specs.declared.Answer.the-variants.{Done, Refused}

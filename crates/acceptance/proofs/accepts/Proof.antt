@@ -1,7 +1,6 @@
 -- `acceptance::accepts` meets its contract.
-use borrow.Author.Tests.{eq-eqb, ne-eqb, not-true, not-false}
+use borrow.{Author.Tests.eq-eqb, Author.Tests.ne-eqb, Author.Tests.not-true, Author.Tests.not-false, Author.Needs.needs}
 use Rattle.acceptance.specs.Private.{rules}
-use borrow.Author.Needs.{needs}
 use Rattle.acceptance.proofs.accepts.Statement.{statement}
 use Rattle.acceptance.proofs.accepts.Tie as tie
 

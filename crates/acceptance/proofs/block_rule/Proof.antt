@@ -1,6 +1,5 @@
 -- `acceptance::block_rule` meets its contract.
-use Rattle.acceptance.proofs.Steps.{third}
-use Rattle.acceptance.proofs.block_rule.Statement.{statement}
+use Rattle.acceptance.proofs.{Steps.third, block_rule.Statement.statement}
 use Rattle.acceptance.proofs.block_rule.Tie as tie
 
 pub block-rule-spec : {M : Type 1} → statement M

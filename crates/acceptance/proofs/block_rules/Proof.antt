@@ -1,13 +1,12 @@
 -- `acceptance::block_rules` meets its contract.
 use Rattle.acceptance.proofs.Steps.{every-next, every-stop, every-done, interval-of, product-fits, count-fits}
+use Rattle.acceptance.proofs.block_rules.Statement.{statement}
 use Rattle.lists.specs.Lists.{every, upFrom}
 use Rattle.acceptance.specs.Private.{blockAt, blocksRule}
 use Rattle.layouts.proofs.AllowedLaws.{allowed-n-is}
 use native.Mathlib.Omega.{arith}
 use Prim.Native.Nat.{_+_, _-_, _/_, _≤_}
-use mathlib.Core.Bool.{true}
-use mathlib.Core.Path.{_≡_, refl}
-use Rattle.acceptance.proofs.block_rules.Statement.{statement}
+use mathlib.Core.{Bool.true, Path._≡_, Path.refl}
 use Rattle.acceptance.proofs.block_rules.Tie as tie
 
 abbrev Inv-loop : tie.InvT-loop
@@ -23,7 +22,8 @@ block-rules-spec = tie.close (tie.spec
     (λ c. let b = c .before .before .before in record { fits = count-fits (b .args .n) (b .args .d) _ (c .loop-test .taken) (b .pre .most) })
     (λ c. let b = c .before .before .before in record { fits = product-fits (b .args .n) (b .args .d) _ (omega arith) (b .pre .most) })
     (λ c κs. interval-of _ (c .before .before .before .pre) (omega arith) (omega arith))
-    (λ c. let b = c .before .before .before in let a = b .before .before .args in every-stop _ 1 (a .d / a .n) (b .loop .k + 1) (omega arith) (omega arith) (c .before .block-rule .ensures) (c .if1 .taken))
+    (λ c. let b = c .before .before .before in let a = b .before .before .args in
+    every-stop _ 1 (a .d / a .n) (b .loop .k + 1) (omega arith) (omega arith) (c .before .block-rule .ensures) (c .if1 .taken))
     (λ c. omega arith)
     (λ c. let l = c .before .before .before .loop in
     (omega arith, every-next _ 1 (l .k) (l .k + 1) (omega arith) (l .inv .1) (c .before .block-rule .ensures) (c .if1 .left)))

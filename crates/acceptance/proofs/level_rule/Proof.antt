@@ -1,13 +1,12 @@
 -- `acceptance::level_rule` meets its contract.
 use Rattle.acceptance.proofs.Steps.{count-fits, every-next, every-stop, every-done, halves-at-by, level-by, chain-next-of, weight-positive, product-fits}
+use Rattle.acceptance.proofs.level_rule.Statement.{statement}
 use Rattle.lists.specs.Lists.{every, upFrom}
 use Rattle.acceptance.specs.Private.{halvesAt}
 use borrow.Author.Needs.{needs}
 use native.Mathlib.Omega.{arith}
 use Prim.Native.Nat.{_+_, _-_, _/_, _≤_}
-use mathlib.Core.Bool.{true}
-use mathlib.Core.Path.{_≡_, refl}
-use Rattle.acceptance.proofs.level_rule.Statement.{statement}
+use mathlib.Core.{Bool.true, Path._≡_, Path.refl}
 use Rattle.acceptance.proofs.level_rule.Tie as tie
 
 abbrev Inv-loop : tie.InvT-loop

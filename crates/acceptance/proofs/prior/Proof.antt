@@ -1,9 +1,7 @@
 -- `acceptance::prior` meets its contract.
-use Rattle.acceptance.proofs.Steps.{interval-before}
-use borrow.Author.Tests.{le-leb, lt-leb}
+use Rattle.acceptance.proofs.{Steps.interval-before, prior.Statement.statement}
+use borrow.{Author.Tests.le-leb, Author.Tests.lt-leb, Author.Needs.needs}
 use Rattle.acceptance.specs.Private.{prior}
-use borrow.Author.Needs.{needs}
-use Rattle.acceptance.proofs.prior.Statement.{statement}
 use Rattle.acceptance.proofs.prior.Tie as tie
 
 pub prior-spec : {M : Type 1} → statement M

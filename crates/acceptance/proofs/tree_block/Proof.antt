@@ -1,9 +1,8 @@
 -- `acceptance::tree_block` meets its contract.
-use Rattle.acceptance.proofs.Steps.{chain-own}
+use Rattle.acceptance.proofs.{Steps.chain-own, tree_block.Statement.statement}
 use Rattle.layouts.proofs.AllowedLaws.{allowed-n-is}
 use Rattle.acceptance.specs.Private.{blockRule}
 use borrow.Author.Needs.{needs}
-use Rattle.acceptance.proofs.tree_block.Statement.{statement}
 use Rattle.acceptance.proofs.tree_block.Tie as tie
 
 pub tree-block-spec : {M : Type 1} → statement M

@@ -1,6 +1,5 @@
 -- `layouts::allowed_d` meets its contract.
-use native.Mathlib.Nat.{mul-le-mul, mul-pos}
-use native.Mathlib.Omega.{arith}
+use native.Mathlib.{Nat.mul-le-mul, Nat.mul-pos, Omega.arith}
 use borrow.Author.Tests.{lt-leb, le-leb}
 use Rattle.layouts.proofs.allowed_d.Statement.{statement}
 use Rattle.layouts.proofs.allowed_d.Tie as tie

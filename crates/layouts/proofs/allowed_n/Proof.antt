@@ -1,6 +1,5 @@
 -- `layouts::allowed_n` meets its contract.
-use Rattle.layouts.proofs.AllowedLaws.{one-bit, too-large}
-use Rattle.layouts.proofs.allowed_n.Statement.{statement}
+use Rattle.layouts.proofs.{AllowedLaws.one-bit, AllowedLaws.too-large, allowed_n.Statement.statement}
 use Rattle.layouts.proofs.allowed_n.Tie as tie
 
 pub allowed-n-spec : {M : Type 1} → statement M

@@ -1,7 +1,6 @@
 -- `layouts::covers` meets its contract.
-use Rattle.layouts.proofs.AllowedLaws.{weight, covers-by}
+use Rattle.layouts.proofs.{AllowedLaws.weight, AllowedLaws.covers-by, covers.Statement.statement}
 use borrow.Author.Needs.{needs}
-use Rattle.layouts.proofs.covers.Statement.{statement}
 use Rattle.layouts.proofs.covers.Tie as tie
 
 pub covers-spec : {M : Type 1} → statement M

@@ -1,7 +1,6 @@
 -- `layouts::intervals` meets its contract.
 use native.Mathlib.Omega.{arith}
-use Rattle.layouts.proofs.AllowedLaws.{allowed-n-is}
-use Rattle.layouts.proofs.intervals.Statement.{statement}
+use Rattle.layouts.proofs.{AllowedLaws.allowed-n-is, intervals.Statement.statement}
 use Rattle.layouts.proofs.intervals.Tie as tie
 
 pub intervals-spec : {M : Type 1} → statement M

@@ -1,6 +1,5 @@
 -- `layouts::lg` meets its contract.
-use Rattle.layouts.proofs.AllowedLaws.{lg-leading}
-use Rattle.layouts.proofs.lg.Statement.{statement}
+use Rattle.layouts.proofs.{AllowedLaws.lg-leading, lg.Statement.statement}
 use Rattle.layouts.proofs.lg.Tie as tie
 
 pub lg-spec : {M : Type 1} → statement M

@@ -1,7 +1,6 @@
 -- `layouts::size` meets its contract.
 use lib.Pow.{pow-mono}
-use native.Mathlib.Omega.{arith}
-use native.Mathlib.Nat.{mod-eq-of-lt}
+use native.Mathlib.{Omega.arith, Nat.mod-eq-of-lt}
 use Prim.Native.Nat.{ℕ, _*_, _%_, _^_, _≤_}
 use mathlib.Core.Path.{_≡_}
 use borrow.Author.Needs.{needs}

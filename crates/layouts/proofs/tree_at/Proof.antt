@@ -1,12 +1,11 @@
 -- `layouts::tree_at` meets its contract.
-use Rattle.layouts.proofs.AllowedLaws.{place-fits, place}
+use Rattle.layouts.proofs.{AllowedLaws.place-fits, AllowedLaws.place, tree_at.Statement.statement}
 use mathlib.Core.Path.{refl}
 use borrow.Author.Needs.{needs}
-use Rattle.layouts.proofs.tree_at.Statement.{statement}
 use Rattle.layouts.proofs.tree_at.Tie as tie
 
 pub tree-at-spec : {M : Type 1} → statement M
-tree-at-spec = tie.close (tie.spec (λ c. search needs) (λ c. λ κs. search needs)
+tree-at-spec = tie.close (tie.spec (λ c. search needs) (λ c κs. search needs)
     (λ c. record {
       fits = place-fits 3 _ _ _ refl (c .before .pre .0) (c .before .pre .2) (c .before .pre .3)
           (c .values-through .ensures);

@@ -1,7 +1,6 @@
 -- `layouts::tree_through` meets its contract.
-use Rattle.layouts.proofs.AllowedLaws.{TreeSum, tree-sum-is}
+use Rattle.layouts.proofs.{AllowedLaws.TreeSum, AllowedLaws.tree-sum-is, tree_through.Statement.statement}
 use borrow.Author.Needs.{needs}
-use Rattle.layouts.proofs.tree_through.Statement.{statement}
 use Rattle.layouts.proofs.tree_through.Tie as tie
 
 sum : (c : tie.After-intervals) → TreeSum (c .before .args .n) (c .before .args .g)

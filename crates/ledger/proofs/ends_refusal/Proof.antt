@@ -1,10 +1,8 @@
 -- The loop's invariant: the first i ends are good. The measure is what is left of the days.
 use Prim.Native.Nat.{_≤_, _-_}
-use mathlib.Core.Path.{_≡_, sym, refl}
-use mathlib.Core.Bool.{true}
+use mathlib.Core.{Path._≡_, Path.sym, Path.refl, Bool.true}
 use native.Mathlib.Omega.{arith}
-use borrow.Author.Needs.{needs}
-use borrow.Author.Tests.{not-true, not-false}
+use borrow.{Author.Needs.needs, Author.Tests.not-true, Author.Tests.not-false}
 use Rattle.ledger.specs.Ledger.{goodEnds}
 use Rattle.ledger.proofs.EndLaws.{refusal-9, refusal-0, test-good, test-bad}
 use Rattle.ledger.proofs.ends_refusal.Statement.{statement}

@@ -1,7 +1,6 @@
 -- The three tests in their order.
 use native.Mathlib.Omega.{arith}
-use borrow.Author.Needs.{needs}
-use borrow.Author.Tests.{le-leb, lt-leb}
+use borrow.{Author.Needs.needs, Author.Tests.le-leb, Author.Tests.lt-leb}
 use Rattle.ledger.proofs.good_end.Statement.{statement}
 use Rattle.ledger.proofs.good_end.Tie as tie
 

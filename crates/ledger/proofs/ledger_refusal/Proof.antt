@@ -1,7 +1,6 @@
 -- `ledger::ledger_refusal` meets its contract.
 use borrow.Author.Needs.{needs}
-use Rattle.ledger.proofs.LedgerLaws.{layout-refused, ends-refused}
-use Rattle.ledger.proofs.ledger_refusal.Statement.{statement}
+use Rattle.ledger.proofs.{LedgerLaws.layout-refused, LedgerLaws.ends-refused, ledger_refusal.Statement.statement}
 use Rattle.ledger.proofs.ledger_refusal.Tie as tie
 
 pub ledger-refusal-spec : {M : Type 1} → statement M

@@ -1,20 +1,18 @@
 -- `listing::tile_walk` meets its contract.
 use Rattle.buffers.proofs.Writes.{wrote-one, wrote-as}
-use Rattle.listing.proofs.Writes.{tile-day, tile-upper, level-less, place-one, left-place, lower-tile, upper-tile, tile-sum, tile-small, tile-level, tile-right-place, tile-join}
-use borrow.Author.Needs.{needs}
+use Rattle.listing.proofs.Writes.{tile-day, tile-upper, level-less, place-one, left-place, lower-tile, upper-tile}
+use Rattle.listing.proofs.Writes.{tile-sum, tile-small, tile-level, tile-right-place, tile-join}
+use Rattle.listing.proofs.{+tile_walk.statement, +tile_walk.Tie.close}
+use borrow.{Author.Needs.needs, Fn.Kinds.In, Fn.PlainCycle.Measures, Fn.PlainCycle.is, Fn.PlainCycle.falls, Fn.PlainCycle.and}
 use lib.ListN.{length-set}
 use native.Mathlib.Omega.{arith}
 use Prim.Native.Nat.{ℕ, _<_}
 use mathlib.Core.Path.{_∙_}
-use borrow.Fn.Kinds.{In}
-use borrow.Fn.PlainCycle.{Measures, is, falls, and}
 use Rattle.listing.proofs.tile_walk.Reads as tile-walk
 use Rattle.listing.proofs.tile_walk.Kinds as tile-walk-kinds
 use Rattle.listing.proofs.+tile_walk.Lts-tile_walk as tile-walk-lts
 use Rattle.layouts.proofs.size.Reads as size-reads
 use Rattle.acceptance.proofs.values.tile_bit.Reads as tile-bit-reads
-use Rattle.listing.proofs.+tile_walk.{statement}
-use Rattle.listing.proofs.+tile_walk.Tie.{close}
 
 abbrev μ-tile-walk : Measures 2 tile-walk-kinds.ps ℕ
 μ-tile-walk κs a = a .1 .1 .0

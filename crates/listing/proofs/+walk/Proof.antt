@@ -1,20 +1,17 @@
 -- `listing::walk` meets its contract.
 use Rattle.buffers.proofs.Writes.{wrote-none, wrote-one}
 use Rattle.listing.proofs.Writes.{tree-none, tree-day, level-less, place-one, left-room, left-chain, right-chain, left-place, tree-right-place, tree-join}
-use borrow.Author.Needs.{needs}
+use Rattle.listing.proofs.{+walk.statement, +walk.Tie.close}
+use borrow.{Author.Needs.needs, Fn.Kinds.In, Fn.PlainCycle.Measures, Fn.PlainCycle.is, Fn.PlainCycle.falls, Fn.PlainCycle.and}
 use lib.ListN.{length-set}
 use native.Mathlib.Omega.{arith}
-use Prim.Native.Nat.{_-_, ℕ, _<_}
+use Prim.Native.Nat.{ℕ, _<_}
 use mathlib.Core.Path.{_∙_}
-use borrow.Fn.Kinds.{In}
-use borrow.Fn.PlainCycle.{Measures, is, falls, and}
 use Rattle.listing.proofs.walk.Reads as walk
 use Rattle.listing.proofs.walk.Kinds as walk-kinds
 use Rattle.listing.proofs.+walk.Lts-walk as walk-lts
 use Rattle.layouts.proofs.size.Reads as size-reads
 use Rattle.acceptance.proofs.values.tree_passes.Reads as tree-passes-reads
-use Rattle.listing.proofs.+walk.{statement}
-use Rattle.listing.proofs.+walk.Tie.{close}
 
 abbrev μ-walk : Measures 2 walk-kinds.ps ℕ
 μ-walk κs a = a .1 .0

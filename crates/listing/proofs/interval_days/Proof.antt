@@ -1,7 +1,6 @@
 -- `listing::interval_days` meets its contract.
-use Rattle.listing.proofs.Lists.{scheme-is-2}
+use Rattle.listing.proofs.{Lists.scheme-is-2, interval_days.Statement.statement}
 use borrow.Author.Needs.{needs}
-use Rattle.listing.proofs.interval_days.Statement.{statement}
 use Rattle.listing.proofs.interval_days.Tie as tie
 
 pub interval-days-spec : {M : Type 1} → statement M

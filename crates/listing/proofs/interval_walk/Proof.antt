@@ -1,15 +1,14 @@
 -- `listing::interval_walk` meets its contract.
 use Rattle.listing.proofs.Lists.{none-yet, so-far-length, next-place, next-interval, all-intervals}
+use Rattle.listing.proofs.interval_walk.Statement.{statement}
 use Rattle.acceptance.proofs.Steps.{interval-of, interval-end, count-fits, product-fits}
 use Rattle.acceptance.specs.Private.{isListed}
 use Rattle.buffers.specs.Private.{Wrote}
 use Rattle.layouts.proofs.AllowedLaws.{allowed-n-is}
 use Rattle.evidence.specs.Evidence.{days}
 use Rattle.lists.specs.Lists.{keep}
-use native.Mathlib.Omega.{arith}
-use native.Mathlib.Nat.{zero-mul}
-use Prim.Native.Nat.{_+_, _-_, _*_, _≤_}
-use Rattle.listing.proofs.interval_walk.Statement.{statement}
+use native.Mathlib.{Omega.arith, Nat.zero-mul}
+use Prim.Native.Nat.{_-_, _*_, _≤_}
 use Rattle.listing.proofs.interval_walk.Tie as tie
 
 abbrev Inv-loop : tie.InvT-loop

@@ -1,7 +1,6 @@
 -- `listing::listed` meets its contract.
-use Rattle.listing.proofs.Lists.{below-third, rules-levels}
+use Rattle.listing.proofs.{Lists.below-third, Lists.rules-levels, listed.Statement.statement}
 use borrow.Author.Needs.{needs}
-use Rattle.listing.proofs.listed.Statement.{statement}
 use Rattle.listing.proofs.listed.Tie as tie
 
 pub listed-spec : {M : Type 1} → statement M

@@ -7,7 +7,7 @@ use Rattle.listing.proofs.tile_days.Statement.{statement}
 use Rattle.listing.proofs.tile_days.Tie as tie
 
 pub tile-days-spec : {M : Type 1} → statement M
-tile-days-spec = tie.close (tie.spec (λ c. λ κs. search needs)
+tile-days-spec = tie.close (tie.spec (λ c κs. search needs)
     (λ c. wrote-none _ _ _ (tile-whole _ _ _ (c .before .before .before .before .pre .0) (c .before .tile-passes .ensures)
     (c .if1 .taken)))
     (λ c κs. allowed-n-is _ (c .before .before .before .before .pre .0 .has .n-ok) .some)

@@ -1,7 +1,6 @@
 -- `number_text::after` meets its contract.
-use Rattle.number_text.proofs.FieldLaws.{after-byte, after-past}
+use Rattle.number_text.proofs.{FieldLaws.after-byte, FieldLaws.after-past, after.Statement.statement}
 use borrow.Author.Needs.{needs}
-use Rattle.number_text.proofs.after.Statement.{statement}
 use Rattle.number_text.proofs.after.Tie as tie
 
 pub after-spec : {M : Type 1} → statement M

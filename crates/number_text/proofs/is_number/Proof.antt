@@ -1,11 +1,9 @@
 -- `number_text::is_number` meets its contract.
-use Rattle.number_text.proofs.FieldLaws.{number-more}
+use Rattle.number_text.proofs.{FieldLaws.number-more, is_number.Statement.statement}
 use Rattle.number_text.specs.Numbers.{isNumber}
 use native.Mathlib.Omega.{arith}
 use lib.ListN.{length}
-use borrow.Author.Tests.{le-leb, lt-leb}
-use borrow.Author.Needs.{needs}
-use Rattle.number_text.proofs.is_number.Statement.{statement}
+use borrow.{Author.Tests.le-leb, Author.Tests.lt-leb, Author.Needs.needs}
 use Rattle.number_text.proofs.is_number.Tie as tie
 
 pub is-number-spec : {M : Type 1} → statement M

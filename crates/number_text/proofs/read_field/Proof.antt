@@ -2,9 +2,8 @@
 use native.Mathlib.Omega.{arith}
 use Prim.Native.Nat.{_≤_}
 use lib.ListN.{length}
-use Rattle.number_text.proofs.FieldLaws.{digits-within, field-is}
+use Rattle.number_text.proofs.{FieldLaws.digits-within, FieldLaws.field-is, read_field.Statement.statement}
 use borrow.Author.Needs.{needs}
-use Rattle.number_text.proofs.read_field.Statement.{statement}
 use Rattle.number_text.proofs.read_field.Tie as tie
 
 -- the digits end at or behind their place, within the text

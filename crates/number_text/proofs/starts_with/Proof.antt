@@ -1,7 +1,6 @@
 -- `number_text::starts_with` meets its contract.
-use Rattle.number_text.proofs.FieldLaws.{starts-at, starts-past}
+use Rattle.number_text.proofs.{FieldLaws.starts-at, FieldLaws.starts-past, starts_with.Statement.statement}
 use borrow.Author.Needs.{needs}
-use Rattle.number_text.proofs.starts_with.Statement.{statement}
 use Rattle.number_text.proofs.starts_with.Tie as tie
 
 pub starts-with-spec : {M : Type 1} → statement M

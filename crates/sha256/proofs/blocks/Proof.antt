@@ -4,8 +4,7 @@ use mathlib.Core.Path.{_≡_}
 use borrow.Author.Needs.{needs}
 use native.Mathlib.Omega.{arith}
 use Rattle.sha256.specs.Sha256 as spec
-use Rattle.sha256.proofs.Loops.{blocks-none, blocks-step, blocks-whole}
-use Rattle.sha256.proofs.blocks.Statement.{statement}
+use Rattle.sha256.proofs.{Loops.blocks-none, Loops.blocks-step, Loops.blocks-whole, blocks.Statement.statement}
 use Rattle.sha256.proofs.blocks.Tie as tie
 
 abbrev Inv-loop : tie.InvT-loop
@@ -17,7 +16,7 @@ abbrev μ-loop : tie.MeasureT-loop
 pub blocks-spec : {M : Type 1} → statement M
 blocks-spec = tie.close (tie.spec
     Inv-loop μ-loop (λ c. (search needs, blocks-none _ _)) (λ c. search needs) (λ c. search needs) (λ c. search needs)
-    (λ c. search needs) (λ c. search needs) (λ c. λ κs. search needs) (λ c. λ κs. search needs) (λ c. search needs)
+    (λ c. search needs) (λ c. search needs) (λ c κs. search needs) (λ c κs. search needs) (λ c. search needs)
     (λ c. search needs)
     (λ c. (
       search needs,

@@ -1,13 +1,11 @@
 -- `sha256_words::bytes` meets its contract.
-use lib.ListN.{length-set}
+use lib.ListN.{length-set, length, take}
 use Prim.Native.Nat.{_≤_, _-_, _*_}
 use mathlib.Core.Path.{_≡_, refl}
-use lib.ListN.{length, take}
 use borrow.Author.Needs.{needs}
 use native.Mathlib.Omega.{arith}
 use Rattle.sha256_words.specs.Words as spec
-use Rattle.sha256_words.proofs.Laws.{bytes-none, bytes-step, bytes-whole}
-use Rattle.sha256_words.proofs.bytes.Statement.{statement}
+use Rattle.sha256_words.proofs.{Laws.bytes-none, Laws.bytes-step, Laws.bytes-whole, bytes.Statement.statement}
 use Rattle.sha256_words.proofs.bytes.Tie as tie
 
 abbrev Inv-loop : tie.InvT-loop

@@ -1,6 +1,5 @@
 -- `sha256_words::ch` meets its contract.
-use Rattle.sha256_words.proofs.Choose.{ch-by}
-use Rattle.sha256_words.proofs.ch.Statement.{statement}
+use Rattle.sha256_words.proofs.{Choose.ch-by, ch.Statement.statement}
 use Rattle.sha256_words.proofs.ch.Tie as tie
 
 pub ch-spec : {M : Type 1} → statement M

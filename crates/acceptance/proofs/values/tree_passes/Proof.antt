@@ -1,6 +1,5 @@
 -- `acceptance::values::tree_passes` meets its contract.
-use Rattle.acceptance.proofs.Steps.{chain-has, tree-inside, passes-by}
-use Rattle.acceptance.proofs.values.tree_passes.Statement.{statement}
+use Rattle.acceptance.proofs.{Steps.chain-has, Steps.tree-inside, Steps.passes-by, values.tree_passes.Statement.statement}
 use Rattle.acceptance.proofs.values.tree_passes.Tie as tie
 
 pub tree-passes-spec : {M : Type 1} → statement M
