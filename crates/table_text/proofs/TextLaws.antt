@@ -24,7 +24,8 @@ use Rattle.reading.proofs.RefusalLaws.{table-refused}
 use Rattle.reading.proofs.Report.{readout-found}
 use Rattle.reading.proofs.Statements.{refusal-said, count-found}
 use Rattle.number_text.specs.Numbers.{digitOf, digits, decimal}
-use Rattle.table_text.specs.Text.{lastLine, isFormed, schemeIn, nIn, fIn, dIn, outcomesIn, formTests, digitTests, answerTests, textTests, textRefusal, line, noLine, refLine, dayLines, tableLines, printed, textOf}
+use Rattle.table_text.specs.Text.{lastLine, isFormed, schemeIn, nIn, fIn, dIn, outcomesIn, formTests, digitTests, answerTests, textTests}
+use Rattle.table_text.specs.Text.{textRefusal, line, noLine, refLine, dayLines, tableLines, printed, textOf}
 use Rattle.table_text.specs.Private.{TypedIs, ReportIs, numbersIn, answered}
 use Rattle.table_text.specs.declared.Report.{Report}
 use Rattle.table_text.specs.declared.Typed.{Typed}

@@ -81,14 +81,16 @@ is-day : (c : tie.After-wide2 Inv-loop μ-loop) →
 is-day c =
     let loop = c .before .before .before .before .before .before .before .before .before .before .before .before .before .before .before .before in
     ap₂ (λ (x y : ℕ). take (y - x) (drop x (loop .before .before .before .before .before .before .before .before .args .ledger .now)))
-    (c .before .before .before .before .before .before .before .before .before .before .before .before .before .before .start-of .ensures) (c .before .before .before .before .before .before .before .before .before .before .before .before .before .end-of .ensures)
+    (c .before .before .before .before .before .before .before .before .before .before .before .before .before .before .start-of .ensures)
+    (c .before .before .before .before .before .before .before .before .before .before .before .before .before .end-of .ensures)
 
 add-at : tie.Need-add-at Inv-loop μ-loop
 add-at c =
     let loop = c .before .before .before .before .before .before .before .before .before .before .before .before .before .before .before .before in
     let day = c .before .before .before .before .before .before .before .check-day .ensures in
     let start = loop .before .before .before .before .before .before .before .before in
-    let q = outcomes-fit (start .pre) (loop .loop .inv .3) (turn (c .before .before .before .before .before .before .before .before .before .before .before .before .before .before .before)) (is-day c) (c .before .before .before .before .before .before .before .before .before .before .before .before .day-number .ensures)
+    let q = outcomes-fit (start .pre) (loop .loop .inv .3) (turn (c .before .before .before .before .before .before .before .before .before .before .before .before .before .before .before))
+    (is-day c) (c .before .before .before .before .before .before .before .before .before .before .before .before .day-number .ensures)
     (loop .loop .inv .2) (day .0) (day .1 .0) (day .1 .1) in
     omega (arith, q, c .wide2 .ensures, start .good .1 .1 .1 .1 .1 .1 .1 .0 .0)
 
@@ -100,7 +102,8 @@ loop-again c = (
   let loop = c .before .before .before .before .before .before .before .before .before .before .before .before .before .before .before .before in
       let day = c .before .before .before .before .before .before .before .check-day .ensures in
       rw (c .wide2 .ensures)
-      (through-next (loop .before .before .before .before .before .before .before .before .pre) (loop .loop .inv .3) (turn (c .before .before .before .before .before .before .before .before .before .before .before .before .before .before .before)) (is-day c)
+      (through-next (loop .before .before .before .before .before .before .before .before .pre) (loop .loop .inv .3)
+      (turn (c .before .before .before .before .before .before .before .before .before .before .before .before .before .before .before)) (is-day c)
       (c .before .before .before .before .before .before .before .before .before .before .before .before .day-number .ensures) (loop .loop .inv .2) (day .0) (day .1 .0) (day .1 .1)),
 )
 

@@ -12,15 +12,19 @@ use Rattle.record_bytes.proofs.encode.Tie as tie
 put-requires : tie.Need-put-requires
 put-requires c κs =
     let block : length
-    (c .before .before .before .before .before .before .before .before .before .before .before .before .before .before .before .before .before .before .before .args .state .block) ≡ 64 = search needs in
+    (c .before .before .before .before .before .before .before .before .before .before .before .before .before .before .before .before .before .before .before .args .state .block) ≡ 64 =
+    search needs in
     let all : length (c .before .before .before .before .put-slots .last .0) ≡ 692 = search needs in omega arith
 
 returns : tie.Need-returns
 returns c =
     let block : length
-    (c .before .before .before .before .before .before .before .before .before .before .before .before .before .before .before .before .before .before .before .before .before .args .state .block) ≡ 64 = search needs in
+    (c .before .before .before .before .before .before .before .before .before .before .before .before .before .before .before .before .before .before .before .before .before .args .state .block) ≡ 64 =
+    search needs in
     let all : length (c .before .before .before .before .before .before .put-slots .last .0) ≡ 692 = search needs in
-    let room : 692 ≤ 628 + length (c .before .before .before .before .before .before .before .before .before .before .before .before .before .before .before .before .before .before .before .before .before .args .state .block) = omega arith in
+    let room : 692 ≤ 628 + length
+    (c .before .before .before .before .before .before .before .before .before .before .before .before .before .before .before .before .before .before .before .before .before .args .state .block) =
+    omega arith in
     let slots = c .before .before .before .before .before .before in
     let counts = slots .before .before .before .before .before .before .before .before .before .before .before .before .before in
     record-put _ (counts .before .before .args .state) (counts .put-counts .ensures) (slots .before .before .before .before .before .before .before .before .before .put-words .ensures)

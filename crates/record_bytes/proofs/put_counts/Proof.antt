@@ -7,7 +7,8 @@ use Rattle.record_bytes.proofs.put_counts.Tie as tie
 returns : tie.Need-returns
 returns c =
     let three = c .before .before .before .before .before .before .before .before .before .before in
-    counts-of _ (three .before .before .before .before .before .before .before .before .before .before .before .args .state) (three .before .before .before .before .before .before .before .before .put-number .ensures)
+    counts-of _ (three .before .before .before .before .before .before .before .before .before .before .before .args .state)
+    (three .before .before .before .before .before .before .before .before .put-number .ensures)
     (three .before .before .before .before .put-number2 .ensures) (three .put-number3 .ensures) (c .before .before .before .before .before .before .put-number4 .ensures)
     (c .before .before .put-number5 .ensures)
 

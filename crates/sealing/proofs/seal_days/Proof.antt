@@ -42,7 +42,9 @@ sealed c =
     let loop = c .before .before .before .before .before .before .before .before .before .before .before .loop in
     let day = c .before .before .before .before .before .seal-day in
     day-sealed (loop .inv .2) (loop .inv .3) (turn (c .before .before .before .before .before .before .before .before .before .before)) _ _ _ _ _
-    (ap₂ (λ (x y : ℕ). take (y - x) (drop x (c .before .before .before .before .before .before .before .before .before .before .before .before .before .before .before .before .before .before .args .ledger .now))) (c .before .before .before .before .before .before .before .before .before .start-of .ensures) (c .before .before .before .before .before .before .before .before .end-of .ensures))
+    (ap₂ (λ (x y : ℕ). take (y - x) (drop x
+    (c .before .before .before .before .before .before .before .before .before .before .before .before .before .before .before .before .before .before .args .ledger .now)))
+    (c .before .before .before .before .before .before .before .before .before .start-of .ensures) (c .before .before .before .before .before .before .before .before .end-of .ensures))
     (day .ensures .0) (day .ensures .1) (c .before .count-of .ensures) (c .wide2 .ensures)
 
 pub seal-days-spec : {M : Type 1} → statement M
