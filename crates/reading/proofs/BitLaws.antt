@@ -1,21 +1,15 @@
 -- Laws of outcomes taken in turn: their greatest and least, tables of 0 and 1, tables of passes.
-use mathlib.Core.Path.{_≡_, refl, sym, ap, _∙_}
-use mathlib.Core.Logic.{inl, inr}
-use mathlib.Core.Bool.{true, false, _&&_, _||_, and-true, and-false}
-use mathlib.Core.List.{List, [], _∷_}
+use mathlib.Core.{Path._≡_, Path.refl, Path.sym, Path.ap, Path._∙_, Logic.inl, Logic.inr, List.List, List.[], List._∷_}
+use mathlib.Core.Bool.{true, _&&_, _||_, and-true, and-false}
 use Prim.Native.Nat.{ℕ, zero, suc, _+_, _≤_, _<_, min, max}
-use native.Mathlib.Numerals.{add-one}
-use native.Mathlib.Omega.{arith}
-use lib.Dec.{eqb, leb}
-use lib.ListN.{length, getD, drop}
-use lib.Seq.{drop-cons, drop-length}
+use native.Mathlib.{Numerals.add-one, Omega.arith}
+use lib.{Dec.eqb, Dec.leb, ListN.length, ListN.getD, ListN.drop, Seq.drop-cons, Seq.drop-length}
 use borrow.Author.Tests.{eqb-true, ne-eqb, le-leb, lt-leb, leb-true}
 use Rattle.evidence.specs.Evidence.{tableOf, accepted}
 use Rattle.lists.proofs.Laws.{true-or-false, or-split, and-both, bool-ext, mem-has}
 use Rattle.evidence.proofs.TableLaws.{none-met, given-iff-accepted}
 use Rattle.acceptance.specs.Private.{Bits}
-use Rattle.reading.specs.Contract.{bits}
-use Rattle.reading.specs.Private.{inTurn, greatest, least}
+use Rattle.reading.specs.{Contract.bits, Private.inTurn, Private.greatest, Private.least}
 
 -- ---- one more in turn
 

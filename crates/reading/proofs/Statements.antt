@@ -1,23 +1,17 @@
 -- The statements of specs/Statements.antt, proved.
-use mathlib.Core.Path.{_≡_, refl, sym, ap, _∙_}
-use mathlib.Core.Logic.{inl, inr}
+use mathlib.Core.{Path._≡_, Path.refl, Path.sym, Path.ap, Path._∙_, Logic.inl, Logic.inr, List.List, List.[], List._∷_, List._++_}
 use mathlib.Core.Bool.{Bool, true, false, cond}
-use mathlib.Core.List.{List, [], _∷_, _++_}
 use Prim.Native.Nat.{ℕ, zero, suc, _≤_}
-use native.Mathlib.Nat.{le-refl}
-use native.Mathlib.Omega.{arith}
-use lib.ListN.{length, take, drop}
-use lib.Seq.{take-at, drop-at, take-take}
+use native.Mathlib.{Nat.le-refl, Omega.arith}
+use lib.{ListN.length, ListN.take, ListN.drop, Seq.take-at, Seq.drop-at, Seq.take-take}
 use Rattle.lists.proofs.Laws.{enough-read, split, true-or-false}
 use Rattle.evidence.specs.Evidence.{accepted, listing}
 use Rattle.evidence.proofs.TableLaws.{given-iff-accepted, listed-iff, listing-ascends}
 use Rattle.refusals.specs.Refusals.{firstRefusal, unlessRefused}
 use Rattle.layouts.specs.Layouts.{chains}
-use Rattle.reading.specs.declared.Reading.{Reading}
+use Rattle.reading.specs.{declared.Reading.Reading, Numbers.lastGood, Private.givenTests}
 use Rattle.reading.specs.declared.Reading.the-variants.{Clean, Changed, Refused}
-use Rattle.reading.specs.Numbers.{lastGood}
 use Rattle.reading.specs.Contract.{Report, reportOf, refusedReport, tableIn, bits, readRefusal, listedIn, found, readout}
-use Rattle.reading.specs.Private.{givenTests}
 use Rattle.reading.specs.Statements.{Supplied, SomeSet, ReadIfGiven, SaysNoSet, ListsDaysOfSets, OutcomesRead, CaseOf, CaseTold, OneAnswer}
 use Rattle.reading.proofs.RefusalLaws.{set-read, table-given, table-refused, read-given}
 use Rattle.reading.proofs.Report.{readout-found}

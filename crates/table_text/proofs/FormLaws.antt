@@ -1,7 +1,5 @@
 -- A text is formed exactly if it is laid out as 01 says, and then its numbers are those of its fields.
-use mathlib.Core.Path.{_≡_, refl, ap, _∙_}
-use mathlib.Core.Bool.{true, _&&_}
-use mathlib.Core.List.{List, [], _∷_, _++_, map}
+use mathlib.Core.{Path._≡_, Path.refl, Path.ap, Path._∙_, Bool.true, Bool._&&_, List.List, List.[], List._∷_, List._++_, List.map}
 use Prim.Native.Nat.{ℕ}
 use Rattle.lists.specs.Lists.{same}
 use Rattle.lists.proofs.Laws.{and-both, same-eq}

@@ -3,18 +3,14 @@ use mathlib.Core.Path.{_≡_, refl, sym, ap, ap₂, _∙_}
 use mathlib.Core.Bool.{Bool, false, _&&_, and-true, and-false}
 use mathlib.Core.List.{List, [], _∷_, _++_, map, append-assoc, map-append}
 use Prim.Native.Nat.{ℕ, suc, _+_, _-_, _≤_, _<_}
-use native.Mathlib.Numerals.{add-one}
-use native.Mathlib.Omega.{arith}
-use lib.Dec.{eqb}
+use native.Mathlib.{Numerals.add-one, Omega.arith}
+use lib.{Dec.eqb, Seq.take-all, Seq.take-suc, Seq.drop-cons, Seq.drop-drop, Seq.length-take-le, Seq.set-at}
 use lib.ListN.{length, getD, set, take, drop, length-drop, length-map, drop-of-length-le}
-use lib.Seq.{take-all, take-suc, drop-cons, drop-drop, length-take-le, set-at}
 use Rattle.lists.specs.Lists.{same}
 use Rattle.number_text.specs.Numbers.{digitOf, digits, afterDigits, isField, valueIn, afterField}
-use Rattle.number_text.specs.Private.{FieldAt}
-use Rattle.number_text.specs.declared.Field.{Field}
+use Rattle.number_text.specs.{Private.FieldAt, declared.Field.Field}
 use Rattle.number_text.proofs.FieldLaws.{digits-part, digits-within}
-use Rattle.table_text.specs.Text.{isFormed, lastLine}
-use Rattle.table_text.specs.Private.{TypedIs}
+use Rattle.table_text.specs.{Text.isFormed, Text.lastLine, Private.TypedIs}
 
 -- ---- the end
 

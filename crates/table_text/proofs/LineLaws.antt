@@ -2,10 +2,8 @@
 use mathlib.Core.Path.{_≡_, refl, sym, ap, _∙_}
 use mathlib.Core.List.{List, [], _∷_, _++_, append-assoc, append-nil}
 use Prim.Native.Nat.{ℕ, zero, suc, _+_, _*_, _≤_, _<_}
-use native.Mathlib.Numerals.{add-one}
-use native.Mathlib.Omega.{arith}
-use lib.ListN.{length, getD, set, take, length-append}
-use lib.Seq.{take-all, take-suc}
+use native.Mathlib.{Numerals.add-one, Omega.arith}
+use lib.{ListN.length, ListN.getD, ListN.set, ListN.take, ListN.length-append, Seq.take-all, Seq.take-suc}
 use Rattle.buffers.specs.Private.{Wrote}
 use Rattle.buffers.proofs.Writes.{wrote-none, wrote-as, wrote-join}
 use Rattle.number_text.specs.Numbers.{commaNumbers}

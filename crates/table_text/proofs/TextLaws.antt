@@ -1,12 +1,9 @@
 -- From the tests and from what reading said to the text.
-use mathlib.Core.Path.{_≡_, refl, sym, ap, ap₂, _∙_}
-use mathlib.Core.Logic.{inl, inr}
-use mathlib.Core.Bool.{Bool, true, false, not, _&&_}
-use mathlib.Core.List.{List, [], _∷_, _++_, map}
+use mathlib.Core.{Path._≡_, Path.refl, Path.sym, Path.ap, Path.ap₂, Path._∙_, Logic.inl, Logic.inr, Bool.Bool}
+use mathlib.Core.{Bool.true, Bool.not, Bool._&&_, List.List, List.[], List._∷_, List._++_, List.map}
 use Prim.Native.Nat.{ℕ, zero, suc, _+_, _-_, _≤_, _<_}
 use native.Mathlib.Omega.{arith}
-use lib.Dec.{leb}
-use lib.ListN.{length, take, drop, length-append, length-map, length-drop}
+use lib.{Dec.leb, ListN.length, ListN.take, ListN.drop, ListN.length-append, ListN.length-map, ListN.length-drop}
 use lib.Seq.{take-at, length-take-le}
 use borrow.Author.Tests.{le-leb, lt-leb, leb-true}
 use Rattle.lists.specs.Lists.{upFrom, keep}
@@ -18,16 +15,13 @@ use Rattle.buffers.specs.Private.{Wrote}
 use Rattle.layouts.specs.Layouts.{layoutTests, layoutRefusal, chains}
 use Rattle.acceptance.proofs.Runs.{keep-length}
 use Rattle.reading.specs.Numbers.{lastGood}
-use Rattle.reading.specs.Contract as reading
 use Rattle.reading.specs.Contract.{tableIn, outcomeTests, readRefusal, listedIn, found, readout}
-use Rattle.reading.proofs.RefusalLaws.{table-refused}
-use Rattle.reading.proofs.Report.{readout-found}
-use Rattle.reading.proofs.Statements.{refusal-said, count-found}
+use Rattle.reading.specs.Contract as reading
+use Rattle.reading.proofs.{RefusalLaws.table-refused, Report.readout-found, Statements.refusal-said, Statements.count-found}
 use Rattle.number_text.specs.Numbers.{digitOf, digits, decimal}
-use Rattle.table_text.specs.Text.{lastLine, isFormed, schemeIn, nIn, fIn, dIn, outcomesIn, formTests, digitTests, answerTests, textTests}
-use Rattle.table_text.specs.Text.{textRefusal, line, noLine, refLine, dayLines, tableLines, printed, textOf}
-use Rattle.table_text.specs.Private.{TypedIs, ReportIs, numbersIn, answered}
-use Rattle.table_text.specs.declared.Report.{Report}
+use Rattle.table_text.specs.Text.{lastLine, isFormed, schemeIn, nIn, fIn, dIn, outcomesIn, formTests, digitTests, answerTests}
+use Rattle.table_text.specs.Text.{textTests, textRefusal, line, noLine, refLine, dayLines, tableLines, printed, textOf}
+use Rattle.table_text.specs.{Private.TypedIs, Private.ReportIs, Private.numbersIn, Private.answered, declared.Report.Report}
 use Rattle.table_text.specs.declared.Typed.{Typed}
 
 -- ---- 1 2 3 7, and 15 for extra digits

@@ -5,8 +5,7 @@ use lib.ListN.{length, drop}
 use native.Mathlib.Omega.{arith}
 use borrow.Author.Needs.{needs}
 use Rattle.reading.specs.Private.{inTurn}
-use Rattle.reading.proofs.BitLaws.{turn-next, turn-last}
-use Rattle.reading.proofs.greatest.Statement.{statement}
+use Rattle.reading.proofs.{BitLaws.turn-next, BitLaws.turn-last, greatest.Statement.statement}
 use Rattle.reading.proofs.greatest.Tie as tie
 
 abbrev Inv-loop : tie.InvT-loop

@@ -1,8 +1,7 @@
 -- `reading::read` meets its contract.
 use Rattle.reading.proofs.Report.{report-refused, list-refused, values-need, values-within, values-given, report-read, list-after}
-use Rattle.reading.proofs.RefusalLaws.{part-length}
+use Rattle.reading.proofs.{RefusalLaws.part-length, read.Statement.statement}
 use borrow.Author.Needs.{needs}
-use Rattle.reading.proofs.read.Statement.{statement}
 use Rattle.reading.proofs.read.Tie as tie
 
 pub read-spec : {M : Type 1} → statement M

@@ -6,7 +6,7 @@ use Rattle.readtable.proofs.main.Tie as tie
 
 pub main-spec : {M : Type 1} → statement M
 main-spec = tie.close (tie.spec
-    (λ c. search needs) (λ c. λ κs. search needs) (λ c. search needs) (λ c. search needs) (λ c. λ κs. search needs)
+    (λ c. search needs) (λ c κs. search needs) (λ c. search needs) (λ c. search needs) (λ c κs. search needs)
     (λ c. text-fits _ _ (c .text .ensures .0) (c .text .ensures .1))
-    (λ c. text-part _ _ (c .before .text .ensures .0) (c .before .text .ensures .1)) (λ c. λ κs. search needs)
+    (λ c. text-part _ _ (c .before .text .ensures .0) (c .before .text .ensures .1)) (λ c κs. search needs)
     (λ c. search needs))

@@ -1,7 +1,6 @@
 -- `sealing::seal` meets its contract.
 use borrow.Author.Needs.{needs}
-use Rattle.sealing.proofs.SealLaws.{sealed-refused, sealed-done}
-use Rattle.sealing.proofs.seal.Statement.{statement}
+use Rattle.sealing.proofs.{SealLaws.sealed-refused, SealLaws.sealed-done, seal.Statement.statement}
 use Rattle.sealing.proofs.seal.Tie as tie
 
 pub seal-spec : {M : Type 1} → statement M

@@ -4,7 +4,7 @@ use Rattle.table_text.proofs.report_by.Statement.{statement}
 use Rattle.table_text.proofs.report_by.Tie as tie
 
 pub report-by-spec : {M : Type 1} → statement M
-report-by-spec = tie.close (tie.spec (λ c. λ κs. search needs) (λ c. λ κs. search needs)
+report-by-spec = tie.close (tie.spec (λ c κs. search needs) (λ c κs. search needs)
     (λ c. let m = c .numbers-of .ensures in
     record {
       refusal-is = c .before .number-of .ensures;

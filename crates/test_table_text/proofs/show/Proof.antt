@@ -6,8 +6,8 @@ use Rattle.test_table_text.proofs.show.Tie as tie
 
 pub show-spec : {M : Type 1} → statement M
 show-spec = tie.close (tie.spec
-    (λ c. λ κs. search needs) (λ c. λ κs. search needs) (λ c. search needs) (λ c. λ κs. search needs)
+    (λ c κs. search needs) (λ c κs. search needs) (λ c. search needs) (λ c κs. search needs)
     (λ c. text-fits _ _ (c .before .before .before .text .ensures .0) (c .before .before .before .text .ensures .1))
     (λ c. text-part _ _ (c .before .before .before .before .text .ensures .0)
     (c .before .before .before .before .text .ensures .1))
-    (λ c. λ κs. search needs) (λ c. search needs))
+    (λ c κs. search needs) (λ c. search needs))

@@ -1,7 +1,6 @@
 -- `table_text::input::is_end` meets its contract.
-use Rattle.table_text.proofs.InputLaws.{end-not, end-one}
+use Rattle.table_text.proofs.{InputLaws.end-not, InputLaws.end-one, input.is_end.Statement.statement}
 use borrow.Author.Needs.{needs}
-use Rattle.table_text.proofs.input.is_end.Statement.{statement}
 use Rattle.table_text.proofs.input.is_end.Tie as tie
 
 pub is-end-spec : {M : Type 1} → statement M

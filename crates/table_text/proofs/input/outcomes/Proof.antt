@@ -1,12 +1,10 @@
 -- `table_text::input::outcomes` meets its contract.
-use Rattle.table_text.proofs.InputLaws.{outcomes-next, outcomes-done}
+use Rattle.table_text.proofs.{InputLaws.outcomes-next, InputLaws.outcomes-done, input.outcomes.Statement.statement}
 use Rattle.number_text.specs.Numbers.{digitOf}
 use borrow.Author.Needs.{needs}
 use lib.ListN.{length, take, drop}
-use mathlib.Core.List.{_++_, map}
-use mathlib.Core.Path.{_≡_, refl}
-use Prim.Native.Nat.{_+_, _-_, _≤_}
-use Rattle.table_text.proofs.input.outcomes.Statement.{statement}
+use mathlib.Core.{List._++_, List.map, Path._≡_, Path.refl}
+use Prim.Native.Nat.{_-_, _≤_}
 use Rattle.table_text.proofs.input.outcomes.Tie as tie
 
 abbrev Inv-loop : tie.InvT-loop

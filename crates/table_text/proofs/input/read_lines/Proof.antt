@@ -1,8 +1,7 @@
 -- `table_text::input::read_lines` meets its contract.
 use Rattle.number_text.proofs.FieldLaws.{digits-within}
-use Rattle.table_text.proofs.InputLaws.{typed-is}
+use Rattle.table_text.proofs.{InputLaws.typed-is, input.read_lines.Statement.statement}
 use borrow.Author.Needs.{needs}
-use Rattle.table_text.proofs.input.read_lines.Statement.{statement}
 use Rattle.table_text.proofs.input.read_lines.Tie as tie
 
 pub read-lines-spec : {M : Type 1} → statement M

@@ -3,9 +3,8 @@ use mathlib.Core.Path.{_∙_}
 use lib.ListN.{length, length-set}
 use Prim.Native.Nat.{_<_}
 use native.Mathlib.Omega.{arith}
-use Rattle.table_text.proofs.LineLaws.{line-room, line-put}
+use Rattle.table_text.proofs.{LineLaws.line-room, LineLaws.line-put, lines.put_line.Statement.statement}
 use borrow.Author.Needs.{needs}
-use Rattle.table_text.proofs.lines.put_line.Statement.{statement}
 use Rattle.table_text.proofs.lines.put_line.Tie as tie
 
 -- the place of the line feed stands in the buffer

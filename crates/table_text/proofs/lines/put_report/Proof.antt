@@ -1,8 +1,7 @@
 -- `table_text::lines::put_report` meets its contract.
 use mathlib.Core.Path.{refl}
-use Rattle.table_text.proofs.LineLaws.{ref-room, ref-put}
+use Rattle.table_text.proofs.{LineLaws.ref-room, LineLaws.ref-put, lines.put_report.Statement.statement}
 use borrow.Author.Needs.{needs}
-use Rattle.table_text.proofs.lines.put_report.Statement.{statement}
 use Rattle.table_text.proofs.lines.put_report.Tie as tie
 
 pub put-report-spec : {M : Type 1} → statement M
