@@ -6,10 +6,10 @@ thousand.py, with zeros behind up to 1,400 bytes: its values are counted, it is
 sealed, checked with the lowest bit altered in the first byte of day 10, and
 read.  Last the version.
 
-A line is the call, what it returned and what it wrote: of a record the first
-20 bytes, of a close the number of values and the first 32 bytes of a part of
-200, of a book of 500 bytes and of a work buffer of 800 the first 32, all 20
-outcomes, the five numbers and all 30 places of a list.  A byte not written is
+A line is the call, what it returned and what it wrote: of a record the lowest
+bytes of its five numbers, of a close the number of values and the first 32
+bytes of a part of 200, of a book of 500 bytes and of a work buffer of 800 the
+first 32, all 20 outcomes, the five numbers and all 30 places of a list.  A byte not written is
 170 (aa), a number 99, one of the five 98.
 """
 
@@ -31,10 +31,10 @@ def line(name, returned, *written):
 
 def record_lines():
     refusal, data = record.open_service(*SETTINGS)
-    out = [line("open", refusal, data[:20])]
+    out = [line("open", refusal, data[:20:4])]
     for g in range(1, 10):
         refusal, data = record.add(data, day_bytes(g, 130))
-        out.append(line("add", refusal, data[:20]))
+        out.append(line("add", refusal, data[:20:4]))
         refusal, data, values = record.close(data, 200)
         part = b"".join(values) + bytes([170]) * 200
         out.append(line("close", refusal, len(values), part[:32]))

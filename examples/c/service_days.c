@@ -6,7 +6,7 @@
  *   service_days check FOLDER          rehashes the days against the book and lists those that may be altered
  *
  * FOLDER holds `book` (the values, to be given to the notary), a file `day-K` for each closed day, and `state`: the
- * service's record, the book's length and digest, and a checksum over these. The layout is the tree, N 1: each day is
+ * service's record, the book's digest, and a checksum over these. The layout is the tree, N 1: each day is
  * told apart.
  *
  * A close has one commit: the new `state` takes the place of the old one by a rename. What it says is flushed to disk
@@ -27,8 +27,8 @@
 
 enum { N = 1, F = 1, DAY_BYTES = 4096, MOST_DAYS = 1000, BOOK_BYTES = 3 * MOST_DAYS * DAYBOOK_VALUE };
 
-/* `state`: record, length of the book (4 bytes, little-endian), digest of the book, digest of all before. */
-enum { LENGTH_AT = DAYBOOK_RECORD, DIGEST_AT = LENGTH_AT + 4, SUM_AT = DIGEST_AT + DAYBOOK_VALUE, STATE_BYTES = SUM_AT + DAYBOOK_VALUE };
+/* `state`: record, digest of the book, digest of all before. */
+enum { DIGEST_AT = DAYBOOK_RECORD, SUM_AT = DIGEST_AT + DAYBOOK_VALUE, STATE_BYTES = SUM_AT + DAYBOOK_VALUE };
 
 static void stop(const char *what, const char *name) {
   fprintf(stderr, "service_days: %s%s\n", what, name);
@@ -40,8 +40,11 @@ static void refused(uint32_t number) {
   exit(2);
 }
 
-static uint32_t number_at(const uint8_t *bytes) {
-  return bytes[0] | (uint32_t)bytes[1] << 8 | (uint32_t)bytes[2] << 16 | (uint32_t)bytes[3] << 24;
+/* The values that the book of a record has. */
+static uint32_t values_of(const uint8_t *record) {
+  uint32_t values = 0, number = daybook_record_values(record, &values);
+  if (number) refused(number);
+  return values;
 }
 
 /* The digest of a day of these bytes: a check of one day writes it. */
@@ -101,17 +104,16 @@ static void load_state(int folder, uint8_t *state, uint8_t *book) {
   digest(state, SUM_AT, sum);
   if (size != STATE_BYTES || memcmp(sum, state + SUM_AT, sizeof sum)) stop("the state is not whole", "");
   if (daybook_open(DAYBOOK_TREE, N, F, fresh) || memcmp(state, fresh, 12)) stop("the state is of another layout", "");
-  uint32_t length = number_at(state + LENGTH_AT);
-  if (daybook_record_days(state) > MOST_DAYS || length > BOOK_BYTES) stop("more than this example holds", "");
+  if (daybook_record_days(state) > MOST_DAYS) stop("more than this example holds", "");
+  uint32_t length = values_of(state) * DAYBOOK_VALUE;
   if (load(folder, "book", book, BOOK_BYTES + DAYBOOK_PART) < (long)length) stop("the book is missing or too short", "");
   digest(book, length, sum);
   if (memcmp(sum, state + DIGEST_AT, sizeof sum)) stop("the book does not fit the state", "");
 }
 
 /* The commit. */
-static void save_state(int folder, uint8_t *state, const uint8_t *book, uint32_t length) {
-  for (int i = 0; i < 4; i++) state[LENGTH_AT + i] = (uint8_t)(length >> 8 * i);
-  digest(book, length, state + DIGEST_AT);
+static void save_state(int folder, uint8_t *state, const uint8_t *book) {
+  digest(book, values_of(state) * DAYBOOK_VALUE, state + DIGEST_AT);
   digest(state, SUM_AT, state + SUM_AT);
   save(folder, "state.new", 0, state, STATE_BYTES);
   if (renameat(folder, "state.new", folder, "state")) stop("cannot write ", "state");
@@ -148,7 +150,7 @@ static int open_service(const char *name) {
     if (number) refused(number);
     save(folder, "book", 0, book, 0);
     sync_folder(folder);
-    save_state(folder, state, book, 0);
+    save_state(folder, state, book);
   }
   sync_folder(folder);
   if (above < 0) stop("cannot open the folder above ", name);
@@ -165,7 +167,7 @@ static int close_day(const char *name, uint32_t day, const char *text) {
   int folder = locked(name);
   load_state(folder, state, book);
   sync_folder(folder); /* the state that was found is on disk: a stopped run may not have come to that */
-  uint32_t closed = daybook_record_days(state), length = number_at(state + LENGTH_AT);
+  uint32_t closed = daybook_record_days(state), length = values_of(state) * DAYBOOK_VALUE;
   snprintf(file, sizeof file, "day-%u", day);
   if (day >= 1 && day <= closed) {
     if (load(folder, file, old, sizeof old) != (long)size || memcmp(old, text, size)) stop("closed with other bytes: ", file);
@@ -180,14 +182,14 @@ static int close_day(const char *name, uint32_t day, const char *text) {
   save(folder, "book", length, part, values * DAYBOOK_VALUE);
   sync_folder(folder); /* day-K is a new name */
   memcpy(book + length, part, values * DAYBOOK_VALUE);
-  save_state(folder, state, book, length + values * DAYBOOK_VALUE);
+  save_state(folder, state, book);
   printf("day %u is closed, %u values\n", day, values);
   return 0;
 }
 
 static int show(const char *name) {
   load_state(locked(name), state, book);
-  printf("%u days, %u values\n", daybook_record_days(state), number_at(state + LENGTH_AT) / DAYBOOK_VALUE);
+  printf("%u days, %u values\n", daybook_record_days(state), values_of(state));
   return 0;
 }
 
@@ -205,7 +207,7 @@ static int check_days(const char *name) {
     if (size < 0) stop("a day is missing: ", file);
     ends[i] = end += (uint32_t)size;
   }
-  if ((number = daybook_check(DAYBOOK_TREE, N, F, d, ledger, end, ends, d, book, number_at(state + LENGTH_AT),
+  if ((number = daybook_check(DAYBOOK_TREE, N, F, d, ledger, end, ends, d, book, values_of(state) * DAYBOOK_VALUE,
                               work, sizeof work, outcomes, sizeof outcomes))) refused(number);
   if ((number = daybook_read(DAYBOOK_TREE, N, F, d, outcomes, sizeof outcomes, list, MOST_DAYS, numbers))) refused(number);
   if (!numbers[0]) printf("%u days, clean\n", d);

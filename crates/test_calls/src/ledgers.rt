@@ -2,6 +2,8 @@
 use crate::lines;
 use test_samples::days;
 use test_samples::lent;
+ghost use Prim.Native.Nat.{_≤_};
+ghost use lib.ListN.{length};
 
 fn values() {
     let mut values = 99u32;
@@ -13,7 +15,9 @@ fn values() {
     lines::end();
 }
 
-fn seal(ledger: &[u8], ends: &[u32], book: &mut [u8; 500]) {
+fn seal(ledger: &[u8], ends: &[u32], book: &mut [u8])
+    requires { ⌜ 32 ≤ length (now book) ⌝ }
+{
     lines::head(
         b"seal",
         daybook_c::daybook_seal(2, 8, 3, 24, ledger, ends, book),
@@ -38,7 +42,7 @@ fn read(outcomes: &[u8]) {
         b"read",
         daybook_c::daybook_read(2, 8, 3, 24, outcomes, &mut list, &mut numbers),
     );
-    lines::numbers(&numbers);
+    lines::numbers(&[numbers[0], numbers[1], numbers[2], numbers[3], numbers[4]]);
     lines::numbers(&list);
     lines::end();
 }

@@ -2,54 +2,59 @@
 use crate::lines;
 use test_samples::days;
 
-fn open(record: &mut [u8; 692]) {
-    lines::head(b"open", daybook_c::daybook_open(2, 8, 3, record));
-    lines::bytes(&record[0..20]);
+// The lowest bytes of the five numbers.
+fn print_numbers(state: &[u8; 692]) {
+    lines::bytes(&[state[0], state[4], state[8], state[12], state[16]]);
+}
+
+fn open(state: &mut [u8; 692]) {
+    lines::head(b"open", daybook_c::daybook_open(2, 8, 3, state));
+    print_numbers(state);
     lines::end();
 }
 
-fn add(record: &mut [u8; 692], g: usize) {
+fn add(state: &mut [u8; 692], g: usize) {
     let piece = days::bytes(g);
-    lines::head(b"add", daybook_c::daybook_add(record, &piece));
-    lines::bytes(&record[0..20]);
+    lines::head(b"add", daybook_c::daybook_add(state, &piece));
+    print_numbers(state);
     lines::end();
 }
 
 // The part has more than the five values of a whole tile.
-fn close(record: &mut [u8; 692]) {
+fn close(state: &mut [u8; 692]) {
     let mut part = [170u8; 200];
     let mut values = 99u32;
     lines::head(
         b"close",
-        daybook_c::daybook_close(record, &mut part, &mut values),
+        daybook_c::daybook_close(state, &mut part, &mut values),
     );
     lines::numbers(&[values]);
     lines::bytes(&part[0..32]);
     lines::end();
 }
 
-fn days(record: &mut [u8; 692]) {
+fn days(state: &mut [u8; 692]) {
     let mut g = 1usize;
     while g < 10 {
-        add(record, g);
-        close(record);
+        add(state, g);
+        close(state);
         g += 1;
     }
 }
 
-fn record_values(record: &[u8; 692]) {
+fn record_values(state: &[u8; 692]) {
     let mut values = 99u32;
     lines::head(
         b"record_values",
-        daybook_c::daybook_record_values(record, &mut values),
+        daybook_c::daybook_record_values(state, &mut values),
     );
     lines::numbers(&[values]);
     lines::end();
 }
 
 pub fn run() {
-    let mut record = [170u8; 692];
-    open(&mut record);
-    days(&mut record);
-    record_values(&record);
+    let mut state = [170u8; 692];
+    open(&mut state);
+    days(&mut state);
+    record_values(&state);
 }
