@@ -5,9 +5,9 @@ use Prim.Native.Nat.{ℕ, zero, suc, _+_, _*_, _≤_, _<_}
 use native.Mathlib.{Numerals.add-one, Omega.arith}
 use lib.{ListN.length, ListN.getD, ListN.set, ListN.take, ListN.length-append, Seq.take-all, Seq.take-suc}
 use Rattle.buffers.specs.Private.{Wrote}
-use Rattle.buffers.proofs.Writes.{wrote-none, wrote-as, wrote-join}
+use Rattle.buffers.proofs.Writes.{wrote-none, wrote-as, wrote-byte, wrote-join}
 use Rattle.number_text.specs.Numbers.{commaNumbers}
-use Rattle.number_text.proofs.DecimalLaws.{wrote-byte, numbers-most}
+use Rattle.number_text.proofs.DecimalLaws.{numbers-most}
 use Rattle.table_text.specs.Text.{line, dayLines}
 
 -- DAY
