@@ -21,6 +21,10 @@
 extern "C" {
 #endif
 
+/* The version of this header: 10000 * major + 100 * minor + patch, and as text. */
+#define DAYBOOK_VERSION 200
+#define DAYBOOK_VERSION_TEXT "0.2.0"
+
 /* The bytes of a record. To be kept on disk as it is: no padding, the same on every machine.
  * Numbers are 32 bits, little-endian:
  *   offset   0  scheme
@@ -39,6 +43,7 @@ extern "C" {
 #define DAYBOOK_PART 544            /* bytes that are enough for any daybook_close: 17 values */
 #define DAYBOOK_DAY_LIMIT 16777216  /* bytes that a day may hold */
 #define DAYBOOK_DAYS_LIMIT 65536    /* days in a book */
+#define DAYBOOK_BOOK_LIMIT 6290880  /* bytes that are enough for any book: scheme 3, N 1, 65,536 days */
 
 enum daybook_scheme {
   DAYBOOK_BLACK = 1,
@@ -63,6 +68,30 @@ enum daybook_refusal {
   DAYBOOK_BAD_OUTCOME = 13,      /* an outcome is neither 0 nor 1 */
   DAYBOOK_IMPOSSIBLE_TABLE = 14  /* no set of changed days gives the outcomes */
 };
+
+/* What a refusal says, in words. */
+static inline const char *daybook_refusal_text(uint32_t number) {
+  switch (number) {
+  case DAYBOOK_DONE: return "not refused";
+  case DAYBOOK_BAD_SCHEME: return "the scheme is not 1, 2 or 3";
+  case DAYBOOK_BAD_N: return "N is not a power of two from 1 to 256";
+  case DAYBOOK_BAD_F: return "F is not from 1 to 64, or not 1 under scheme 3";
+  case DAYBOOK_DAY_TOO_LONG: return "the piece would take the day over 16,777,216 bytes";
+  case DAYBOOK_BOOK_FULL: return "65,536 days are closed, and a book holds no more";
+  case DAYBOOK_BAD_RECORD:
+    return "the record's scheme, N or F is not allowed, or its days or bytes are over their limit";
+  case DAYBOOK_BAD_D: return "D is not from 1 to 65,536 and a multiple of F times N";
+  case DAYBOOK_SHORT_BUFFER: return "a buffer to be written is shorter than its need";
+  case DAYBOOK_FEW_ENDS: return "there are fewer than D ends";
+  case DAYBOOK_BAD_END:
+    return "an end is below the one before, beyond the ledger, or makes a day over 16,777,216 bytes";
+  case DAYBOOK_SHORT_BOOK: return "the book has fewer than 32 bytes for each value";
+  case DAYBOOK_FEW_OUTCOMES: return "there are fewer outcomes than values";
+  case DAYBOOK_BAD_OUTCOME: return "an outcome is neither 0 nor 1";
+  case DAYBOOK_IMPOSSIBLE_TABLE: return "no set of changed days gives these outcomes";
+  default: return "a number that is no refusal";
+  }
+}
 
 /* Open a service: writes its record. Refusals 1 2 3, in that order. */
 uint32_t daybook_open(uint32_t scheme, uint32_t n, uint32_t f, uint8_t record[DAYBOOK_RECORD]);
@@ -101,8 +130,31 @@ uint32_t daybook_read(uint32_t scheme, uint32_t n, uint32_t f, uint32_t d,
                       uint32_t *list, size_t list_len,
                       uint32_t numbers[5]);
 
+/* The 32 bits at an offset of a record. */
+static inline uint32_t daybook_record_number(const uint8_t record[DAYBOOK_RECORD], size_t offset) {
+  return (uint32_t)record[offset] | (uint32_t)record[offset + 1] << 8 |
+         (uint32_t)record[offset + 2] << 16 | (uint32_t)record[offset + 3] << 24;
+}
+
+/* The days closed that a record names. */
+static inline uint32_t daybook_record_days(const uint8_t record[DAYBOOK_RECORD]) {
+  return daybook_record_number(record, 12);
+}
+
+/* The bytes in the open day that a record names. */
+static inline uint32_t daybook_record_open_bytes(const uint8_t record[DAYBOOK_RECORD]) {
+  return daybook_record_number(record, 16);
+}
+
 /* The number of values in the book of D days, to values[0]. Refusals 1 2 3 7. */
 uint32_t daybook_values(uint32_t scheme, uint32_t n, uint32_t f, uint32_t d, uint32_t values[1]);
+
+/* The number of values of the days that a record has closed, to values[0], whether or not they make
+ * whole intervals: what its closes have written so far. Refusal 6. */
+uint32_t daybook_record_values(const uint8_t record[DAYBOOK_RECORD], uint32_t values[1]);
+
+/* The version of the archive, as DAYBOOK_VERSION is that of this header. */
+uint32_t daybook_version(void);
 
 #ifdef __cplusplus
 }

@@ -364,6 +364,14 @@ class History:
             self.book.append(after[1][:32 * after[2][0]])
         return answer
 
+    def count(self):
+        """The record's number of values is that of the book so far."""
+        answer, after = self.case.call("record_values", self.record,
+                                       random_words(self.case.rng, 1))
+        self.case.claim(answer == 0 and 32 * after[1][0]
+                        == sum(map(len, self.book)),
+                        "the values of the record are not those written")
+
     def compare_book(self):
         scheme, n, _ = self.settings
         days = self.diary.entries
@@ -378,6 +386,7 @@ def history(case):
     f = 1 if case.scheme == 3 else rng.randint(1, 64)
     service = ByRecord if rng.random() < 0.4 else ByDaybook
     calls = History(case, n, f, service)
+    calls.count()
     closing = rng.choice((0.3, 0.5, 0.8))
     for _ in range(rng.choice((4, 8, 16, 16, 30))):
         if rng.random() < closing:
@@ -385,6 +394,7 @@ def history(case):
             calls.close(part)
         else:
             calls.add(rng.randbytes(day_length(rng)))
+    calls.count()
     calls.compare_book()
 
 
@@ -477,6 +487,38 @@ def number_of_values(case):
     case.call("values", *settings, random_words(rng, 1))
 
 
+def record_of(rng, scheme, n, f, days, count=0):
+    """A record with these numbers and random bytes behind."""
+    return struct.pack("<5I", scheme, n, f, days, count) \
+        + rng.randbytes(record.SIZE - 20)
+
+
+def count_record(case, data):
+    """The values of a record: by wanted.py, and by levels if accepted."""
+    answer, after = case.call("record_values", data,
+                              random_words(case.rng, 1))
+    scheme, n, _, days, _ = record.fields(data)
+    case.claim(answer == 6 or
+               after[1][0] == count_of_chains(scheme, n, days),
+               "the values of a record are not the number of chains")
+    return answer
+
+
+def values_of_record(case):
+    """Records made up, fresh and of a refused open; the version."""
+    rng, scheme = case.rng, case.scheme
+    for _ in range(4):
+        count_record(case, made_up(scheme, rng))
+    n, f, d = layout(scheme, rng, 16)
+    settings = scheme, n, f
+    if rng.random() < 0.5:
+        settings = bad_settings(rng, *settings, d)[:3]
+    answer, after = case.call("open", *settings, rng.randbytes(record.SIZE))
+    case.claim(count_record(case, after[-1]) == (6 if answer else 0),
+               "the values of a record that was opened")
+    case.call("version")
+
+
 # ----------------------------------------------------- cases run once a layout
 
 def whole_book(case):
@@ -527,6 +569,7 @@ def whole_service(case):
         case.claim(calls.add(piece) == 5, "add goes on")
     for part in (b"", bytes(600)):
         case.claim(calls.close(part) == 5, "close goes on")
+    calls.count()
     calls.compare_book()
 
 
@@ -629,6 +672,24 @@ def settings_grid(case):
                            "values is not the number of chains")
 
 
+def record_grid(case):
+    """Values of records: days at all edges, numbers that are not allowed."""
+    rng, scheme = case.rng, case.scheme
+    for n in range(521):
+        count_record(case, record_of(rng, scheme, n, 1, 5))
+    for f in range(71):
+        count_record(case, record_of(rng, scheme, 4, f, 5))
+    for other in (*BAD_SCHEMES, 1, 2, 3):
+        count_record(case, record_of(rng, other, 4, 1, 5))
+    for n in (1, 2, 16, 256):
+        for days in [*range(1030), *range(DAYS - 520, DAYS + 520), TOP]:
+            answer = count_record(case, record_of(rng, scheme, n, 1, days))
+            case.claim(answer == (6 if days > DAYS else 0), "the days' limit")
+    for count in (1, LIMIT - 1, LIMIT, LIMIT + 1, TOP):
+        answer = count_record(case, record_of(rng, scheme, 4, 1, 5, count))
+        case.claim(answer == (6 if count > LIMIT else 0), "the day's limit")
+
+
 def wide_arrays(case):
     """An array of 2^32 elements in each call: its length has a low half of 0.
     """
@@ -661,7 +722,8 @@ def wide_arrays(case):
 
 
 ONCE = (whole_book, whole_service, big_day, big_ledger, high_bytes,
-        settings_grid, wide_arrays)
+        settings_grid, record_grid, wide_arrays)
 KINDS = ((round_trip, 26), (read_table, 24), (refused, 14), (history, 12),
-         (made_up_calls, 14), (empty_arrays, 5), (number_of_values, 5))
+         (made_up_calls, 14), (empty_arrays, 5), (number_of_values, 5),
+         (values_of_record, 4))
 CHOICES = [kind for kind, weight in KINDS for _ in range(weight)]

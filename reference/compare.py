@@ -21,7 +21,7 @@ import time
 from collections import Counter
 
 from cases import CHOICES, KINDS, ONCE
-from guarded import FORMS, LABELS, REFUSALS, Arena, Case, Different, load
+from guarded import ANSWERS, FORMS, LABELS, Arena, Case, Different, load
 
 
 STAND_IN = "stand-in"
@@ -146,9 +146,9 @@ def print_summary(counts):
     print("calls by answer:")
     for name in FORMS:
         seen = {answer: counts["answer", name, answer]
-                for answer in (0, *REFUSALS[name])}
-        print(f"  {name:7}" + " ".join(f"{answer}:{number}" for answer, number
-                                       in seen.items()))
+                for answer in ANSWERS[name]}
+        print(f"  {name:14}" + " ".join(f"{answer}:{number}" for answer,
+                                        number in seen.items()))
     print("null pointers: " + " ".join(
         f"{key[1]}:{number}" for key, number in sorted(
             (key, number) for key, number in counts.items()
@@ -157,8 +157,7 @@ def print_summary(counts):
 
 def unseen(counts):
     """Answers and null pointers that no call had."""
-    out = [f"{name} {answer}" for name in FORMS
-           for answer in (0, *REFUSALS[name])
+    out = [f"{name} {answer}" for name in FORMS for answer in ANSWERS[name]
            if not counts["answer", name, answer]]
     out += [f"null {name}.{label}" for name, form in FORMS.items()
             for letter, label in zip(form, LABELS[name])

@@ -9,7 +9,9 @@ Days count from 1.  Refusals are the request's numbers, 0 stands for none.
 
 import hashlib
 import re
+from array import array
 from dataclasses import dataclass, replace
+from functools import lru_cache
 from itertools import accumulate
 
 DAY_LIMIT = 16_777_216      # bytes in a day
@@ -17,6 +19,7 @@ DAYS_LIMIT = 65_536         # days in a book
 SLOTS = 17                  # running tile or tree chains in a record
 SUBSETS_LIMIT = 12          # up to this D, reading tries every set of days
 MASKS_LIMIT = 512           # up to this D, it has the chains as masks
+VERSION = 200               # 10000 major + 100 minor + patch: 0.2.0
 
 BLACK, TILE, TREE = "black", "tile", "tree"
 
@@ -115,6 +118,19 @@ def names(scheme, n, g):
             out.append((BLACK, 0, g))
         return out
     raise ValueError("scheme")
+
+
+@lru_cache(maxsize=None)
+def _counts(scheme, n):
+    """The values closed by the end of each day, from day 0 on."""
+    return array("I", accumulate(
+        (len(names(scheme, n, g)) for g in range(1, DAYS_LIMIT + 1)),
+        initial=0))
+
+
+def values_closed(scheme, n, days):
+    """Number of values that close at the days 1 to days, counted."""
+    return _counts(scheme, n)[days]
 
 
 def covers(n, name, day):
@@ -313,6 +329,13 @@ def close(record, part):
         part[32 * position:32 * position + 32] = v
     return 0, replace(record, days=g, open_bytes=0,
                       running=(black, *slots), open_day=b""), len(ended)
+
+
+def record_values(record):
+    """(refusal, number of values of the days closed): refusal 6."""
+    if record_refusal(record):
+        return 6, 0
+    return 0, values_closed(record.scheme, record.n, record.days)
 
 
 class Diary:

@@ -4,13 +4,15 @@ import ctypes
 import mmap
 from array import array
 
+import daybook
 import record
 from wanted import WANT
 
 # n number, b bytes with their length, w words with their length, B and W
 # the same without a length.
 FORMS = {"open": "nnnB", "add": "Bb", "close": "BbW", "seal": "nnnnbwb",
-         "check": "nnnnbwbbb", "read": "nnnnbwW", "values": "nnnnW"}
+         "check": "nnnnbwbbb", "read": "nnnnbwW", "values": "nnnnW",
+         "record_values": "BW", "version": ""}
 LABELS = {
     "open": ("scheme", "n", "f", "record"),
     "add": ("record", "piece"),
@@ -19,22 +21,28 @@ LABELS = {
     "check": ("scheme", "n", "f", "d", "ledger", "ends", "book", "work",
               "outcomes"),
     "read": ("scheme", "n", "f", "d", "outcomes", "list", "numbers"),
-    "values": ("scheme", "n", "f", "d", "values")}
+    "values": ("scheme", "n", "f", "d", "values"),
+    "record_values": ("record", "values"),
+    "version": ()}
 WRITTEN = {"record", "part", "values", "work", "list", "numbers"}
-REFUSALS = {"open": (1, 2, 3), "add": (6, 5, 4), "close": (6, 5, 8),
-            "seal": (1, 2, 3, 7, 9, 10, 8),
-            "check": (1, 2, 3, 7, 9, 10, 11, 8),
-            "read": (1, 2, 3, 7, 8, 12, 13, 14), "values": (1, 2, 3, 7)}
+ANSWERS = {"open": (0, 1, 2, 3), "add": (0, 6, 5, 4), "close": (0, 6, 5, 8),
+           "seal": (0, 1, 2, 3, 7, 9, 10, 8),
+           "check": (0, 1, 2, 3, 7, 9, 10, 11, 8),
+           "read": (0, 1, 2, 3, 7, 8, 12, 13, 14),
+           "values": (0, 1, 2, 3, 7), "record_values": (0, 6),
+           "version": (daybook.VERSION,)}
 
 
 def is_written(name, label):
     """Whether the call may write the array."""
+    if name == "record_values":
+        return label == "values"
     return (label in WRITTEN or (name, label) in
             {("seal", "book"), ("check", "outcomes")})
 
 
 def load(path):
-    """The seven calls of a shared library, by name."""
+    """The calls of a shared library, by name."""
     library = ctypes.CDLL(path)
     kinds = {"n": [ctypes.c_uint32], "b": [ctypes.c_void_p, ctypes.c_size_t],
              "B": [ctypes.c_void_p]}
@@ -106,7 +114,7 @@ def brief_call(name, arguments):
     """A call with its arguments, shortened."""
     text = [f"{label}={brief(x)}"
             for label, x in zip(LABELS[name], arguments)]
-    if name in ("add", "close"):
+    if name in ("add", "close", "record_values"):
         text.insert(0, f"fields={record.fields(arguments[0])}")
     return " ".join([name, *text])
 

@@ -166,6 +166,14 @@ def add(record, piece):
         rest, bytes(64 - len(rest))])
 
 
+def record_values(record):
+    """(refusal, number of values of the days closed)."""
+    if refusal_of(record) == 6:
+        return 6, 0
+    scheme, n, _, days, _ = fields(record)
+    return 0, daybook.values_closed(scheme, n, days)
+
+
 def linked(scheme, n, g):
     """The slots linked at the close of day g."""
     if scheme == 1:

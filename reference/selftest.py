@@ -661,6 +661,37 @@ def values_calls():
         expect("values refused", db.number_of_values(*arguments), (want, 0))
 
 
+def record_values_calls():
+    """The values of a record's days, also where no interval is whole."""
+    for scheme in (1, 2, 3):
+        for n in SIZES:
+            total = 0
+            for days in range(300):
+                total += len(db.closing(scheme, n, days)) if days else 0
+                record = db.made_up(scheme, n, 1, days, [bytes(32)] * 18)
+                expect("values of a record", db.record_values(record),
+                       (0, total))
+                expect("chains by level",
+                       wanted.count_of_chains(scheme, n, days), total)
+                expect("by its bytes",
+                       rec.record_values(rec.from_daybook(record)),
+                       (0, total))
+            last = db.made_up(scheme, n, 1, 65_536, [bytes(32)] * 18)
+            expect("values of all days", db.record_values(last),
+                   (0, db.values(scheme, n, 65_536)))
+    limit = db.DAY_LIMIT
+    for numbers, want in [((0, 0, 0, 0, 0), 6), ((4, 1, 1, 0, 0), 6),
+                          ((1, 3, 1, 0, 0), 6), ((1, 1, 65, 0, 0), 6),
+                          ((3, 1, 2, 0, 0), 6), ((1, 1, 1, 65_537, 0), 6),
+                          ((1, 1, 1, 0, limit + 1), 6),
+                          ((1, 1, 1, 65_536, limit), 0)]:
+        data = rec.pack(numbers, rec.FIRST, [bytes(32)] * 18, b"")
+        plain = db.Record(*numbers)
+        expect("values of a record refused",
+               (rec.record_values(data)[0], db.record_values(plain)[0]),
+               (want, want))
+
+
 # ------------------------------------------------------------- record's bytes
 
 def compression():
@@ -798,6 +829,19 @@ def comparison():
                                                       arguments[3]))
         return answer
 
+    def full_is_refused(good, record, values):
+        days = rec.fields(stand_in.get(record, rec.SIZE))[3]
+        return 5 if days == db.DAYS_LIMIT else good(record, values)
+
+    def whole_intervals(good, record, values):
+        scheme, n, f, days, _ = rec.fields(stand_in.get(record, rec.SIZE))
+        answer = good(record, values)
+        if answer == 0:
+            whole = days // (f * n) * f * n
+            stand_in.put_words(values, [wanted.count_of_chains(scheme, n,
+                                                               whole)])
+        return answer
+
     def null_is_refused(good, record, piece, length):
         return 4 if piece is None else good(record, piece, length)
 
@@ -805,6 +849,10 @@ def comparison():
             ("add", past_record), ("add", null_is_refused),
             ("seal", before_book), ("close", number_of_refused),
             ("read", number_of_refused), ("values", number_of_refused),
+            ("record_values", number_of_refused),
+            ("record_values", full_is_refused),
+            ("record_values", whole_intervals),
+            ("version", lambda good: good() + 1),
             ("check", passes_all),
             ("read", lambda good, *rest: good(*rest) or 14),
             ("open", no_zeros)]:
@@ -906,8 +954,9 @@ def main():
                  call_lists, pieces, service_bounds, made_up_records,
                  last_days, check_tests, check_refusals, reading_tests,
                  reading_large, reading_refusals, whole_chain, values_calls,
-                 compression, record_layout, record_histories,
-                 record_made_up, comparison, program, expected_outputs):
+                 record_values_calls, compression, record_layout,
+                 record_histories, record_made_up, comparison, program,
+                 expected_outputs):
         before = PASSED, FAILED
         test()
         print(f"{test.__name__}: {PASSED - before[0]} passed, "

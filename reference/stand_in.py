@@ -85,7 +85,19 @@ def values(scheme, n, f, d, address):
     return refusal
 
 
+def record_values(address, count):
+    refusal, number = record.record_values(get(address, record.SIZE))
+    if refusal == 0:
+        put_words(count, [number])
+    return refusal
+
+
+def version():
+    return daybook.VERSION
+
+
 def calls():
-    """The seven calls, by name."""
+    """The calls, by name."""
     return {"open": open_service, "add": add, "close": close, "seal": seal,
-            "check": check, "read": read, "values": values}
+            "check": check, "read": read, "values": values,
+            "record_values": record_values, "version": version}

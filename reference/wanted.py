@@ -70,9 +70,19 @@ def want_values(scheme, n, f, d, values):
     return refusal, (scheme, n, f, d, values if refusal else (count,))
 
 
+def want_record_values(old, values):
+    refusal, count = record.record_values(old)
+    return refusal, (old, values if refusal else (count,))
+
+
+def want_version():
+    return daybook.VERSION, ()
+
+
 WANT = {"open": want_open, "add": want_add, "close": want_close,
         "seal": want_seal, "check": want_check, "read": want_read,
-        "values": want_values}
+        "values": want_values, "record_values": want_record_values,
+        "version": want_version}
 
 
 def day_digests(d, ledger, ends):
@@ -129,7 +139,7 @@ def lister(scheme, n, d, table):
 
 
 def count_of_chains(scheme, n, d):
-    """The number of values, counted level by level."""
+    """The number of values of d days, whatever d, counted level by level."""
     blacks = d // n
     if scheme == 1:
         return blacks

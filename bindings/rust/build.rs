@@ -2,6 +2,7 @@
 
 use std::env;
 use std::fs;
+use std::io::ErrorKind;
 use std::path::{Path, PathBuf};
 use std::process::{self, Command};
 
@@ -101,8 +102,12 @@ fn run_rt(top: &Path) -> Result<(), String> {
         .current_dir(top)
         .output();
     let output = result.map_err(|error| {
+        let what = match error.kind() {
+            ErrorKind::NotFound => "is not on PATH".to_string(),
+            _ => format!("cannot be run: {error}"),
+        };
         format!(
-            "{ARCHIVE} is missing, and `rt`, which proves and builds it, cannot be run: {error}.\n\
+            "`rt`, which proves and builds {ARCHIVE}, {what}.\n\
              Install the Rattle kit and put its `rt` on PATH, or set {FOLDER} to a folder that\n\
              holds {ARCHIVE}."
         )

@@ -1,99 +1,213 @@
-/* A service that runs once a day and keeps its record in a file between the runs.
+/* A service that runs once a day, and that may be stopped at any step.
  *
- *   service_days close FOLDER TEXT   adds TEXT to the open day and closes it
- *   service_days check FOLDER        rehashes the days in FOLDER against the book and lists those that may be altered
+ *   service_days open FOLDER           makes the service
+ *   service_days close FOLDER K TEXT   closes day K with TEXT; a repeat does nothing
+ *   service_days status FOLDER         says where it stands
+ *   service_days check FOLDER          rehashes the days against the book and lists those that may be altered
  *
- * FOLDER holds `record` (the service's record), `book` (the values, to be given to the notary), and a file `day-N` for each
- * closed day. The layout is the tree, N 1: each day is told apart.
+ * FOLDER holds `book` (the values, to be given to the notary), a file `day-K` for each closed day, and `state`: the
+ * service's record, the book's digest, and a checksum over these. The layout is the tree, N 1: each day is
+ * told apart.
+ *
+ * A close has one commit: the new `state` takes the place of the old one by a rename. What it says is flushed to disk
+ * before, and goes beyond what the old one says: a run that is stopped leaves the service before or after the close, and
+ * the next run writes over the rest. Exit status: 0 done or clean, 1 altered, 2 refused, 3 a fault; nothing is written then.
  */
+#define _DEFAULT_SOURCE
+#include <dirent.h>
+#include <errno.h>
+#include <fcntl.h>
 #include <stdio.h>
 #include <stdlib.h>
 #include <string.h>
+#include <sys/file.h>
+#include <sys/stat.h>
+#include <unistd.h>
 #include "daybook.h"
 
-enum { N = 1, F = 1, DAY_BYTES = 4096, MOST_DAYS = 1000 };
+enum { N = 1, F = 1, DAY_BYTES = 4096, MOST_DAYS = 1000, BOOK_BYTES = 3 * MOST_DAYS * DAYBOOK_VALUE };
 
-static void stop(const char *what) {
-  fprintf(stderr, "service_days: %s\n", what);
+/* `state`: record, digest of the book, digest of all before. */
+enum { DIGEST_AT = DAYBOOK_RECORD, SUM_AT = DIGEST_AT + DAYBOOK_VALUE, STATE_BYTES = SUM_AT + DAYBOOK_VALUE };
+
+static void stop(const char *what, const char *name) {
+  fprintf(stderr, "service_days: %s%s\n", what, name);
   exit(3);
 }
 
 static void refused(uint32_t number) {
-  fprintf(stderr, "service_days: refused with %u\n", number);
+  fprintf(stderr, "service_days: refused with %u: %s\n", number, daybook_refusal_text(number));
   exit(2);
 }
 
-static void path_of(char *path, size_t size, const char *folder, const char *name) {
-  if (snprintf(path, size, "%s/%s", folder, name) >= (int)size) stop("the folder's name is too long");
+/* The values that the book of a record has. */
+static uint32_t values_of(const uint8_t *record) {
+  uint32_t values = 0, number = daybook_record_values(record, &values);
+  if (number) refused(number);
+  return values;
 }
 
-/* The bytes of a file, at most size of them; -1 if there is no such file. */
-static long load(const char *folder, const char *name, uint8_t *bytes, size_t size) {
-  char path[512];
-  path_of(path, sizeof path, folder, name);
-  FILE *file = fopen(path, "rb");
-  if (!file) return -1;
-  size_t count = fread(bytes, 1, size, file);
-  int whole = !ferror(file) && fgetc(file) == EOF;
-  fclose(file);
-  if (!whole) stop("a file cannot be read or is too long");
-  return (long)count;
-}
-
-static void save(const char *folder, const char *name, const char *mode, const uint8_t *bytes, size_t size) {
-  char path[512];
-  path_of(path, sizeof path, folder, name);
-  FILE *file = fopen(path, mode);
-  if (!file || fwrite(bytes, 1, size, file) != size || fclose(file)) stop("a file cannot be written");
-}
-
-static uint32_t days_closed(const uint8_t *record) {
-  return record[12] | (uint32_t)record[13] << 8 | (uint32_t)record[14] << 16 | (uint32_t)record[15] << 24;
-}
-
-/* The service's record as the last run left it, or a fresh one. */
-static void record_of(const char *folder, uint8_t *record) {
-  long size = load(folder, "record", record, DAYBOOK_RECORD);
-  if (size == DAYBOOK_RECORD) return;
-  if (size >= 0) stop("the record has another length");
-  uint32_t number = daybook_open(DAYBOOK_TREE, N, F, record);
+/* The digest of a day of these bytes: a check of one day writes it. */
+static void digest(const uint8_t *bytes, uint32_t size, uint8_t out[DAYBOOK_VALUE]) {
+  uint8_t book[DAYBOOK_VALUE] = {0}, outcome[1];
+  uint32_t number = daybook_check(DAYBOOK_BLACK, 1, 1, 1, bytes, size, &size, 1, book, sizeof book, out, DAYBOOK_VALUE, outcome, 1);
   if (number) refused(number);
 }
 
-static int close_day(const char *folder, const char *text) {
-  uint8_t record[DAYBOOK_RECORD], part[DAYBOOK_PART];
-  uint32_t values = 0, number;
-  char name[32];
-  record_of(folder, record);
-  if (strlen(text) > DAY_BYTES || days_closed(record) == MOST_DAYS) stop("more than this example holds");
-  if ((number = daybook_add(record, (const uint8_t *)text, strlen(text)))) refused(number);
-  if ((number = daybook_close(record, part, sizeof part, &values))) refused(number);
-  snprintf(name, sizeof name, "day-%u", days_closed(record));
-  save(folder, name, "wb", (const uint8_t *)text, strlen(text));
-  save(folder, "book", "ab", part, values * DAYBOOK_VALUE);
-  save(folder, "record", "wb", record, sizeof record);
-  printf("day %u is closed, %u values\n", days_closed(record), values);
+/* The bytes of a file, at most size of them; -1 if there is no such file. */
+static long load(int folder, const char *name, uint8_t *bytes, size_t size) {
+  int file = openat(folder, name, O_RDONLY | O_CLOEXEC);
+  if (file < 0 && errno == ENOENT) return -1;
+  if (file < 0) stop("cannot read ", name);
+  size_t count = 0;
+  for (;;) {
+    uint8_t more;
+    ssize_t part = count < size ? read(file, bytes + count, size - count) : read(file, &more, 1);
+    if (part < 0 || (part > 0 && count == size)) stop("cannot be read or is too long: ", name);
+    if (part == 0) break;
+    count += (size_t)part;
+  }
+  close(file);
+  return (long)count;
+}
+
+/* Writes the bytes behind the first `at` of a file, which end it then, and flushes them to disk. */
+static void save(int folder, const char *name, uint32_t at, const uint8_t *bytes, size_t size) {
+  int file = openat(folder, name, O_WRONLY | O_CREAT | O_CLOEXEC, 0666);
+  if (file < 0 || ftruncate(file, at) || lseek(file, at, SEEK_SET) < 0) stop("cannot write ", name);
+  while (size) {
+    ssize_t part = write(file, bytes, size);
+    if (part <= 0) stop("cannot write ", name);
+    bytes += part;
+    size -= (size_t)part;
+  }
+  if (fsync(file) || close(file)) stop("cannot write ", name);
+}
+
+static void sync_folder(int folder) {
+  if (fsync(folder)) stop("cannot flush the folder: repeat the command", "");
+}
+
+/* The folder, locked against other runs until this one ends. */
+static int locked(const char *name) {
+  int folder = open(name, O_RDONLY | O_DIRECTORY | O_CLOEXEC);
+  if (folder < 0) stop("there is no folder ", name);
+  if (flock(folder, LOCK_EX | LOCK_NB)) stop("another run uses ", name);
+  return folder;
+}
+
+/* The state of the last commit, with the book beside it tested. Bytes of the book past it are of a stopped run. */
+static void load_state(int folder, uint8_t *state, uint8_t *book) {
+  uint8_t sum[DAYBOOK_VALUE], fresh[DAYBOOK_RECORD];
+  long size = load(folder, "state", state, STATE_BYTES);
+  if (size < 0) stop("there is no state: it is missing, or the service was not opened", "");
+  digest(state, SUM_AT, sum);
+  if (size != STATE_BYTES || memcmp(sum, state + SUM_AT, sizeof sum)) stop("the state is not whole", "");
+  if (daybook_open(DAYBOOK_TREE, N, F, fresh) || memcmp(state, fresh, 12)) stop("the state is of another layout", "");
+  if (daybook_record_days(state) > MOST_DAYS) stop("more than this example holds", "");
+  uint32_t length = values_of(state) * DAYBOOK_VALUE;
+  if (load(folder, "book", book, BOOK_BYTES + DAYBOOK_PART) < (long)length) stop("the book is missing or too short", "");
+  digest(book, length, sum);
+  if (memcmp(sum, state + DIGEST_AT, sizeof sum)) stop("the book does not fit the state", "");
+}
+
+/* The commit. */
+static void save_state(int folder, uint8_t *state, const uint8_t *book) {
+  digest(book, values_of(state) * DAYBOOK_VALUE, state + DIGEST_AT);
+  digest(state, SUM_AT, state + SUM_AT);
+  save(folder, "state.new", 0, state, STATE_BYTES);
+  if (renameat(folder, "state.new", folder, "state")) stop("cannot write ", "state");
+  sync_folder(folder);
+}
+
+static uint8_t state[STATE_BYTES], book[BOOK_BYTES + DAYBOOK_PART];
+
+/* A folder without a state can be made a service only if nothing else is in it but what a stopped open leaves. */
+static void test_unused(const char *name) {
+  DIR *entries = opendir(name);
+  if (!entries) stop("cannot read ", name);
+  for (struct dirent *entry; (entry = readdir(entries));) {
+    const char *known[] = {".", "..", "book", "state.new"};
+    int own = 0;
+    for (int i = 0; i < 4; i++) own |= !strcmp(entry->d_name, known[i]);
+    if (!own) stop("the folder has no state and is not empty: ", entry->d_name);
+  }
+  closedir(entries);
+}
+
+static int open_service(const char *name) {
+  uint8_t old[STATE_BYTES + 1];
+  if (mkdir(name, 0777) && errno != EEXIST) stop("cannot make ", name);
+  int folder = locked(name), above = openat(folder, "..", O_RDONLY | O_DIRECTORY | O_CLOEXEC);
+  int there = load(folder, "state", old, sizeof old) >= 0;
+  if (there) {
+    load_state(folder, state, book);
+    if (daybook_record_days(state)) stop("it has days already: ", name);
+  } else {
+    test_unused(name);
+    if (load(folder, "book", book, sizeof book) > 0) stop("there is a book, and no state", "");
+    uint32_t number = daybook_open(DAYBOOK_TREE, N, F, state);
+    if (number) refused(number);
+    save(folder, "book", 0, book, 0);
+    sync_folder(folder);
+    save_state(folder, state, book);
+  }
+  sync_folder(folder);
+  if (above < 0) stop("cannot open the folder above ", name);
+  sync_folder(above);
+  printf(there ? "the service is open already\n" : "the service is open\n");
   return 0;
 }
 
-static int check_days(const char *folder) {
-  static uint8_t record[DAYBOOK_RECORD], ledger[MOST_DAYS * DAY_BYTES], book[3 * MOST_DAYS * DAYBOOK_VALUE];
-  static uint8_t work[MOST_DAYS * DAYBOOK_VALUE], outcomes[3 * MOST_DAYS];
+static int close_day(const char *name, uint32_t day, const char *text) {
+  uint8_t part[DAYBOOK_PART], old[DAY_BYTES];
+  uint32_t values = 0, number;
+  size_t size = strlen(text);
+  char file[32];
+  int folder = locked(name);
+  load_state(folder, state, book);
+  sync_folder(folder); /* the state that was found is on disk: a stopped run may not have come to that */
+  uint32_t closed = daybook_record_days(state), length = values_of(state) * DAYBOOK_VALUE;
+  snprintf(file, sizeof file, "day-%u", day);
+  if (day >= 1 && day <= closed) {
+    if (load(folder, file, old, sizeof old) != (long)size || memcmp(old, text, size)) stop("closed with other bytes: ", file);
+    printf("day %u is closed already\n", day);
+    return 0;
+  }
+  if (day != closed + 1) stop("not the next day: ", file);
+  if (size > DAY_BYTES || closed == MOST_DAYS) stop("more than this example holds", "");
+  if ((number = daybook_add(state, (const uint8_t *)text, size))) refused(number);
+  if ((number = daybook_close(state, part, sizeof part, &values))) refused(number);
+  save(folder, file, 0, (const uint8_t *)text, size);
+  save(folder, "book", length, part, values * DAYBOOK_VALUE);
+  sync_folder(folder); /* day-K is a new name */
+  memcpy(book + length, part, values * DAYBOOK_VALUE);
+  save_state(folder, state, book);
+  printf("day %u is closed, %u values\n", day, values);
+  return 0;
+}
+
+static int show(const char *name) {
+  load_state(locked(name), state, book);
+  printf("%u days, %u values\n", daybook_record_days(state), values_of(state));
+  return 0;
+}
+
+static int check_days(const char *name) {
+  static uint8_t ledger[MOST_DAYS * DAY_BYTES], work[MOST_DAYS * DAYBOOK_VALUE], outcomes[3 * MOST_DAYS];
   static uint32_t ends[MOST_DAYS], list[MOST_DAYS], numbers[5];
   uint32_t number, end = 0;
-  record_of(folder, record);
-  uint32_t d = days_closed(record);
-  if (d > MOST_DAYS) stop("more than this example holds");
+  int folder = locked(name);
+  load_state(folder, state, book);
+  uint32_t d = daybook_record_days(state);
   for (uint32_t i = 0; i < d; i++) {
-    char name[32];
-    snprintf(name, sizeof name, "day-%u", i + 1);
-    long size = load(folder, name, ledger + end, DAY_BYTES);
-    if (size < 0) stop("a day is missing");
+    char file[32];
+    snprintf(file, sizeof file, "day-%u", i + 1);
+    long size = load(folder, file, ledger + end, DAY_BYTES);
+    if (size < 0) stop("a day is missing: ", file);
     ends[i] = end += (uint32_t)size;
   }
-  long book_size = load(folder, "book", book, sizeof book);
-  if (book_size < 0) stop("there is no book");
-  if ((number = daybook_check(DAYBOOK_TREE, N, F, d, ledger, end, ends, d, book, (size_t)book_size,
+  if ((number = daybook_check(DAYBOOK_TREE, N, F, d, ledger, end, ends, d, book, values_of(state) * DAYBOOK_VALUE,
                               work, sizeof work, outcomes, sizeof outcomes))) refused(number);
   if ((number = daybook_read(DAYBOOK_TREE, N, F, d, outcomes, sizeof outcomes, list, MOST_DAYS, numbers))) refused(number);
   if (!numbers[0]) printf("%u days, clean\n", d);
@@ -102,7 +216,9 @@ static int check_days(const char *folder) {
 }
 
 int main(int count, char **words) {
-  if (count == 4 && !strcmp(words[1], "close")) return close_day(words[2], words[3]);
+  if (count == 3 && !strcmp(words[1], "open")) return open_service(words[2]);
+  if (count == 5 && !strcmp(words[1], "close")) return close_day(words[2], (uint32_t)strtoul(words[3], NULL, 10), words[4]);
+  if (count == 3 && !strcmp(words[1], "status")) return show(words[2]);
   if (count == 3 && !strcmp(words[1], "check")) return check_days(words[2]);
-  stop("usage: service_days close FOLDER TEXT | service_days check FOLDER");
+  stop("usage: service_days open FOLDER | close FOLDER K TEXT | status FOLDER | check FOLDER", "");
 }

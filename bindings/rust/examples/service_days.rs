@@ -1,12 +1,23 @@
-//! A service over several days, kept in a file between runs; then a day is altered and found.
+//! A service over several days, kept in one file between runs, that may be stopped at any step.
 //!
 //!     cargo run --offline --example service_days
+//!
+//! closes eight days, alters one and finds it. The steps can be run one by one:
+//!
+//!     service_days open STATE | close STATE K TEXT | status STATE
+//!
+//! STATE is one file: the record, the digest of each closed day, the book, and a checksum over these. A
+//! close has one commit, in which the new file takes the place of the old one; a run that is stopped
+//! leaves the service before or after it. The number K makes a repeat harmless.
 
+use std::env;
 use std::error::Error;
-use std::fs;
-use std::path::Path;
+use std::fs::{self, File};
+use std::io::Write;
+use std::path::{Path, PathBuf};
+use std::process::ExitCode;
 
-use daybook::{check_to_vecs, read_to_vec, Layout, Reading, Service, RECORD};
+use daybook::{check, check_to_vecs, read_to_vec, Layout, Reading, Service, RECORD, VALUE};
 
 const LAYOUT: Layout = Layout::tile(4, 2);
 
@@ -15,60 +26,176 @@ const DAYS: [&str; 8] = [
     "rye 12", "oats 7", "wheat 40", "barley 3", "rye 9", "", "wheat 38", "oats 11",
 ];
 
-fn main() -> Result<(), Box<dyn Error>> {
-    let folder = std::env::temp_dir().join(format!("service-days-{}", std::process::id()));
+type Answer<T> = Result<T, Box<dyn Error>>;
+
+fn main() -> ExitCode {
+    let words: Vec<String> = env::args().skip(1).collect();
+    let words: Vec<&str> = words.iter().map(String::as_str).collect();
+    let result = match words[..] {
+        [] => demonstration(),
+        ["open", state] => open(Path::new(state)),
+        ["close", state, day, text] => match day.parse() {
+            Ok(day) => close(Path::new(state), day, text.as_bytes()),
+            Err(_) => Err(format!("{day} is no number").into()),
+        },
+        ["status", state] => status(Path::new(state)),
+        _ => Err("usage: service_days [open STATE | close STATE K TEXT | status STATE]".into()),
+    };
+    match result {
+        Ok(()) => ExitCode::SUCCESS,
+        Err(error) => {
+            eprintln!("service_days: {error}");
+            ExitCode::from(3)
+        }
+    }
+}
+
+fn demonstration() -> Answer<()> {
+    let folder = env::temp_dir().join(format!("service-days-{}", std::process::id()));
     fs::create_dir(&folder)?;
-    let result = run(&folder.join("state"));
+    let result = eight_days(&folder.join("state"));
     fs::remove_dir_all(&folder)?;
     result
 }
 
-fn run(state: &Path) -> Result<(), Box<dyn Error>> {
-    for day in DAYS {
-        close_one_day(state, day.as_bytes())?;
+fn eight_days(state: &Path) -> Answer<()> {
+    open(state)?;
+    for (day, text) in DAYS.iter().enumerate() {
+        close(state, day as u32 + 1, text.as_bytes())?;
     }
-    let (service, book) = load(state)?;
-    println!("{} days, {} values", service.days(), book.len() / 32);
+    let kept = Kept::load(state)?;
+    let values = kept.book.len() / VALUE;
+    println!("{} days, {values} values", kept.service.days());
 
-    print_reading("as sealed", &DAYS, &book)?;
+    print_reading("as sealed", &DAYS, &kept.book)?;
     let mut now = DAYS;
     now[6] = "wheat 83";
-    print_reading("day 7 altered", &now, &book)
+    print_reading("day 7 altered", &now, &kept.book)
+}
+
+fn open(state: &Path) -> Answer<()> {
+    let _lock = locked(state)?;
+    if state.exists() {
+        if Kept::load(state)?.service.days() > 0 {
+            return Err("it has days already".into());
+        }
+        return flush_folder(state);
+    }
+    let service = Service::open(LAYOUT)?;
+    Kept {
+        service,
+        digests: Vec::new(),
+        book: Vec::new(),
+    }
+    .save(state)
 }
 
 /// What one run of the service does: takes up its state, closes a day, keeps its state.
-fn close_one_day(state: &Path, day: &[u8]) -> Result<(), Box<dyn Error>> {
-    let (mut service, mut book) = load(state)?;
-    for piece in day.chunks(4) {
-        service.add(piece)?;
+fn close(state: &Path, day: u32, text: &[u8]) -> Answer<()> {
+    let _lock = locked(state)?;
+    let mut kept = Kept::load(state)?;
+    let next = kept.service.days() + 1;
+    if (1..next).contains(&day) {
+        let at = VALUE * (day as usize - 1);
+        if kept.digests[at..at + VALUE] != digest(text)? {
+            return Err(format!("day {day} is closed, with other bytes").into());
+        }
+        // a run that was stopped may have left the file, but not on disk
+        return flush_folder(state);
     }
-    book.extend(service.close_day()?);
-    save(state, &service, &book)
+    if day != next {
+        return Err(format!("day {day} is not the next one, which is {next}").into());
+    }
+    for piece in text.chunks(4) {
+        kept.service.add(piece)?;
+    }
+    kept.book.extend(kept.service.close_day()?);
+    kept.digests.extend(digest(text)?);
+    kept.save(state)
 }
 
-/// The state is the record and, after it, the book so far.
-fn load(state: &Path) -> Result<(Service, Vec<u8>), Box<dyn Error>> {
-    if !state.exists() {
-        return Ok((Service::open(LAYOUT)?, Vec::new()));
-    }
-    let bytes = fs::read(state)?;
-    let (record, book) = bytes
-        .split_first_chunk::<RECORD>()
-        .ok_or("the state is shorter than a record")?;
-    Ok((Service::from_bytes(*record), book.to_vec()))
-}
-
-/// Record and book are replaced in one step, so that they always belong together.
-fn save(state: &Path, service: &Service, book: &[u8]) -> Result<(), Box<dyn Error>> {
-    let new = state.with_extension("new");
-    fs::write(&new, [&service.to_bytes(), book].concat())?;
-    fs::File::open(&new)?.sync_all()?;
-    fs::rename(&new, state)?;
+fn status(state: &Path) -> Answer<()> {
+    let kept = Kept::load(state)?;
+    let (days, values) = (kept.service.days(), kept.book.len() / VALUE);
+    println!("{days} days, {values} values");
     Ok(())
 }
 
+/// What is kept between two runs.
+struct Kept {
+    service: Service,
+    /// The digest of each closed day.
+    digests: Vec<u8>,
+    book: Vec<u8>,
+}
+
+impl Kept {
+    /// A state that is missing is no fresh one, and one that is not whole is none.
+    fn load(state: &Path) -> Answer<Kept> {
+        let bytes = fs::read(state).map_err(|error| format!("{}: {error}", state.display()))?;
+        let (body, sum) = bytes
+            .split_last_chunk::<VALUE>()
+            .ok_or("the state is too short")?;
+        if digest(body)? != *sum {
+            return Err("the state does not fit its checksum".into());
+        }
+        let (record, rest) = body
+            .split_first_chunk::<RECORD>()
+            .ok_or("the state is too short")?;
+        let service = Service::from_bytes(*record);
+        let (digests, book) = rest
+            .split_at_checked(VALUE * service.days() as usize)
+            .ok_or("the state is too short")?;
+        Ok(Kept {
+            service,
+            digests: digests.to_vec(),
+            book: book.to_vec(),
+        })
+    }
+
+    /// The new file is on disk before it takes the place of the old one, in one step.
+    fn save(&self, state: &Path) -> Answer<()> {
+        let mut bytes = [&self.service.to_bytes()[..], &self.digests, &self.book].concat();
+        let sum = digest(&bytes)?;
+        bytes.extend(sum);
+        let new = state.with_extension("new");
+        let mut file = File::create(&new)?;
+        file.write_all(&bytes)?;
+        file.sync_all()?;
+        fs::rename(&new, state)?;
+        flush_folder(state)
+    }
+}
+
+/// The digest of a day of these bytes: a check of one day writes it.
+fn digest(bytes: &[u8]) -> Answer<[u8; VALUE]> {
+    let mut digest = [0; VALUE];
+    let ends = [u32::try_from(bytes.len())?];
+    let layout = Layout::black(1, 1);
+    check(layout, 1, bytes, &ends, &[0; VALUE], &mut digest, &mut [0])?;
+    Ok(digest)
+}
+
+fn folder(state: &Path) -> PathBuf {
+    match state.parent() {
+        Some(folder) if !folder.as_os_str().is_empty() => folder.to_path_buf(),
+        _ => PathBuf::from("."),
+    }
+}
+
+fn flush_folder(state: &Path) -> Answer<()> {
+    Ok(File::open(folder(state))?.sync_all()?)
+}
+
+/// One run at a time: the folder is locked until the file is dropped.
+fn locked(state: &Path) -> Answer<File> {
+    let folder = File::open(folder(state))?;
+    folder.try_lock()?;
+    Ok(folder)
+}
+
 /// Checks the days against the book and prints what the outcomes say.
-fn print_reading(what: &str, days: &[&str], book: &[u8]) -> Result<(), Box<dyn Error>> {
+fn print_reading(what: &str, days: &[&str], book: &[u8]) -> Answer<()> {
     let ledger = days.concat();
     let mut ends = Vec::new();
     for day in days {

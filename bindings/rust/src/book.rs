@@ -1,6 +1,10 @@
 use crate::{ffi, Layout, Refusal, VALUE};
 
-/// The number of values in the book of `d` days. Refusals 1 2 3 7.
+/// The number of values in the book of `d` days.
+///
+/// # Errors
+///
+/// Refusals 1 2 3 7, the first in this order.
 ///
 /// ```
 /// use daybook::{values, Layout, Refusal};
@@ -18,7 +22,10 @@ pub fn values(layout: Layout, d: u32) -> Result<u32, Refusal> {
 ///
 /// `ends[d - 1]` is where day `d` ends in the ledger; day 1 starts at 0, every other day where the
 /// one before ends. Only the first `d` ends are read, and the ledger up to the last of these.
-/// Refusals 1 2 3 7 9 10 8.
+///
+/// # Errors
+///
+/// Refusals 1 2 3 7 9 10 8, the first in this order; the book is then as it was.
 ///
 /// ```
 /// use daybook::{seal, Layout, Refusal};
@@ -37,7 +44,11 @@ pub fn seal(
     Refusal::answer(ffi::seal(layout.setting(), d, ledger, ends, book))
 }
 
-/// Seals as [`seal`] and gives the book. Refusals 1 2 3 7 9 10.
+/// Seals as [`seal`] and gives the book.
+///
+/// # Errors
+///
+/// Refusals 1 2 3 7 9 10, the first in this order.
 pub fn seal_to_vec(
     layout: Layout,
     d: u32,
@@ -54,7 +65,11 @@ pub fn seal_to_vec(
 /// The digest of each day goes to the front of `work`, 32 bytes each, and an outcome for each value,
 /// in book order, to the front of `outcomes`: 1 pass, 0 fail. The rest of both stays. Only the first
 /// `d` ends are read, the ledger up to the last of these, and the front of the book that `d` days
-/// have. Refusals 1 2 3 7 9 10 11 8.
+/// have.
+///
+/// # Errors
+///
+/// Refusals 1 2 3 7 9 10 11 8, the first in this order; both buffers are then as they were.
 pub fn check(
     layout: Layout,
     d: u32,
@@ -76,6 +91,7 @@ pub fn check(
 }
 
 /// What a check found.
+#[must_use]
 #[derive(Clone, Debug, PartialEq, Eq)]
 pub struct Checked {
     /// The digests of the days, [`VALUE`] bytes each.
@@ -84,7 +100,11 @@ pub struct Checked {
     pub outcomes: Vec<u8>,
 }
 
-/// Checks as [`check`] and gives digests and outcomes. Refusals 1 2 3 7 9 10 11.
+/// Checks as [`check`] and gives digests and outcomes.
+///
+/// # Errors
+///
+/// Refusals 1 2 3 7 9 10 11, the first in this order.
 ///
 /// ```
 /// use daybook::{check_to_vecs, seal_to_vec, Layout, Refusal};
@@ -109,6 +129,7 @@ pub fn check_to_vecs(
 }
 
 /// What a table of outcomes says.
+#[must_use]
 #[derive(Clone, Copy, Debug, PartialEq, Eq, Hash)]
 pub enum Reading {
     /// No day was altered.
@@ -133,11 +154,13 @@ pub enum Reading {
 
 impl Reading {
     /// Whether no day was altered.
+    #[must_use]
     pub const fn is_clean(&self) -> bool {
         matches!(self, Reading::Clean { .. })
     }
 
     /// Listed, first listed, low, high, last good: 0, 0, 0, 0, D where clean.
+    #[must_use]
     pub const fn numbers(&self) -> [u32; 5] {
         match *self {
             Reading::Clean { last_good } => [0, 0, 0, 0, last_good],
@@ -167,7 +190,10 @@ impl Reading {
 
 /// Reads a table of outcomes: writes the days that may have been altered, ascending, to the front of
 /// `list`; the rest stays. The list must have `d` places, whatever it lists.
-/// Refusals 1 2 3 7 8 12 13 14.
+///
+/// # Errors
+///
+/// Refusals 1 2 3 7 8 12 13 14, the first in this order; the list is then as it was.
 ///
 /// ```
 /// use daybook::{read, Layout, Reading, Refusal};
@@ -187,7 +213,11 @@ pub fn read(layout: Layout, d: u32, outcomes: &[u8], list: &mut [u32]) -> Result
     Ok(Reading::from_numbers(numbers))
 }
 
-/// Reads as [`read`] and gives the listed days too. Refusals 1 2 3 7 12 13 14.
+/// Reads as [`read`] and gives the listed days too.
+///
+/// # Errors
+///
+/// Refusals 1 2 3 7 12 13 14, the first in this order.
 ///
 /// ```
 /// use daybook::{read_to_vec, Layout, Reading, Refusal};

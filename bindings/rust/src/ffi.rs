@@ -56,6 +56,8 @@ mod c {
             numbers: *mut u32,
         ) -> u32;
         pub fn daybook_values(scheme: u32, n: u32, f: u32, d: u32, values: *mut u32) -> u32;
+        pub fn daybook_record_values(record: *const u8, values: *mut u32) -> u32;
+        pub fn daybook_version() -> u32;
     }
 }
 
@@ -158,4 +160,14 @@ pub fn read(
 pub fn values((scheme, n, f): Setting, d: u32, values: &mut [u32; 1]) -> u32 {
     // SAFETY: see above; values has one place.
     unsafe { c::daybook_values(scheme, n, f, d, values.as_mut_ptr()) }
+}
+
+pub fn record_values(record: &[u8; RECORD], values: &mut [u32; 1]) -> u32 {
+    // SAFETY: `record` has RECORD elements, `values` has 1.
+    unsafe { c::daybook_record_values(record.as_ptr(), values.as_mut_ptr()) }
+}
+
+pub fn version() -> u32 {
+    // SAFETY: it takes no pointer.
+    unsafe { c::daybook_version() }
 }

@@ -31,6 +31,7 @@ impl Layout {
     pub const TREE: u32 = 3;
 
     /// Scheme 1 with this N and F.
+    #[must_use]
     pub const fn black(n: u32, f: u32) -> Layout {
         Layout {
             scheme: Layout::BLACK,
@@ -40,6 +41,7 @@ impl Layout {
     }
 
     /// Scheme 2 with this N and F.
+    #[must_use]
     pub const fn tile(n: u32, f: u32) -> Layout {
         Layout {
             scheme: Layout::TILE,
@@ -49,6 +51,7 @@ impl Layout {
     }
 
     /// Scheme 3 with this N; F is 1.
+    #[must_use]
     pub const fn tree(n: u32) -> Layout {
         Layout {
             scheme: Layout::TREE,

@@ -30,6 +30,7 @@
 
 #![deny(unsafe_code)]
 #![warn(missing_docs)]
+#![warn(clippy::missing_errors_doc, clippy::must_use_candidate)]
 
 mod book;
 #[allow(unsafe_code)]
@@ -55,3 +56,16 @@ pub const PART: usize = 544;
 pub const DAY_LIMIT: u32 = 16_777_216;
 /// Days in a book.
 pub const DAYS_LIMIT: u32 = 65_536;
+/// Bytes that are enough for any book: scheme 3, N 1, 65,536 days.
+pub const BOOK_LIMIT: usize = 6_290_880;
+
+/// The version of the archive: 10000 · major + 100 · minor + patch.
+#[must_use]
+pub fn version() -> u32 {
+    ffi::version()
+}
+
+/// The code of the package's page, as doc tests.
+#[cfg(doctest)]
+#[doc = include_str!("../README.md")]
+struct Readme;

@@ -65,6 +65,7 @@ impl Refusal {
     ];
 
     /// The number of the cause, 1 to 14.
+    #[must_use]
     pub const fn number(self) -> u32 {
         self as u32
     }
@@ -78,6 +79,7 @@ impl Refusal {
     /// assert_eq!(Refusal::from_number(0), None);
     /// assert_eq!(Refusal::from_number(15), None);
     /// ```
+    #[must_use]
     pub fn from_number(number: u32) -> Option<Refusal> {
         Refusal::ALL
             .into_iter()

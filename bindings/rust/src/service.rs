@@ -25,20 +25,32 @@ pub struct Service {
 }
 
 impl Service {
-    /// Opens a service at day 1. Refusals 1 2 3, in that order.
+    /// Opens a service at day 1.
+    ///
+    /// # Errors
+    ///
+    /// Refusals 1 2 3, the first in this order.
     pub fn open(layout: Layout) -> Result<Service, Refusal> {
         let mut record = [0; RECORD];
         Refusal::answer(ffi::open(layout.setting(), &mut record))?;
         Ok(Service { record })
     }
 
-    /// Adds a piece to the open day; it may be empty. Refusals 6 5 4.
+    /// Adds a piece to the open day; it may be empty.
+    ///
+    /// # Errors
+    ///
+    /// Refusals 6 5 4, the first in this order; the service is then as it was.
     pub fn add(&mut self, piece: &[u8]) -> Result<(), Refusal> {
         Refusal::answer(ffi::add(&mut self.record, piece))
     }
 
     /// Closes the open day, writes its values to the front of `part`, gives their number and opens
-    /// the next day. [`PART`] bytes are always enough. Refusals 6 5 8.
+    /// the next day. [`PART`] bytes are always enough.
+    ///
+    /// # Errors
+    ///
+    /// Refusals 6 5 8, the first in this order; service and part are then as they were.
     ///
     /// ```
     /// use daybook::{Layout, Refusal, Service};
@@ -50,13 +62,19 @@ impl Service {
     /// assert_eq!(service.days(), 1);
     /// # Ok::<(), Refusal>(())
     /// ```
+    #[must_use = "the number of values at the front of the part"]
     pub fn close(&mut self, part: &mut [u8]) -> Result<u32, Refusal> {
         let mut values = [0];
         Refusal::answer(ffi::close(&mut self.record, part, &mut values))?;
         Ok(values[0])
     }
 
-    /// Closes the open day and gives its values, [`VALUE`] bytes each. Refusals 6 5.
+    /// Closes the open day and gives its values, [`VALUE`] bytes each.
+    ///
+    /// # Errors
+    ///
+    /// Refusals 6 5, the first in this order; the service is then as it was.
+    #[must_use = "the values belong into the book, and cannot be had again"]
     pub fn close_day(&mut self) -> Result<Vec<u8>, Refusal> {
         let mut part = [0; PART];
         let values = self.close(&mut part)?;
@@ -77,6 +95,7 @@ impl Service {
     /// service.close_day()?;
     /// # Ok::<(), Refusal>(())
     /// ```
+    #[must_use]
     pub fn to_bytes(&self) -> [u8; RECORD] {
         self.record
     }
@@ -90,11 +109,13 @@ impl Service {
     /// let mut service = Service::from_bytes([0; RECORD]);
     /// assert_eq!(service.add(b""), Err(Refusal::BadRecord));
     /// ```
+    #[must_use]
     pub fn from_bytes(record: [u8; RECORD]) -> Service {
         Service { record }
     }
 
     /// The layout that the record names.
+    #[must_use]
     pub fn layout(&self) -> Layout {
         Layout {
             scheme: self.scheme(),
@@ -104,28 +125,55 @@ impl Service {
     }
 
     /// The record's scheme.
+    #[must_use]
     pub fn scheme(&self) -> u32 {
         self.number_at(0)
     }
 
     /// The record's N.
+    #[must_use]
     pub fn n(&self) -> u32 {
         self.number_at(4)
     }
 
     /// The record's F.
+    #[must_use]
     pub fn f(&self) -> u32 {
         self.number_at(8)
     }
 
     /// The number of days closed.
+    #[must_use]
     pub fn days(&self) -> u32 {
         self.number_at(12)
     }
 
     /// The number of bytes in the open day.
+    #[must_use]
     pub fn open_bytes(&self) -> u32 {
         self.number_at(16)
+    }
+
+    /// The number of values of the days closed: what the closes have written so far.
+    ///
+    /// # Errors
+    ///
+    /// [`Refusal::BadRecord`], as for [`Service::add`].
+    ///
+    /// ```
+    /// use daybook::{Layout, Refusal, Service};
+    ///
+    /// let mut service = Service::open(Layout::tree(4))?;
+    /// for _ in 0..3 {
+    ///     service.close_day()?;
+    /// }
+    /// assert_eq!(service.values(), Ok(4)); // days 1, 2 and 3 have 1, 2 and 1
+    /// # Ok::<(), Refusal>(())
+    /// ```
+    pub fn values(&self) -> Result<u32, Refusal> {
+        let mut values = [0];
+        Refusal::answer(ffi::record_values(&self.record, &mut values))?;
+        Ok(values[0])
     }
 
     /// The 32 bits at this place of the record, little-endian.

@@ -500,7 +500,7 @@ fn files_are_not_mixed_up() {
 #[test]
 fn the_book_is_replaced_whole() {
     let folder = eight("replaced");
-    let seal = "seal --scheme 1 --n 8 --f 1 --days in --book made";
+    let seal = "seal --scheme 1 --n 8 --f 1 --days in --book made --force";
     fs::write(folder.file("made"), [9; 1000]).unwrap();
     done(&folder, seal, 0, "");
     let expected = book(Layout::black(8, 1), &days(8));
@@ -551,7 +551,7 @@ fn the_old_file_stays_when_the_disk_is_full() {
     fs::write(folder.file("made"), old).unwrap();
     let before = names(folder.path());
     for line in [
-        "seal --scheme 2 --n 4 --f 2 --days in --book made",
+        "seal --scheme 2 --n 4 --f 2 --days in --book made --force",
         "seal --scheme 2 --n 4 --f 2 --days in --book new",
         "check --scheme 2 --n 4 --f 2 --days in --book book --outcomes made --digests new",
     ] {

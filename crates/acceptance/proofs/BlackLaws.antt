@@ -1,21 +1,15 @@
 -- Black values: the last value of a day that n divides is over the days 1 to it, and the position of black indexes it.
-use mathlib.Core.Path.{_≡_, refl, ap, _∙_}
-use mathlib.Core.Bool.{Bool, true, false}
+use mathlib.Core.{Path._≡_, Path.refl, Path.ap, Path._∙_, Logic.inl, Logic.inr, Bool.true}
 use mathlib.Core.List.{List, [], _∷_, _++_, map, map-append, append-nil}
 use Prim.Native.Nat.{ℕ, zero, suc, pred, _+_, _-_, _%_, _^_, _≤_, _<_}
-use native.Mathlib.Nat.{mod-self, zero-add}
-use native.Mathlib.Omega.{arith}
-use lib.Dec.{eqb}
-use lib.ListN.{length, getD, length-append, length-map}
-use lib.Pow.{pow-mono}
-use lib.Seq.{getD-at}
+use native.Mathlib.{Nat.mod-self, Nat.zero-add, Omega.arith}
+use lib.{Dec.eqb, ListN.length, ListN.getD, ListN.length-append, ListN.length-map, Pow.pow-mono, Seq.getD-at}
 use borrow.Author.Tests.{eqb-true, eq-eqb}
 use Rattle.lists.specs.Lists.{_among_, upFrom}
-use Rattle.lists.proofs.Laws.{true-or-false, and-both, upFrom-mem, keep-mem, upFrom-snoc}
+use Rattle.lists.proofs.Laws.{split, true-or-false, and-both, upFrom-mem, keep-mem, upFrom-snoc}
 use Rattle.layouts.specs.Layouts.{divides, lg, Name, black, tile, tree, lastDays, coveredDays, levels, storedOnce, namesOfDay, namesThrough, chains, blackAt}
 use Rattle.layouts.specs.Private.{position}
-use Rattle.layouts.proofs.Coverage.{divisor-le, namesThrough-suc, namesThrough-add}
-use Rattle.layouts.proofs.Counts.{power-of}
+use Rattle.layouts.proofs.{Coverage.divisor-le, Coverage.namesThrough-suc, Coverage.namesThrough-add, Counts.power-of}
 use Rattle.layouts.proofs.Positions.{levels-run, level-in, in-day, to-chains}
 
 -- where n divides the day, the last value that closes is over days 1 to g
@@ -24,7 +18,10 @@ pub black-last : (s n g : ℕ) → 1 ≤ s → s ≤ 3 → 1 ≤ g → divides n
 black-last zero n g a b p e = absurd (omega arith)
 black-last (suc zero) n g a b p e = ([], black g, rw e, eq-eqb g g refl)
 black-last (suc (suc zero)) n g a b p e = (map (λ i. tile i g) (upFrom 0 (suc (lg n))), black g, rw e, eq-eqb g g refl)
-black-last (suc (suc (suc zero))) n g a b p e = go (storedOnce g) refl
+black-last (suc (suc (suc zero))) n g a b p e = elim (split (storedOnce g)) [
+  | inl h ↦ let r = top (power-of g h) (length (levels g)) refl in (r .0, r .1, rw (e, h, append-nil) (r .2), r .3)
+  | inr h ↦ (map (λ j. tree j g) (levels g), black g, rw (e, h), eq-eqb g g refl)
+]
   where
     top : (l : ℕ) × (2 ^ l ≡ g) → (k : ℕ) → length (levels g) ≡ k → (xs : List Name) × (x : Name) × (map (λ (j : ℕ). tree j g) (levels g) ≡ xs ++ (x ∷ [])) × (blackAt g x ≡ true)
     top r zero q = absurd (omega (arith, level-in (r .0) g p (eq-eqb (g % 2 ^ (r .0)) 0 (rw (r .1) (mod-self g)))))
@@ -40,17 +37,11 @@ black-last (suc (suc (suc zero))) n g a b p e = go (storedOnce g) refl
               map-append (λ (j : ℕ). tree j g) (upFrom 0 k) (k ∷ []),
           rw (eq-eqb g g refl, eq-eqb (2 ^ k) g w),
         )
-
-    go : (b : Bool) → storedOnce g ≡ b → (xs : List Name) × (x : Name) × (namesOfDay 3 n g ≡ xs ++ (x ∷ [])) × (blackAt g x ≡ true)
-    go true h =
-        let r = top (power-of g h) (length (levels g)) refl in
-        (r .0, r .1, rw (e, h, append-nil) (r .2), r .3)
-    go false h = (map (λ j. tree j g) (levels g), black g, rw (e, h), eq-eqb g g refl)
 black-last (suc (suc (suc (suc s)))) n g a b p e = absurd (omega arith)
 
 -- a black value covers days 1 to its day
 pub black-cover : (n g : ℕ) (x : Name) → blackAt g x ≡ true → coveredDays n x ≡ lastDays g g
-black-cover n g (black h) e = ap (λ (y : ℕ). lastDays y y) (eqb-true h g e)
+black-cover n g (black h) e = rw (eqb-true h g e)
 black-cover n g (tile i h) e = absurd (true-or-false e refl)
 black-cover n g (tree l h) e =
     let b = and-both (eqb h g) (eqb (2 ^ l) g) e in

@@ -1,20 +1,16 @@
 -- A table that a set gives meets the rules.
-use mathlib.Core.Path.{_≡_, refl, sym, ap, _∙_}
-use mathlib.Core.Bool.{Bool, true, false, not, _&&_, _||_}
-use mathlib.Core.List.{List, _++_}
+use mathlib.Core.{Path._≡_, Path.refl, Path.sym, Path.ap, Path._∙_, Logic.inl, Logic.inr, List.List, List._++_}
+use mathlib.Core.Bool.{Bool, true, false, not, _&&_, _||_, or-true}
 use Prim.Native.Nat.{ℕ, zero, suc, _+_, _-_, _*_, _/_, _^_, _≤_}
-use native.Mathlib.Nat.{mul-pos, mul-le-mul-right, div-mul-le-self, suc-mul, zero-mul, pow-succ', mul-assoc, le-trans}
-use native.Mathlib.Omega.{arith}
-use lib.Dec.{eqb}
-use lib.Pow.{pow-pos}
+use native.Mathlib.{Nat.le-div-iff-mul-le, Nat.mul-pos, Nat.suc-mul, Nat.zero-mul, Nat.pow-succ', Omega.arith}
+use lib.{Dec.eqb, Pow.pow-pos}
 use borrow.Author.Tests.{eqb-true, le-leb, lt-leb}
 use Rattle.lists.specs.Lists.{_among_, upFrom, keep, every}
 use Rattle.evidence.specs.Evidence.{meets, Gives}
-use Rattle.lists.proofs.Laws.{and-of, upFrom-bounds, keep-mem, every-of}
+use Rattle.lists.proofs.Laws.{split, and-of, upFrom-bounds, keep-mem, every-of}
 use Rattle.evidence.proofs.TableLaws.{meets-of, meets-day}
 use Rattle.layouts.specs.Layouts.{divides, lg, black, tile, tree, lastDays, offset, covers, coveredDays, chains}
-use Rattle.layouts.proofs.AllowedLaws.{Power}
-use Rattle.layouts.proofs.Positions.{divides-half}
+use Rattle.layouts.proofs.{AllowedLaws.Power, Coverage.by-scheme, Positions.divides-half}
 use Rattle.acceptance.specs.Private.{alike, passes, prior, tileRule, blockRule, blockAt, halvesRule, halvesAt, levelRule, levelsRule, blocksRule, rules}
 use Rattle.acceptance.proofs.Runs.{meets-append, keep-all, lastDays-split, divides-multiple}
 use Rattle.acceptance.proofs.Lookup.{Block, gives-passes, gives-black, tile-named, tree-named}
@@ -24,31 +20,25 @@ use Rattle.acceptance.proofs.Lookup.{Block, gives-passes, gives-black, 
 pub block-of : (n d k : ℕ) → 1 ≤ n → k among upFrom 1 (d / n) → Block n d (k * n)
 block-of n d k p m =
     let b = upFrom-bounds 1 (d / n) k m in
-    let q : 1 ≤ k * n = mul-pos (b .0) p in
-    let c : k ≤ d / n = omega arith in
-    let u : k * n ≤ d / n * n = mul-le-mul-right n c in
-    record { some = q; most = le-trans u (div-mul-le-self d n); whole = divides-multiple k n p }
+    record { some = mul-pos (b .0) p; most = le-div-iff-mul-le p .0 (omega arith); whole = divides-multiple k n p }
 
 -- the days through an interval: those through the one before, and its own
 pub block-split : (n k : ℕ) → lastDays (suc k * n) (suc k * n) ≡ lastDays (k * n) (k * n) ++ lastDays n (suc k * n)
 block-split n k =
-    let e : k * n + n ≡ suc k * n = sym (suc-mul k n) in
-    let f : suc k * n - n ≡ k * n = omega arith in
-    ap (λ (x : ℕ). lastDays x (suc k * n)) (sym e) ∙ lastDays-split (k * n) n (suc k * n) (omega arith) ∙
-    ap (λ (x : ℕ). lastDays (k * n) x ++ lastDays n (suc k * n)) f
+    let e = suc-mul k n in
+    let f : k * n + n - n ≡ k * n = omega arith in
+    rw (e, lastDays-split (k * n) n (k * n + n) (omega arith), f)
 
 -- the halves of a tree's chain
 pub half-point : (j l : ℕ) → suc j * 2 ^ suc l ≡ suc (j + j) * 2 ^ l + 2 ^ l
-half-point j l =
-    let a : suc j * 2 ≡ suc (suc (j + j)) = omega arith in
-    ap (λ (x : ℕ). suc j * x) (pow-succ' 2 l) ∙ sym (mul-assoc (suc j) 2 (2 ^ l)) ∙ ap (λ (x : ℕ). x * 2 ^ l) a ∙ suc-mul (suc (j + j)) (2 ^ l)
+half-point j l = rw (pow-succ' 2 l) (omega arith)
 
 pub half-split : (j l : ℕ) → lastDays (2 ^ suc l) (suc j * 2 ^ suc l) ≡ lastDays (2 ^ l) (suc j * 2 ^ suc l - 2 ^ l) ++ lastDays (2 ^ l) (suc j * 2 ^ suc l)
 half-split j l =
-    let e : 2 ^ suc l ≡ 2 ^ l + 2 ^ l = pow-succ' 2 l ∙ (let q : 2 * 2 ^ l ≡ 2 ^ l + 2 ^ l = omega arith in q) in
+    let e : 2 ^ suc l ≡ 2 ^ l + 2 ^ l = let p = pow-succ' 2 l in omega arith in
     let h = half-point j l in
-    let s : suc (j + j) * 2 ^ l ≡ (j + j) * 2 ^ l + 2 ^ l = suc-mul (j + j) (2 ^ l) in
-    ap (λ (x : ℕ). lastDays x (suc j * 2 ^ suc l)) e ∙ lastDays-split (2 ^ l) (2 ^ l) (suc j * 2 ^ suc l) (omega arith)
+    let s = suc-mul (j + j) (2 ^ l) in
+    ap (λ x. lastDays x (suc j * 2 ^ suc l)) e ∙ lastDays-split (2 ^ l) (2 ^ l) (suc j * 2 ^ suc l) (omega arith)
 
 pub prior-first : (s n : ℕ) (t : List ℕ) → prior s n t (1 * n) ≡ true
 unfolding prior
@@ -57,8 +47,8 @@ prior-first s n t = let e : 1 * n ≤ n = omega arith in rw (le-leb (1 * n) n e)
 pub prior-next : (s n k : ℕ) (t : List ℕ) → 1 ≤ n → prior s n t (suc (suc k) * n) ≡ passes s n t (black (suc k * n))
 unfolding prior
 prior-next s n k t p =
-    let e : suc (suc k) * n ≡ suc k * n + n = suc-mul (suc k) n in
-    let q : suc k * n ≡ k * n + n = suc-mul k n in
+    let e = suc-mul (suc k) n in
+    let q = suc-mul k n in
     let f : suc (suc k) * n - n ≡ suc k * n = omega arith in
     rw (lt-leb (suc (suc k) * n) n (omega arith), f)
 
@@ -71,18 +61,15 @@ meets-part S p xs e =
 
 falls : (a b : Bool) → not (not (a || b)) || not a ≡ true
 falls true b = refl
-falls false true = refl
-falls false false = refl
+falls false b = or-true (not (not b))
 
 parts : (a b : Bool) → alike (not (a || b)) (not a && not b) ≡ true
 parts true b = refl
-parts false true = refl
-parts false false = refl
+parts false b = elim b [ true ↦ refl | false ↦ refl ]
 
 inside : (a b : Bool) → (a ≡ true → b ≡ true) → not (not b) || not a ≡ true
 inside true b f = rw (f refl)
-inside false true f = refl
-inside false false f = refl
+inside false b f = or-true (not (not b))
 
 before : ℕ → List ℕ → ℕ → Bool
 before n S k = meets S (lastDays (k * n) (k * n))
@@ -101,9 +88,8 @@ module _ (s n d : ℕ) (S t : List ℕ) (h : Gives (chains s n d) d S t) (a : 1 
   unfolding before
   prior-is zero q = prior-first s n t ∙ rw (zero-mul n)
   prior-is (suc k) q =
-      let e : suc (suc k) * n ≡ suc k * n + n = suc-mul (suc k) n in
-      let r : 1 ≤ suc k * n = mul-pos (omega arith) p in
-      prior-next s n k t p ∙ gives-black s n d S t h a b (suc k * n) r (omega (arith, q .most)) (divides-multiple (suc k) n p)
+      let e = suc-mul (suc k) n in
+      prior-next s n k t p ∙ gives-black s n d S t h a b (suc k * n) (mul-pos (omega arith) p) (omega (arith, q .most)) (divides-multiple (suc k) n p)
 
 block-1 : (n d : ℕ) (S t : List ℕ) → Gives (chains 1 n d) d S t → 1 ≤ n → (k : ℕ) → Block n d (suc k * n) → blockRule 1 n t (suc k * n) ≡ true
 unfolding blockRule
@@ -174,11 +160,8 @@ level-3 n d S t h l j q =
         })
 
 blocks : (s n d : ℕ) (S t : List ℕ) → Gives (chains s n d) d S t → 1 ≤ s → s ≤ 3 → Power n → (k : ℕ) → Block n d (suc k * n) → blockRule s n t (suc k * n) ≡ true
-blocks zero n d S t h a b w k q = absurd (omega arith)
-blocks (suc zero) n d S t h a b w k q = block-1 n d S t h (w .some) k q
-blocks (suc (suc zero)) n d S t h a b w k q = block-2 n d S t h (w .some) k q
-blocks (suc (suc (suc zero))) n d S t h a b w k q = block-3 n d S t h (w .some) (w .power) k q
-blocks (suc (suc (suc (suc s)))) n d S t h a b w k q = absurd (omega arith)
+blocks s n d S t h a b w k q = by-scheme (λ x. Gives (chains x n d) d S t → blockRule x n t (suc k * n) ≡ true)
+    (λ h. block-1 n d S t h (w .some) k q) (λ h. block-2 n d S t h (w .some) k q) (λ h. block-3 n d S t h (w .some) (w .power) k q) s a b h
 
 levels-all : (n d : ℕ) (S t : List ℕ) → Gives (chains 3 n d) d S t → levelsRule n d t ≡ true
 unfolding levelsRule levelRule
@@ -189,11 +172,7 @@ levels-all n d S t h = every-of (levelRule n d t) (upFrom 0 16) (λ l m. every-o
     at l (suc k) i = level-3 n d S t h l k (block-of (2 ^ suc l) d (suc k) (pow-pos (suc l)) i)
 
 levels-hold : (s n d : ℕ) (S t : List ℕ) → Gives (chains s n d) d S t → not (eqb s 3) || levelsRule n d t ≡ true
-levels-hold s n d S t h = go (eqb s 3) refl
-  where
-    go : (b : Bool) → eqb s 3 ≡ b → not b || levelsRule n d t ≡ true
-    go true e = levels-all n d S t (rw (eqb-true s 3 e) at h)
-    go false e = refl
+levels-hold s n d S t h = elim (split (eqb s 3)) [ inl e ↦ rw e (levels-all n d S t (rw (eqb-true s 3 e) at h)) | inr e ↦ rw e ]
 
 -- the rules hold of a table that a set gives
 pub given-rules : (s n d : ℕ) (S t : List ℕ) → Gives (chains s n d) d S t → 1 ≤ s → s ≤ 3 → Power n → rules s n d t ≡ true

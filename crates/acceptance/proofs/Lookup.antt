@@ -1,33 +1,25 @@
 -- A table by names: a set gives a table exactly if each value, looked up by its name, is what the set says of its chain.
-use mathlib.Core.Path.{_≡_, refl, sym, ap, _∙_}
-use mathlib.Core.Logic.{_⊎_, inl, inr}
+use mathlib.Core.{Path._≡_, Path.refl, Path.sym, Path.ap, Path._∙_, Logic._⊎_, Logic.inl, Logic.inr}
 use mathlib.Core.Bool.{Bool, true, false, not, _&&_, cond}
-use mathlib.Core.List.{List, [], _∷_, _++_, map, flatMap, map-append, append-nil, List·Memᴰ·head, List·Memᴰ·tail, List·Memᴰ·append-cases, List·Memᴰ·eq-of-singleton, Memᴰ·append-left, Memᴰ·map, Memᴰ·of-map}
+use mathlib.Core.List.{List, [], _∷_, _++_, map, flatMap, map-append, map-map, append-nil, List·Memᴰ·head, List·Memᴰ·tail, Memᴰ·append-left, Memᴰ·map}
 use Prim.Native.Nat.{ℕ, zero, suc, pred, _+_, _^_, _≤_, _<_}
-use native.Mathlib.Nat.{zero-add, add-zero}
-use native.Mathlib.Omega.{arith}
-use lib.Dec.{eqb}
-use lib.ListN.{length, getD, length-append, length-map}
+use native.Mathlib.{Nat.zero-add, Nat.add-zero, Omega.arith}
+use lib.{Dec.eqb, ListN.length, ListN.getD, ListN.length-append, ListN.length-map}
 use Rattle.lists.specs.Lists.{_among_, upFrom}
-use Rattle.evidence.specs.Evidence.{days, Within, meets, setOutcome, tableOf, Gives}
-use Rattle.lists.proofs.Laws.{true-or-false, and-both, upFrom-mem, upFrom-bounds, keep-mem, mem-keep, map-same, length-upFrom, upFrom-append}
+use Rattle.evidence.specs.Evidence.{Within, meets, setOutcome, tableOf, Gives}
+use Rattle.lists.proofs.Laws.{split, true-or-false, upFrom-mem, upFrom-bounds, mem-keep, map-same, length-upFrom, upFrom-append}
 use Rattle.layouts.specs.Layouts.{divides, lg, Name, black, tile, tree, lastDays, coveredDays, levels, storedOnce, namesOfDay, namesThrough, chains}
 use Rattle.layouts.specs.Private.{position}
-use Rattle.layouts.proofs.Coverage.{divisor-le, cond-mem, namesThrough-suc, namesThrough-at, namesThrough-in}
-use Rattle.layouts.proofs.Counts.{below-pow}
-use Rattle.layouts.proofs.Positions.{levels-run}
+use Rattle.layouts.proofs.Coverage.{divisor-le, of-day-1, of-day-2, of-day-3, namesThrough-suc, namesThrough-at, namesThrough-in}
+use Rattle.layouts.proofs.{Counts.below-pow, Positions.levels-run}
 use Rattle.acceptance.specs.Private.{Bits, passes}
 use Rattle.acceptance.proofs.BlackLaws.{black-position}
 
 -- ---- the positions of the names in book order are 0, 1 and so on
 
-map-add : (b i k : ℕ) → map (λ (x : ℕ). b + x) (upFrom i k) ≡ upFrom (b + i) k
+map-add : (b i k : ℕ) → map (λ x. b + x) (upFrom i k) ≡ upFrom (b + i) k
 map-add b i zero = refl
-map-add b i (suc k) = let e : b + suc i ≡ suc (b + i) = omega arith in ap (λ (r : List ℕ). (b + i) ∷ r) (map-add b (suc i) k ∙ ap (λ (x : ℕ). upFrom x k) e)
-
-map-map : {A B C : Type 0} (f : B → C) (g : A → B) (xs : List A) → map f (map g xs) ≡ map (λ (x : A). f (g x)) xs
-map-map f g [] = refl
-map-map f g (x ∷ xs) = ap (λ r. f (g x) ∷ r) (map-map f g xs)
+map-add b i (suc k) = let e : b + suc i ≡ suc (b + i) = omega arith in rw (map-add b (suc i) k, e)
 
 -- a day's values: k that are counted from the day's first place on, and then perhaps black
 run-then : (s n g k : ℕ) (f : ℕ → Name) (b : Bool) → ((i : ℕ) → position s n (f i) ≡ length (namesThrough s n g) + i) →
@@ -35,40 +27,31 @@ run-then : (s n g k : ℕ) (f : ℕ → Name) (b : Bool) → ((i : ℕ) → posi
     map (position s n) (namesOfDay s n (suc g)) ≡ upFrom (length (namesThrough s n g)) (length (namesOfDay s n (suc g)))
 run-then s n g k f b h e =
     ap (map (position s n)) e ∙ map-append (position s n) (map f (upFrom 0 k)) (cond b (black (suc g) ∷ []) []) ∙
-    ap (λ (r : List ℕ). r ++ map (position s n) (cond b (black (suc g) ∷ []) [])) front ∙ back b e
+    ap (λ r. r ++ map (position s n) (cond b (black (suc g) ∷ []) [])) front ∙ back b e
   where
-    front : map (position s n) (map f (upFrom 0 k)) ≡ upFrom (length (namesThrough s n g)) k
-    front =
-        map-map (position s n) f (upFrom 0 k) ∙ map-same (λ (i : ℕ). position s n (f i)) (λ (i : ℕ). length (namesThrough s n g) + i) (upFrom 0 k) (λ i m. h i) ∙
-        map-add (length (namesThrough s n g)) 0 k ∙ ap (λ (x : ℕ). upFrom x k) (add-zero (length (namesThrough s n g)))
+    a : ℕ
+    a = length (namesThrough s n g)
 
-    count : (c : Bool) → namesOfDay s n (suc g) ≡ map f (upFrom 0 k) ++ cond c (black (suc g) ∷ []) [] → length (namesOfDay s n (suc g)) ≡ k + length (cond c (black (suc g) ∷ []) [])
-    count c q = ap length q ∙ rw (length-append, length-map, length-upFrom)
+    front : map (position s n) (map f (upFrom 0 k)) ≡ upFrom a k
+    front = map-map (position s n) f (upFrom 0 k) ∙ map-same (λ i. position s n (f i)) (λ i. a + i) (upFrom 0 k) (λ i m. h i) ∙ map-add a 0 k ∙ rw add-zero
 
-    total : length (namesThrough s n (suc g)) ≡ length (namesThrough s n g) + length (namesOfDay s n (suc g))
+    total : length (namesThrough s n (suc g)) ≡ a + length (namesOfDay s n (suc g))
     total = ap length (namesThrough-suc s n g) ∙ length-append (namesThrough s n g) (namesOfDay s n (suc g))
 
     back : (c : Bool) → namesOfDay s n (suc g) ≡ map f (upFrom 0 k) ++ cond c (black (suc g) ∷ []) [] →
-        upFrom (length (namesThrough s n g)) k ++ map (position s n) (cond c (black (suc g) ∷ []) []) ≡ upFrom (length (namesThrough s n g)) (length (namesOfDay s n (suc g)))
+        upFrom a k ++ map (position s n) (cond c (black (suc g) ∷ []) []) ≡ upFrom a (length (namesOfDay s n (suc g)))
     back true q =
-        let c = count true q in
-        let w = total in
-        let l : length (namesOfDay s n (suc g)) ≡ k + 1 = c in
-        let p : pred (length (namesThrough s n (suc g))) ≡ length (namesThrough s n g) + k = omega arith in
-        sym (ap (upFrom (length (namesThrough s n g))) l ∙ upFrom-append (length (namesThrough s n g)) k 1 ∙ ap (λ (x : ℕ). upFrom (length (namesThrough s n g)) k ++ (x ∷ [])) (sym p))
+        let l : length (namesOfDay s n (suc g)) ≡ k + 1 = ap length q ∙ rw (length-append, length-map, length-upFrom) in
+        let p : pred (length (namesThrough s n (suc g))) ≡ a + k = omega (arith, total) in
+        sym (ap (upFrom a) l ∙ upFrom-append a k 1 ∙ ap (λ x. upFrom a k ++ (x ∷ [])) (sym p))
     back false q =
-        let c = count false q in
-        let l : length (namesOfDay s n (suc g)) ≡ k = omega arith in
-        append-nil (upFrom (length (namesThrough s n g)) k) ∙ ap (upFrom (length (namesThrough s n g))) (sym l)
+        let l : length (namesOfDay s n (suc g)) ≡ k + 0 = ap length q ∙ rw (length-append, length-map, length-upFrom) in
+        append-nil (upFrom a k) ∙ ap (upFrom a) (sym (l ∙ add-zero k))
 
 day-positions : (s n g : ℕ) → map (position s n) (namesOfDay s n (suc g)) ≡ upFrom (length (namesThrough s n g)) (length (namesOfDay s n (suc g)))
 day-positions zero n g = refl
 day-positions (suc zero) n g = run-then 1 n g 0 (λ i. tile i (suc g)) (divides n (suc g)) (λ i. refl) refl
-day-positions (suc (suc zero)) n g = go (divides n (suc g)) refl
-  where
-    go : (b : Bool) → divides n (suc g) ≡ b → map (position 2 n) (namesOfDay 2 n (suc g)) ≡ upFrom (length (namesThrough 2 n g)) (length (namesOfDay 2 n (suc g)))
-    go true e = run-then 2 n g (suc (lg n)) (λ i. tile i (suc g)) true (λ i. refl) (rw e)
-    go false e = rw e
+day-positions (suc (suc zero)) n g = elim (split (divides n (suc g))) [ inl e ↦ run-then 2 n g (suc (lg n)) (λ i. tile i (suc g)) true (λ i. refl) (rw e) | inr e ↦ rw e ]
 day-positions (suc (suc (suc zero))) n g =
     run-then 3 n g (length (levels (suc g))) (λ l. tree l (suc g)) (divides n (suc g) && not (storedOnce (suc g))) (λ i. refl)
     (ap (λ (r : List ℕ). map (λ (l : ℕ). tree l (suc g)) r ++ cond (divides n (suc g) && not (storedOnce (suc g))) (black (suc g) ∷ []) []) (levels-run (suc g)))
@@ -94,13 +77,13 @@ position-bound s n d x m =
 
 -- ---- a list, looked up
 
-list-shift : (i k : ℕ) (x : ℕ) (xs : List ℕ) → map (λ (p : ℕ). getD (x ∷ xs) p 0) (upFrom (suc i) k) ≡ map (λ (p : ℕ). getD xs p 0) (upFrom i k)
+list-shift : (i k : ℕ) (x : ℕ) (xs : List ℕ) → map (λ p. getD (x ∷ xs) p 0) (upFrom (suc i) k) ≡ map (λ p. getD xs p 0) (upFrom i k)
 list-shift i zero x xs = refl
-list-shift i (suc k) x xs = ap (λ (r : List ℕ). getD xs i 0 ∷ r) (list-shift (suc i) k x xs)
+list-shift i (suc k) x xs = ap (λ r. getD xs i 0 ∷ r) (list-shift (suc i) k x xs)
 
-list-at : (t : List ℕ) → map (λ (p : ℕ). getD t p 0) (upFrom 0 (length t)) ≡ t
+list-at : (t : List ℕ) → map (λ p. getD t p 0) (upFrom 0 (length t)) ≡ t
 list-at [] = refl
-list-at (x ∷ xs) = ap (λ (r : List ℕ). x ∷ r) (list-shift 0 (length xs) x xs ∙ list-at xs)
+list-at (x ∷ xs) = ap (λ r. x ∷ r) (list-shift 0 (length xs) x xs ∙ list-at xs)
 
 table-at : (s n d : ℕ) (t : List ℕ) → length t ≡ length (namesThrough s n d) → t ≡ map (λ (x : Name). getD t (position s n x) 0) (namesThrough s n d)
 table-at s n d t e =
@@ -115,20 +98,13 @@ map-agree f g (List·Memᴰ·tail {x = y} {xs = ys} m) h = let q : map f ys ≡ 
 
 passes-of : (s n : ℕ) (t S : List ℕ) (x : Name) (c : List ℕ) → getD t (position s n x) 0 ≡ setOutcome S c → passes s n t x ≡ not (meets S c)
 unfolding passes
-passes-of s n t S x c e = rw e (go (meets S c))
-  where
-    go : (b : Bool) → eqb (cond b 0 1) 1 ≡ not b
-    go true = refl
-    go false = refl
+passes-of s n t S x c e = rw e (elim (meets S c) as (λ b. eqb (cond b 0 1) 1 ≡ not b) [ true ↦ refl | false ↦ refl ])
 
 of-passes : (s n : ℕ) (t S : List ℕ) (x : Name) (c : List ℕ) → Bits t → passes s n t x ≡ not (meets S c) → getD t (position s n x) 0 ≡ setOutcome S c
 unfolding passes
 of-passes s n t S x c b e = go (b (position s n x)) (meets S c) e
   where
-    v : ℕ
-    v = getD t (position s n x) 0
-
-    go : (v ≡ 0) ⊎ (v ≡ 1) → (m : Bool) → eqb v 1 ≡ not m → v ≡ cond m 0 1
+    go : (getD t (position s n x) 0 ≡ 0) ⊎ (getD t (position s n x) 0 ≡ 1) → (m : Bool) → eqb (getD t (position s n x) 0) 1 ≡ not m → getD t (position s n x) 0 ≡ cond m 0 1
     go (inl z) true q = z
     go (inr z) false q = z
     go (inl z) false q = absurd (true-or-false q (rw z))
@@ -149,9 +125,8 @@ pub gives-black : (s n d : ℕ) (S t : List ℕ) → Gives (chains s n d) d S t 
 unfolding tableOf
 gives-black s n d S t h a b g p l e =
     let r = black-position s n g d a b p l e in
-    let q : map (setOutcome S) (chains s n d) ≡ t = h .gives in
     passes-of s n t S (black g) (lastDays g g)
-    (ap (λ (y : List ℕ). getD y (position s n (black g)) 0) (sym q) ∙ at (chains s n d) (position s n (black g)) (r .0) ∙ ap (setOutcome S) (r .1))
+    (ap (λ y. getD y (position s n (black g)) 0) (sym (h .gives)) ∙ at (chains s n d) (position s n (black g)) (r .0) ∙ ap (setOutcome S) (r .1))
   where
     at : (cs : List (List ℕ)) (i : ℕ) → i < length cs → getD (map (setOutcome S) cs) i 0 ≡ setOutcome S (getD cs i [])
     at [] i k = absurd (omega arith)
@@ -195,45 +170,21 @@ pub record Block (n d g : ℕ) : Type 0 where
   pub whole : divides n g ≡ true
 
 pub each-1 : (P : Name → Type 0) (n d : ℕ) → ((g : ℕ) → Block n d g → P (black g)) → (x : Name) → x among namesThrough 1 n d → P x
-each-1 P n d f x m = at (namesThrough-at 1 n d x m)
-  where
-    at : (g : ℕ) × (g among days d) × (x among namesOfDay 1 n g) → P x
-    at r =
-        let b = upFrom-bounds 1 d (r .0) (r .1) in
-        let o = cond-mem (divides n (r .0)) (black (r .0) ∷ []) (r .2) in
-        rw (List·Memᴰ·eq-of-singleton (o .1)) (f (r .0) (record { some = b .0; most = omega arith; whole = o .0 }))
+each-1 P n d f x m =
+    let r = namesThrough-at 1 n d x m in
+    let b = upFrom-bounds 1 d (r .0) (r .1) in
+    of-day-1 P n (r .0) (λ w. f (r .0) (record { some = b .0; most = omega arith; whole = w })) x (r .2)
 
 pub each-2 : (P : Name → Type 0) (n d : ℕ) → ((g : ℕ) → Block n d g → P (black g)) → ((g i : ℕ) → Block n d g → i ≤ lg n → P (tile i g)) → (x : Name) → x among namesThrough 2 n d → P x
-each-2 P n d f h x m = at (namesThrough-at 2 n d x m)
-  where
-    part : (g : ℕ) → Block n d g → (i : ℕ) × (i among upFrom 0 (suc (lg n))) × (tile i g ≡ x) → P x
-    part g b r = let k = upFrom-bounds 0 (suc (lg n)) (r .0) (r .1) in rw (← (r .2)) (h g (r .0) b (omega arith))
-
-    go : (g : ℕ) → Block n d g → (x among map (λ (i : ℕ). tile i g) (upFrom 0 (suc (lg n)))) ⊎ (x among (black g ∷ [])) → P x
-    go g b (inl k) = part g b (Memᴰ·of-map (λ (i : ℕ). tile i g) (upFrom 0 (suc (lg n))) k)
-    go g b (inr k) = rw (List·Memᴰ·eq-of-singleton k) (f g b)
-
-    at : (g : ℕ) × (g among days d) × (x among namesOfDay 2 n g) → P x
-    at r =
-        let b = upFrom-bounds 1 d (r .0) (r .1) in
-        let o = cond-mem (divides n (r .0)) (map (λ (i : ℕ). tile i (r .0)) (upFrom 0 (suc (lg n))) ++ (black (r .0) ∷ [])) (r .2) in
-        go (r .0) (record { some = b .0; most = omega arith; whole = o .0 }) (List·Memᴰ·append-cases (map (λ (i : ℕ). tile i (r .0)) (upFrom 0 (suc (lg n)))) (o .1))
+each-2 P n d f h x m =
+    let r = namesThrough-at 2 n d x m in
+    let b = upFrom-bounds 1 d (r .0) (r .1) in
+    of-day-2 P n (r .0) (λ w. f (r .0) (record { some = b .0; most = omega arith; whole = w }))
+    (λ i w. h (r .0) i (record { some = b .0; most = omega arith; whole = w })) x (r .2)
 
 pub each-3 : (P : Name → Type 0) (n d : ℕ) → ((g : ℕ) → Block n d g → P (black g)) → ((g l : ℕ) → Block (2 ^ l) d g → P (tree l g)) → (x : Name) → x among namesThrough 3 n d → P x
-each-3 P n d f h x m = at (namesThrough-at 3 n d x m)
-  where
-    part : (g : ℕ) → 1 ≤ g → g ≤ d → (l : ℕ) × (l among levels g) × (tree l g ≡ x) → P x
-    part g p q r = rw (← (r .2)) (h g (r .0) (record { some = p; most = q; whole = keep-mem (λ l. divides (2 ^ l) g) (upFrom 0 g) (r .0) (r .1) .1 }))
-
-    last : (g : ℕ) → 1 ≤ g → g ≤ d → (divides n g && not (storedOnce g) ≡ true) × (x among (black g ∷ [])) → P x
-    last g p q r =
-        rw (List·Memᴰ·eq-of-singleton (r .1)) (f g (record { some = p; most = q; whole = and-both (divides n g) (not (storedOnce g)) (r .0) .0 }))
-
-    go : (g : ℕ) → 1 ≤ g → g ≤ d → (x among map (λ (l : ℕ). tree l g) (levels g)) ⊎ (x among cond (divides n g && not (storedOnce g)) (black g ∷ []) []) → P x
-    go g p q (inl k) = part g p q (Memᴰ·of-map (λ (l : ℕ). tree l g) (levels g) k)
-    go g p q (inr k) = last g p q (cond-mem (divides n g && not (storedOnce g)) (black g ∷ []) k)
-
-    at : (g : ℕ) × (g among days d) × (x among namesOfDay 3 n g) → P x
-    at r =
-        let b = upFrom-bounds 1 d (r .0) (r .1) in
-        go (r .0) (b .0) (omega arith) (List·Memᴰ·append-cases (map (λ (l : ℕ). tree l (r .0)) (levels (r .0))) (r .2))
+each-3 P n d f h x m =
+    let r = namesThrough-at 3 n d x m in
+    let b = upFrom-bounds 1 d (r .0) (r .1) in
+    of-day-3 P n (r .0) (λ w. f (r .0) (record { some = b .0; most = omega arith; whole = w }))
+    (λ l w. h (r .0) l (record { some = b .0; most = omega arith; whole = w })) x (r .2)

@@ -1,19 +1,14 @@
 -- Laws of tests over lists and of runs of days.
-use mathlib.Core.Path.{_≡_, refl, sym, ap, _∙_}
-use mathlib.Core.Logic.{_⊎_, inl, inr}
-use mathlib.Core.Bool.{Bool, true, false, _||_, cond}
+use mathlib.Core.{Path._≡_, Path.refl, Path.sym, Path.ap, Path._∙_, Logic._⊎_, Logic.inl, Logic.inr}
+use mathlib.Core.Bool.{Bool, true, false, _||_, cond, or-true, or-assoc}
 use mathlib.Core.List.{List, [], _∷_, _++_, append-nil, List·Memᴰ·head, List·Memᴰ·tail}
 use Prim.Native.Nat.{ℕ, zero, suc, _+_, _-_, _*_, _/_, _%_, _^_, _≤_, _<_}
-use native.Mathlib.Nat.{div-add-mod'}
-use native.Mathlib.Decide.{ℕ-discrete}
-use native.Mathlib.Omega.{arith}
-use lib.Arith.{digits-mod}
-use lib.ListN.{length}
-use lib.Pow.{field, mod-mod-pow}
+use native.Mathlib.{Nat.div-add-mod', Decide.ℕ-discrete, Omega.arith}
+use lib.{Arith.digits-mod, ListN.length, Pow.field, Pow.mod-mod-pow}
 use borrow.Author.Tests.{eqb-true, eq-eqb}
-use Rattle.lists.specs.Lists.{_among_, has, upFrom, keep, lastOf}
+use Rattle.lists.specs.Lists.{_among_, has, keep, lastOf}
 use Rattle.evidence.specs.Evidence.{days, Within, meets}
-use Rattle.lists.proofs.Laws.{upFrom-append, mem-has, upFrom-mem, upFrom-bounds, has-keep, keep-append, upFrom-snoc}
+use Rattle.lists.proofs.Laws.{split, upFrom-append, mem-has, upFrom-mem, upFrom-bounds, has-keep, keep-append, upFrom-snoc}
 use Rattle.layouts.specs.Layouts.{divides, lastDays}
 
 -- ---- some
@@ -24,19 +19,11 @@ some p (x ∷ xs) = p x || some p xs
 
 pub some-append : (p : ℕ → Bool) (xs ys : List ℕ) → some p (xs ++ ys) ≡ some p xs || some p ys
 some-append p [] ys = refl
-some-append p (x ∷ xs) ys = rw (some-append p xs ys) (assoc (p x))
-  where
-    assoc : (b : Bool) → b || (some p xs || some p ys) ≡ (b || some p xs) || some p ys
-    assoc true = refl
-    assoc false = refl
+some-append p (x ∷ xs) ys = rw (some-append p xs ys) (sym (or-assoc (p x) (some p xs) (some p ys)))
 
 pub some-of : (p : ℕ → Bool) {g : ℕ} {xs : List ℕ} → g among xs → p g ≡ true → some p xs ≡ true
 some-of p (List·Memᴰ·head {x = x} {xs = xs} e) h = rw (← e, h)
-some-of p (List·Memᴰ·tail {x = x} {xs = xs} m) h = rw (some-of p m h) (top (p x))
-  where
-    top : (b : Bool) → b || true ≡ true
-    top true = refl
-    top false = refl
+some-of p (List·Memᴰ·tail {x = x} {xs = xs} m) h = rw (some-of p m h) (or-true (p x))
 
 pub some-none : (p : ℕ → Bool) (xs : List ℕ) → ((g : ℕ) → g among xs → p g ≡ false) → some p xs ≡ false
 some-none p [] f = refl
@@ -55,11 +42,7 @@ meets-keep p d (g ∷ c) w =
 
 pub meets-append : (S a b : List ℕ) → meets S (a ++ b) ≡ meets S a || meets S b
 meets-append S [] b = refl
-meets-append S (x ∷ a) b = rw (meets-append S a b) (assoc (has x S))
-  where
-    assoc : (h : Bool) → h || (meets S a || meets S b) ≡ (h || meets S a) || meets S b
-    assoc true = refl
-    assoc false = refl
+meets-append S (x ∷ a) b = rw (meets-append S a b) (sym (or-assoc (has x S) (meets S a) (meets S b)))
 
 -- ---- keep
 
@@ -73,11 +56,7 @@ keep-none p (x ∷ xs) f = rw (f x (List·Memᴰ·head refl), keep-none p xs (λ
 
 pub keep-length : (p : ℕ → Bool) (xs : List ℕ) → length (keep p xs) ≤ length xs
 keep-length p [] = omega arith
-keep-length p (x ∷ xs) = go (p x) (keep-length p xs)
-  where
-    go : (b : Bool) → length (keep p xs) ≤ length xs → length (cond b (x ∷ keep p xs) (keep p xs)) ≤ length (x ∷ xs)
-    go true h = omega arith
-    go false h = omega arith
+keep-length p (x ∷ xs) = let h = keep-length p xs in elim (split (p x)) [ inl e ↦ rw e (omega arith) | inr e ↦ rw e (omega arith) ]
 
 -- ---- runs
 
@@ -86,19 +65,19 @@ pub lastDays-split : (a b g : ℕ) → a + b ≤ g → lastDays (a + b) g ≡ la
 lastDays-split a b g l =
     let e : suc (g - b - a) ≡ suc (g - (a + b)) = omega arith in
     let f : suc (g - (a + b)) + a ≡ suc (g - b) = omega arith in
-    upFrom-append (suc (g - (a + b))) a b ∙ ap (λ (x : ℕ). upFrom (suc (g - (a + b))) a ++ upFrom x b) f ∙ ap (λ (x : ℕ). upFrom x a ++ lastDays b g) (sym e)
+    rw (e, upFrom-append (suc (g - (a + b))) a b, f)
 
 pub lastDays-days : (g : ℕ) → lastDays g g ≡ days g
-lastDays-days g = let e : suc (g - g) ≡ 1 = omega arith in ap (λ (x : ℕ). upFrom x g) e
+lastDays-days g = let e : suc (g - g) ≡ 1 = omega arith in rw e
 
 pub lastDays-bounds : (k g x : ℕ) → k ≤ g → x among lastDays k g → (g - k < x) × (x ≤ g)
-lastDays-bounds k g x l m = let b = upFrom-bounds (suc (g - k)) k x m in (omega arith, omega arith)
+lastDays-bounds k g x l m = let b = upFrom-bounds (suc (g - k)) k x m in omega arith
 
 pub lastDays-mem : (k g x : ℕ) → k ≤ g → g - k < x → x ≤ g → x among lastDays k g
 lastDays-mem k g x l a b = upFrom-mem (suc (g - k)) k x a (omega arith)
 
 pub days-bounds : (d g : ℕ) → g among days d → (1 ≤ g) × (g ≤ d)
-days-bounds d g m = let b = upFrom-bounds 1 d g m in (omega arith, omega arith)
+days-bounds d g m = let b = upFrom-bounds 1 d g m in omega arith
 
 -- ---- bits
 
@@ -115,12 +94,10 @@ bit-low x k j l =
 -- ---- multiples
 
 pub div-whole : (n d : ℕ) → divides n d ≡ true → d / n * n ≡ d
-div-whole n d e = let z : d % n ≡ 0 = eqb-true (d % n) 0 e in let w : d / n * n + d % n ≡ d = div-add-mod' d n in omega arith
+div-whole n d e = let w = div-add-mod' d n in omega (arith, eqb-true (d % n) 0 e)
 
 pub divides-multiple : (k n : ℕ) → 1 ≤ n → divides n (k * n) ≡ true
-divides-multiple k n p =
-    let e : k * n + 0 ≡ k * n = omega arith in
-    eq-eqb (k * n % n) 0 (ap (λ (x : ℕ). x % n) (sym e) ∙ digits-mod k p)
+divides-multiple k n p = let e : k * n ≡ k * n + 0 = omega arith in eq-eqb (k * n % n) 0 (rw e (digits-mod k p))
 
 -- ---- the last that passes a test
 
@@ -131,18 +108,10 @@ last-append z (y ∷ xs) x = last-append y xs x
 pub last-keep : (p : ℕ → Bool) (d g : ℕ) → g ≤ d → ((g ≡ 0) ⊎ (p g ≡ true)) → ((x : ℕ) → g < x → x ≤ d → p x ≡ false) → lastOf 0 (keep p (days d)) ≡ g
 last-keep p zero g l a f = omega arith
 last-keep p (suc d) g l a f =
-    ap (λ (r : List ℕ). lastOf 0 (keep p r)) (upFrom-snoc 1 d) ∙ ap (lastOf 0) (keep-append p (days d) ((1 + d) ∷ [])) ∙
-    go (λ h. last-keep p d g h a (λ x k m. f x k (omega arith))) (ℕ-discrete g (suc d))
-  where
-    same : 1 + d ≡ suc d
-    same = omega arith
-
-    found : g ≡ suc d → ((g ≡ 0) ⊎ (p g ≡ true)) → p (1 + d) ≡ true
-    found e (inl z) = absurd (omega arith)
-    found e (inr t) = ap p (same ∙ sym e) ∙ t
-
-    go : (g ≤ d → lastOf 0 (keep p (days d)) ≡ g) → Dec (g ≡ suc d) → lastOf 0 (keep p (days d) ++ cond (p (1 + d)) ((1 + d) ∷ []) []) ≡ g
-    go rec (yes e) = rw (found e a) (last-append 0 (keep p (days d)) (1 + d) ∙ same ∙ sym e)
-    go rec (no h) =
-        let q : p (1 + d) ≡ false = ap p same ∙ f (suc d) (omega arith) (omega arith) in
-        rw (q, append-nil) (rec (omega arith))
+    let s : 1 + d ≡ suc d = omega arith in
+    let last : lastOf 0 (keep p (days d) ++ cond (p (1 + d)) ((1 + d) ∷ []) []) ≡ g = elim (ℕ-discrete g (suc d)) [
+      | yes e ↦ let h : p (1 + d) ≡ true = elim a [ inl z ↦ absurd (omega arith) | inr t ↦ rw (s, ← e) t ] in rw h (last-append 0 (keep p (days d)) (1 + d) ∙ s ∙ sym e)
+      | no h ↦ let q : p (1 + d) ≡ false = ap p s ∙ f (suc d) (omega arith) (omega arith) in
+          rw (q, append-nil) (last-keep p d g (omega arith) a (λ x k m. f x k (omega arith)))
+    ] in
+    ap (λ r. lastOf 0 (keep p r)) (upFrom-snoc 1 d) ∙ ap (lastOf 0) (keep-append p (days d) ((1 + d) ∷ [])) ∙ last

@@ -1,35 +1,24 @@
 -- What the functions that test a table need: values in range, and each rule from its parts.
-use mathlib.Core.Path.{_≡_, refl, sym, ap, _∙_}
-use mathlib.Core.Bool.{Bool, true, false, not, _&&_, _||_}
-use mathlib.Core.List.{List}
-use Prim.Native.Nat.{ℕ, zero, suc, pred, _+_, _-_, _*_, _/_, _^_, _≤_, _<_}
+use mathlib.Core.{Path._≡_, Path.sym, Path._∙_, Bool.Bool, Bool.true, Bool.false, Bool.not, List.List}
+use Prim.Native.Nat.{ℕ, suc, pred, _+_, _-_, _*_, _/_, _^_, _≤_, _<_}
 use native.Mathlib.Nat.{mul-pos, suc-mul, le-trans, mul-le-mul-right, div-mul-le-self, div-le-self}
-use native.Mathlib.Omega.{arith}
-use lib.Dec.{eqb}
-use lib.ListN.{length, getD, length-append}
-use lib.Pow.{pow-pos}
-use borrow.Author.Tests.{eq-eqb, ne-eqb, le-leb, lt-leb, not-true, not-false}
+use native.Mathlib.{Numerals.add-one, Omega.arith}
+use lib.{Dec.eqb, ListN.length, ListN.getD, ListN.length-append, Pow.pow-pos}
+use borrow.Author.Tests.{not-true, not-false}
 use Rattle.lists.specs.Lists.{upFrom, every}
 use Rattle.lists.proofs.Laws.{upFrom-mem, every-more, every-fails}
 use Rattle.layouts.specs.Layouts.{divides, allowedScheme, allowedN, lg, Name, black, tile, tree, chains}
 use Rattle.layouts.specs.Private.{position}
-use Rattle.layouts.proofs.AllowedLaws.{allowed-n-is, allowed-scheme-is}
-use Rattle.layouts.proofs.Coverage.{divisor-le, chains-front}
+use Rattle.layouts.proofs.{AllowedLaws.allowed-n-is, AllowedLaws.allowed-scheme-is, Coverage.divisor-le, Coverage.chains-front}
 use Rattle.layouts.proofs.Positions.{divides-half}
-use Rattle.acceptance.specs.Private.{Table, Has, Interval, Chain, alike, passes, prior, tileRule, blockRule, blockAt, halvesRule, halvesAt, levelRule, levelsRule, blocksRule, rules, tileBit}
-use Rattle.acceptance.proofs.BlackLaws.{black-position}
-use Rattle.acceptance.proofs.Runs.{divides-multiple}
+use Rattle.acceptance.specs.Private.{Table, Has, Interval, Chain, passes, halvesRule, halvesAt, levelRule}
+use Rattle.acceptance.proofs.{BlackLaws.black-position, Runs.divides-multiple, Given.half-point, Listed.block-number}
 use Rattle.acceptance.proofs.Lookup.{position-bound, tile-named, tree-named}
-use Rattle.acceptance.proofs.Given.{half-point}
-use Rattle.acceptance.proofs.Listed.{block-number}
 
 -- ---- values in range
 
 chains-grow : (s n e g : ℕ) → e ≤ g → length (chains s n e) ≤ length (chains s n g)
-chains-grow s n e g l =
-    let r = chains-front s n e g l in
-    let q : length (chains s n g) ≡ length (chains s n e) + length (r .0) = ap length (r .1) ∙ length-append (chains s n e) (r .0) in
-    omega arith
+chains-grow s n e g l = let r = chains-front s n e g l in rw (r .1, length-append) (omega arith)
 
 pub has-earlier : {s n g : ℕ} {t : List ℕ} (e : ℕ) → Has s n g t → 1 ≤ e → e ≤ g → Has s n e t
 has-earlier {s} {n} {g} {t} e h p l =
@@ -63,7 +52,7 @@ tree-inside {n} {l} {g} h e =
 
 pub passes-by : (s n : ℕ) (t : List ℕ) (x : Name) {p : ℕ} {r : Bool} → p ≡ position s n x → r ≡ eqb (getD t p 0) 1 → r ≡ passes s n t x
 unfolding passes
-passes-by s n t x e h = h ∙ ap (λ (y : ℕ). eqb (getD t y 0) 1) e
+passes-by s n t x e h = rw (← e) h
 
 -- ---- the interval before
 
@@ -74,44 +63,12 @@ interval-number {s} {n} {g} h =
 
 pub interval-before : {s n g : ℕ} {t : List ℕ} → Interval s n g t → n < g → Interval s n (g - n) t
 interval-before {s} {n} {g} h l =
-    let w = allowed-n-is n (h .has .n-ok) in
     let e = interval-number h in
-    let q : suc (pred (g / n)) * n ≡ pred (g / n) * n + n = suc-mul (pred (g / n)) n in
+    let q = suc-mul (pred (g / n)) n in
     let f : g - n ≡ pred (g / n) * n = omega arith in
-    record { has = has-earlier (g - n) (h .has) (omega arith) (omega arith); whole = ap (divides n) f ∙ divides-multiple (pred (g / n)) n (w .some) }
-
-pub prior-none : (s n g : ℕ) (t : List ℕ) → g ≤ n → true ≡ prior s n t g
-unfolding prior
-prior-none s n g t l = rw (le-leb g n l)
-
-pub prior-some : (s n g : ℕ) (t : List ℕ) {r : Bool} → n < g → r ≡ passes s n t (black (g - n)) → r ≡ prior s n t g
-unfolding prior
-prior-some s n g t l e = rw (lt-leb g n l) e
+    record { has = has-earlier (g - n) (h .has) (omega arith) (omega arith); whole = rw f (divides-multiple (pred (g / n)) n (allowed-n-is n (h .has .n-ok) .some)) }
 
 -- ---- each rule from its parts
-
-pub falls-by : (n g : ℕ) (t : List ℕ) {b p r : Bool} → b ≡ passes 1 n t (black g) → p ≡ prior 1 n t g → r ≡ not b || p → r ≡ blockRule 1 n t g
-unfolding blockRule
-falls-by n g t e f h = h ∙ rw (e, f)
-
-pub tile-rule-by : (n g i : ℕ) (t : List ℕ) {a b r : Bool} → a ≡ passes 2 n t (tile 0 g) → b ≡ passes 2 n t (tile i g) → r ≡ not a || b → r ≡ tileRule n t g i
-unfolding tileRule
-tile-rule-by n g i t e f h = h ∙ rw (e, f)
-
-pub tile-block-by : (n g : ℕ) (t : List ℕ) {b p c w a e r : Bool} → b ≡ passes 2 n t (black g) → p ≡ prior 2 n t g → c ≡ passes 2 n t (tile 0 g) → w ≡ p && c → a ≡ alike b w →
-    e ≡ every (tileRule n t g) (upFrom 1 (lg n)) → r ≡ a && e → r ≡ blockRule 2 n t g
-unfolding blockRule
-tile-block-by n g t e f h i j k l = l ∙ rw (j, k, i, e, f, h)
-
-pub tree-block-by : (n g : ℕ) (t : List ℕ) {l : ℕ} {b p c w r : Bool} → l ≡ lg n → b ≡ passes 3 n t (black g) → p ≡ prior 3 n t g → c ≡ passes 3 n t (tree l g) → w ≡ p && c → r ≡ alike b w →
-    r ≡ blockRule 3 n t g
-unfolding blockRule
-tree-block-by n g t {l} q e f h i j = j ∙ rw (i, e, f, h, q)
-
-pub halves-by : (n l g : ℕ) (t : List ℕ) {m : ℕ} {a b c w r : Bool} → m ≡ 2 ^ l → a ≡ passes 3 n t (tree (l + 1) g) → b ≡ passes 3 n t (tree l (g - m)) → c ≡ passes 3 n t (tree l g) → w ≡ b && c →
-    r ≡ alike a w → r ≡ halvesRule n t l g
-unfolding halvesRule
-halves-by n l g t q e f h i j = let s : l + 1 ≡ suc l = omega arith in j ∙ rw (i, e, f, h, q, s)
 
 -- ---- chains
 
@@ -122,21 +79,22 @@ chain-has h = (h .has .n-ok, h .has .some, h .has .most, h .level)
 pub chain-own : {n g l : ℕ} {t : List ℕ} → Interval 3 n g t → l ≡ lg n → Chain n l g t
 chain-own {n} {g} h e =
     let w = allowed-n-is n (h .has .n-ok) in
-    record { has = h .has; whole = ap (λ (x : ℕ). divides x g) (ap (λ (x : ℕ). 2 ^ x) e ∙ sym (w .power)) ∙ h .whole; level = omega (arith, w .small) }
+    record { has = h .has; whole = rw (e, ← (w .power)) (h .whole); level = omega (arith, w .small) }
 
 pub chain-next : {n l g : ℕ} {t : List ℕ} → Chain n (suc l) g t → Chain n (l + 1) g t
-chain-next {n} {l} h = let e : l + 1 ≡ suc l = omega arith in rw e h
+chain-next h = rw add-one h
 
 pub chain-right : {n l g : ℕ} {t : List ℕ} → Chain n (suc l) g t → Chain n l g t
 chain-right {n} {l} {g} h = record { has = h .has; whole = divides-half l g (h .whole); level = omega (arith, h .level) }
 
 pub chain-point : {n l g : ℕ} {t : List ℕ} → Chain n (suc l) g t → (2 ^ l < g) × (divides (2 ^ l) (g - 2 ^ l) ≡ true)
 chain-point {n} {l} {g} h =
+    let j = pred (g / 2 ^ suc l) in
     let e = block-number (2 ^ suc l) g g (pow-pos (suc l)) (record { some = h .has .some; most = omega arith; whole = h .whole }) in
-    let p = half-point (pred (g / 2 ^ suc l)) l in
-    let q : suc (pred (g / 2 ^ suc l) + pred (g / 2 ^ suc l)) * 2 ^ l ≡ g - 2 ^ l = omega arith in
-    let o : 1 ≤ suc (pred (g / 2 ^ suc l) + pred (g / 2 ^ suc l)) * 2 ^ l = mul-pos (omega arith) (pow-pos l) in
-    (omega arith, ap (divides (2 ^ l)) (sym q) ∙ divides-multiple (suc (pred (g / 2 ^ suc l) + pred (g / 2 ^ suc l))) (2 ^ l) (pow-pos l))
+    let p = half-point j l in
+    let q : g - 2 ^ l ≡ suc (j + j) * 2 ^ l = omega arith in
+    let o : 1 ≤ suc (j + j) * 2 ^ l = mul-pos (omega arith) (pow-pos l) in
+    (omega arith, rw q (divides-multiple (suc (j + j)) (2 ^ l) (pow-pos l)))
 
 pub chain-left : {n l g : ℕ} {t : List ℕ} (m : ℕ) → Chain n (suc l) g t → m ≡ 2 ^ l → Chain n l (g - m) t
 chain-left {n} {l} {g} m h e =
@@ -149,9 +107,7 @@ chain-room m h e = let b = chain-point h in omega (arith, b .0)
 -- ---- loops over a rule
 
 pub every-next : (p : ℕ → Bool) (s i x : ℕ) {r : Bool} → x ≡ s + i → every p (upFrom s i) ≡ true → r ≡ p x → not r ≡ false → every p (upFrom s (i + 1)) ≡ true
-every-next p s i x {r} e h q f =
-    let k : i + 1 ≡ suc i = omega arith in
-    rw k (every-more p s i h (ap p (sym e) ∙ sym q ∙ not-false r f))
+every-next p s i x {r} e h q f = rw add-one (every-more p s i h (rw (← e, ← q) (not-false r f)))
 
 pub every-stop : (p : ℕ → Bool) (s m x : ℕ) {r : Bool} → s ≤ x → x < s + m → r ≡ p x → not r ≡ true → false ≡ every p (upFrom s m)
 every-stop p s m x {r} a b q f = sym (every-fails p (upFrom s m) x (upFrom-mem s m x a b) (sym q ∙ not-true r f))
@@ -159,80 +115,36 @@ every-stop p s m x {r} a b q f = sym (every-fails p (upFrom s m) x (upFrom-mem s
 pub every-done : (p : ℕ → Bool) (s i m : ℕ) → i ≤ m → m ≤ i → every p (upFrom s i) ≡ true → true ≡ every p (upFrom s m)
 every-done p s i m a b h = let e : i ≡ m = omega arith in sym (rw e at h)
 
+pub interval-end : (n d k : ℕ) → k ≤ d / n → k * n ≤ d
+interval-end n d k l = le-trans (mul-le-mul-right n l) (div-mul-le-self d n)
+
 -- an interval of the table, by its number
 pub interval-of : {s n d : ℕ} {t : List ℕ} (k : ℕ) → Table s n d t → 1 ≤ k → k ≤ d / n → Interval s n (k * n) t
 interval-of {s} {n} {d} k T p l =
     let w = allowed-n-is n (T .n-ok) in
-    let u : k * n ≤ d / n * n = mul-le-mul-right n l in
-    let v = div-mul-le-self d n in
-    record { has = has-earlier (k * n) (table-has T) (mul-pos p (w .some)) (omega arith); whole = divides-multiple k n (w .some) }
-
-pub interval-end : (n d k : ℕ) → k ≤ d / n → k * n ≤ d
-interval-end n d k l = le-trans (mul-le-mul-right n l) (div-mul-le-self d n)
+    record { has = has-earlier (k * n) (table-has T) (mul-pos p (w .some)) (interval-end n d k l); whole = divides-multiple k n (w .some) }
 
 pub chain-of : {n d l w : ℕ} {t : List ℕ} (k : ℕ) → Table 3 n d t → w ≡ 2 ^ l → l ≤ 16 → 1 ≤ k → k ≤ d / w → Chain n l (k * w) t
 chain-of {n} {d} {l} {w} k T e h p q =
     let u : k * w ≤ d = interval-end w d k q in
     let o : 1 ≤ w = rw e (pow-pos l) in
-    record { has = has-earlier (k * w) (table-has T) (mul-pos p o) u; whole = ap (λ (x : ℕ). divides x (k * w)) (sym e) ∙ divides-multiple k w o; level = h }
+    record { has = has-earlier (k * w) (table-has T) (mul-pos p o) u; whole = rw (← e) (divides-multiple k w o); level = h }
 
 -- ---- by scheme
 
 pub third : (s : ℕ) → allowedScheme s ≡ true → (s ≡ 1 → ⊥) → (s ≡ 2 → ⊥) → s ≡ 3
-third s a f h = go s (allowed-scheme-is s a) f h
-  where
-    go : (x : ℕ) → (1 ≤ x) × (x ≤ 3) → (x ≡ 1 → ⊥) → (x ≡ 2 → ⊥) → x ≡ 3
-    go zero b u v = absurd (omega (arith, b .0))
-    go (suc zero) b u v = absurd (u refl)
-    go (suc (suc zero)) b u v = absurd (v refl)
-    go (suc (suc (suc zero))) b u v = refl
-    go (suc (suc (suc (suc x)))) b u v = absurd (omega (arith, b .1))
-
-pub interval-as : {s n g : ℕ} {t : List ℕ} (k : ℕ) → s ≡ k → Interval s n g t → Interval k n g t
-interval-as k e h = rw e at h
-
-pub table-as : {s n d : ℕ} {t : List ℕ} (k : ℕ) → s ≡ k → Table s n d t → Table k n d t
-table-as k e h = rw e at h
-
-pub rule-as : (s n g : ℕ) (t : List ℕ) (k : ℕ) {r : Bool} → s ≡ k → r ≡ blockRule k n t g → r ≡ blockRule s n t g
-rule-as s n g t k e h = rw e h
-
-pub block-at-by : (s n k : ℕ) (t : List ℕ) {r : Bool} → r ≡ blockRule s n t (k * n) → r ≡ blockAt s n t k
-unfolding blockAt
-block-at-by s n k t e = e
-
-pub blocks-by : (s n d : ℕ) (t : List ℕ) {r : Bool} → r ≡ every (blockAt s n t) (upFrom 1 (d / n)) → r ≡ blocksRule s n d t
-unfolding blocksRule
-blocks-by s n d t e = e
+third s a f h = let b = allowed-scheme-is s a in omega arith
 
 pub halves-at-by : (n l k w : ℕ) (t : List ℕ) {r : Bool} → w ≡ 2 ^ (l + 1) → r ≡ halvesRule n t l (k * w) → r ≡ halvesAt n t l k
 unfolding halvesAt
-halves-at-by n l k w t e h = let s : l + 1 ≡ suc l = omega arith in h ∙ ap (λ (x : ℕ). halvesRule n t l (k * x)) (e ∙ ap (λ (x : ℕ). 2 ^ x) s)
+halves-at-by n l k w t e h = rw (← (add-one l), ← e) h
 
 pub level-by : (n d l w : ℕ) (t : List ℕ) {r : Bool} → w ≡ 2 ^ (l + 1) → r ≡ every (halvesAt n t l) (upFrom 1 (d / w)) → r ≡ levelRule n d t l
 unfolding levelRule
-level-by n d l w t e h =
-    let s : l + 1 ≡ suc l = omega arith in
-    h ∙ ap (λ (x : ℕ). every (halvesAt n t l) (upFrom 1 (d / x))) (e ∙ ap (λ (x : ℕ). 2 ^ x) s)
-
-pub levels-by : (n d : ℕ) (t : List ℕ) {r : Bool} → r ≡ every (levelRule n d t) (upFrom 0 16) → r ≡ levelsRule n d t
-unfolding levelsRule
-levels-by n d t e = e
-
-pub rules-no : (s n d : ℕ) (t : List ℕ) {b : Bool} → b ≡ blocksRule s n d t → not b ≡ true → false ≡ rules s n d t
-unfolding rules
-rules-no s n d t {b} e f = rw (← e, not-true b f)
-
-pub rules-blocks : (s n d : ℕ) (t : List ℕ) {b : Bool} → b ≡ blocksRule s n d t → not b ≡ false → (s ≡ 3 → ⊥) → true ≡ rules s n d t
-unfolding rules
-rules-blocks s n d t {b} e f h = rw (← e, not-false b f, ne-eqb s 3 h)
-
-pub rules-tree : (s n d : ℕ) (t : List ℕ) {b r : Bool} → b ≡ blocksRule s n d t → not b ≡ false → s ≡ 3 → r ≡ levelsRule n d t → r ≡ rules s n d t
-unfolding rules
-rules-tree s n d t {b} e f h k = rw (← e, not-false b f, eq-eqb s 3 h) k
+level-by n d l w t e h = rw (← (add-one l), ← e) h
 
 pub chain-next-of : {n d l w : ℕ} {t : List ℕ} (k : ℕ) → Table 3 n d t → w ≡ 2 ^ (l + 1) → l < 16 → 1 ≤ k → k ≤ d / w → Chain n (suc l) (k * w) t
-chain-next-of {n} {d} {l} {w} k T e h p q = let s : l + 1 ≡ suc l = omega arith in chain-of {l = suc l} k T (e ∙ ap (λ (x : ℕ). 2 ^ x) s) h p q
+chain-next-of {n} {d} {l} {w} k T e h p q = chain-of {l = suc l} k T (rw add-one at e) h p q
 
 pub weight-positive : (w l : ℕ) → w ≡ 2 ^ l → 0 < w
 weight-positive w l e = rw e (pow-pos l)
@@ -242,7 +154,3 @@ product-fits n d k l b = let u = interval-end n d k l in omega arith
 
 pub count-fits : (w d k : ℕ) → k < d / w → d ≤ 65536 → k + 1 < 2 ^ 32
 count-fits w d k l b = let u = div-le-self d w in omega arith
-
-pub bit-by : (n g j : ℕ) (t : List ℕ) {k : ℕ} {r : Bool} → k ≡ lg n → r ≡ passes 2 n t (tile (k - j) g) → r ≡ tileBit n t g j
-unfolding tileBit
-bit-by n g j t e h = h ∙ ap (λ (x : ℕ). passes 2 n t (tile (x - j) g)) e

@@ -1,11 +1,8 @@
 -- Demand 3 holds, and what stands beside it.
-use mathlib.Core.Path.{_≡_, refl, sym, ap, _∙_}
-use mathlib.Core.Bool.{true}
-use mathlib.Core.List.{List}
-use Prim.Native.Nat.{ℕ, _*_, _≤_}
+use mathlib.Core.{Path._≡_, Path.sym, Path.ap, Path._∙_, List.List}
+use Prim.Native.Nat.{ℕ, _*_}
 use native.Mathlib.Omega.{arith}
-use lib.ListN.{length, take}
-use lib.Seq.{take-all}
+use lib.{ListN.length, ListN.take, Seq.take-all}
 use Rattle.refusals.specs.Refusals.{numberOf}
 use Rattle.layouts.specs.Layouts.{setupRefusal, chains}
 use Rattle.chains.specs.Book.{bookOf}

@@ -1,10 +1,9 @@
 -- The law of checking at a hash that computes, in a case where its premise holds and a day is changed: the premise can be met
 -- by an altered ledger, and the law is not empty.
-use mathlib.Core.Path.{_≡_, refl, sym, ap, _∙_}
-use mathlib.Core.Logic.{_⊎_, inl, inr}
-use mathlib.Core.Bool.{Bool, true, false, not, _&&_, _||_}
-use mathlib.Core.List.{List, [], _∷_, _++_, List·Memᴰ, List·Memᴰ·head, List·Memᴰ·tail}
-use Prim.Native.Nat.{ℕ, zero, suc, _+_, _*_, _/_, _%_, _^_, _≤_}
+use mathlib.Core.{Path._≡_, Path.refl, Path.sym, Path.ap, Path._∙_, Logic.inl, Logic.inr}
+use mathlib.Core.Bool.{Bool, true, not, _&&_, _||_}
+use mathlib.Core.List.{List, [], _∷_, _++_, List·Memᴰ·head, List·Memᴰ·tail}
+use Prim.Native.Nat.{ℕ, zero, suc, _+_, _*_, _/_, _%_, _^_}
 use lib.ListN.{length, replicate, length-replicate}
 use Rattle.lists.specs.Lists.{_among_, same}
 use Rattle.evidence.specs.Evidence.{tableOf, changed, values, checkOutcomes, inputs, NoCollision}
@@ -48,14 +47,11 @@ allApart (x ∷ xs) ys = apart x ys && allApart xs ys
 
 apart-told : (x : List ℕ) {y : List ℕ} {ys : List (List ℕ)} → y among ys → apart x ys ≡ true → hash x ≡ hash y → x ≡ y
 apart-told x {y} (List·Memᴰ·head {x = z} {xs = zs} e) t h =
-    go (or-split (not (same (hash x) (hash z))) (same x z) (and-both (not (same (hash x) (hash z)) || same x z) (apart x zs) t .0))
-  where
-    eq : same (hash x) (hash z) ≡ true
-    eq = eq-same (hash x) (hash z) (h ∙ ap hash e)
-
-    go : (not (same (hash x) (hash z)) ≡ true) ⊎ (same x z ≡ true) → x ≡ y
-    go (inl n) = absurd (true-or-false (rw eq at n) refl)
-    go (inr s) = same-eq x z s ∙ sym e
+    let eq = eq-same (hash x) (hash z) (h ∙ ap hash e) in
+    elim (or-split (not (same (hash x) (hash z))) (same x z) (and-both (not (same (hash x) (hash z)) || same x z) (apart x zs) t .0)) [
+      | inl n ↦ absurd (true-or-false (rw eq at n) refl)
+      | inr s ↦ same-eq x z s ∙ sym e
+    ]
 apart-told x (List·Memᴰ·tail {x = z} {xs = zs} m) t h = apart-told x m (and-both (not (same (hash x) (hash z)) || same x z) (apart x zs) t .1) h
 
 all-apart : {x : List ℕ} {xs : List (List ℕ)} (ys : List (List ℕ)) → x among xs → allApart xs ys ≡ true → (y : List ℕ) → y among ys → hash x ≡ hash y → x ≡ y

@@ -1,18 +1,12 @@
 -- What checking and reading find out, over the sealed days and the book written for them.
-use mathlib.Core.Path.{_≡_, refl, sym, ap, ap₂, _∙_}
-use mathlib.Core.Logic.{_↔_, _⊎_, inl, inr}
-use mathlib.Core.Bool.{Bool, true, false}
-use mathlib.Core.List.{List, [], _∷_, _++_}
-use Prim.Native.Nat.{ℕ, _+_, _*_, _≤_}
+use mathlib.Core.{Path._≡_, Path.refl, Path.sym, Path.ap, Path.ap₂, Path._∙_, Logic._↔_, Logic._⊎_, Logic.inl, Logic.inr, Bool.true, List.List, List.[], List._∷_, List._++_}
+use Prim.Native.Nat.{ℕ, _*_, _≤_}
 use native.Mathlib.Omega.{arith}
-use lib.Dec.{leb}
 use lib.ListN.{length, take, drop, length-append, length-map, take-append-drop}
 use lib.Seq.{take-at, drop-at}
 use borrow.Author.Tests.{le-leb}
 use Rattle.lists.specs.Lists.{_among_}
-use Rattle.lists.proofs.Laws.{and-of}
-use Rattle.refusals.specs.Refusals.{_orRefuse_}
-use Rattle.refusals.specs.declared.Answer.the-variants.{Done}
+use Rattle.refusals.specs.{Refusals._orRefuse_, declared.Answer.the-variants.Done}
 use Rattle.refusals.proofs.TestLaws.{none-fails, all-pass, pass-both}
 use Rattle.evidence.specs.Evidence.{days, Within, setOutcome, tableOf, Gives, listing, accepted, dayOf, values, checkOutcomes, Collision}
 use Rattle.evidence.proofs.TableLaws.{listing-ascends, listed-iff, given-iff-accepted, lists-none}
@@ -21,7 +15,7 @@ use Rattle.evidence.proofs.Collisions.{collide-or-not}
 use Rattle.layouts.specs.Layouts.{divides, allowedD, setupTests, layoutTests, setupRefusal, layoutRefusal, chains}
 use Rattle.layouts.proofs.AllowedLaws.{Setup, setup-is, allowed-scheme-is, allowed-n-is, allowed-d-is, divides-factor}
 use Rattle.layouts.proofs.Coverage.{chains-cover, tree-single}
-use Rattle.ledger.specs.Ledger.{daysOf, endsTests, endsRefusal}
+use Rattle.ledger.specs.Ledger.{endsTests, endsRefusal}
 use Rattle.sha256.specs.Sha256.{sha256}
 use Rattle.chains.specs.Book.{start, bookOf, inputsOf}
 use Rattle.chains.proofs.BookLaws.{book-front, values-of-length, check-finds, check-passes}
@@ -29,10 +23,8 @@ use Rattle.checking.specs.Contract.{roomTests, checkTests, checkRefusal, digest
 use Rattle.checking.proofs.Through.{digests-length, outcomes-length}
 use Rattle.reading.specs.Numbers.{lastGood}
 use Rattle.reading.specs.Contract.{Report, Readout, tableIn, readRefusal, listedIn, found}
-use Rattle.reading.proofs.LastGood.{good-given}
-use Rattle.reading.proofs.RefusalLaws.{set-read}
-use Rattle.reading.proofs.Report.{readout-found}
-use Rattle.daybook.specs.Detection.{Handed, ledgerDays, changedDays, lastUnchanged, checking, reading, listedDays, tableOfChanges, SealedApart, Premises, Detected}
+use Rattle.reading.proofs.{LastGood.good-given, RefusalLaws.set-read, Report.readout-found, Statements.count-found}
+use Rattle.daybook.specs.Detection.{Handed, ledgerDays, changedDays, checking, reading, listedDays, tableOfChanges, SealedApart, Premises, Detected}
 use Rattle.daybook.specs.Claim.{ReadsClean}
 
 layout-ok : (s n f d : ℕ) → setupRefusal s n f ≡ 0 → allowedD n f d ≡ true → layoutRefusal s n f d ≡ 0
@@ -41,11 +33,6 @@ layout-ok s n f d e a =
     all-pass (layoutTests s n f d) (pass-both (setupTests s n f) (allowedD n f d orRefuse 7 ∷ []) (none-fails (setupTests s n f) refl e) (a, tt))
 
 -- ---- a list of days, its number, its first
-
-found-listed : (n f d good : ℕ) (l : List ℕ) → found n f d l good .listed ≡ length l
-unfolding found
-found-listed n f d good [] = refl
-found-listed n f d good (g ∷ gs) = refl
 
 found-refusal : (n f d good : ℕ) (l : List ℕ) → found n f d l good .refusal ≡ 0
 unfolding found
@@ -99,11 +86,7 @@ module _ (s n f : ℕ) (opens : setupRefusal s n f ≡ 0) (E : List (List ℕ)) 
       (pass-both (layoutTests s n f d) (endsTests d (x .ends) (length (x .ledger)) ++ room) (none-fails (layoutTests s n f d) refl layout)
       (pass-both (endsTests d (x .ends) (length (x .ledger))) room (none-fails (endsTests d (x .ends) (length (x .ledger))) refl (fit .ends-pass)) (
         le-leb (32 * length C) (length (x .book)) book-long,
-        (
-          and-of (leb (32 * d) (length (x .work))) (leb (length C) (length (x .outcomes))) (le-leb (32 * d) (length (x .work)) (fit .work-long))
-              (le-leb (length C) (length (x .outcomes)) (fit .outcomes-long)),
-          tt,
-        ),
+        (rw (le-leb (32 * d) (length (x .work)) (fit .work-long), le-leb (length C) (length (x .outcomes)) (fit .outcomes-long)), tt),
       )))
 
   done : checking s n f d x .answer ≡ Done
@@ -165,7 +148,7 @@ module _ (s n f : ℕ) (opens : setupRefusal s n f ≡ 0) (E : List (List ℕ)) 
     list-is = ap (λ (r : Readout). r .list) readout-is
 
     count-is : reading s n f d x .report .listed ≡ length L
-    count-is = ap (λ (r : Report). r .listed) report-is ∙ found-listed n f d (lastGood s n d T) L
+    count-is = ap (λ (r : Report). r .listed) report-is ∙ count-found n f d (lastGood s n d T) L
 
     days-are : listedDays s n f d x ≡ L
     days-are = ap₂ take count-is list-is ∙ take-at L (drop (length L) (x .list)) (length L) refl
@@ -217,11 +200,7 @@ module _ (s n f : ℕ) (opens : setupRefusal s n f ≡ 0) (E : List (List ℕ)) 
   -- ---- without it: detected, or a collision
 
   pub detects-or-collides : Detected s n f E d x ⊎ Collision sha256 (inputsOf s n d E) (inputsOf s n d B)
-  detects-or-collides = go (collide-or-not sha256 (inputsOf s n d E) (inputsOf s n d B))
-    where
-      go : SealedApart s n E d x ⊎ Collision sha256 (inputsOf s n d E) (inputsOf s n d B) → Detected s n f E d x ⊎ Collision sha256 (inputsOf s n d E) (inputsOf s n d B)
-      go (inl nc) = inl (detects nc)
-      go (inr c) = inr c
+  detects-or-collides = elim (collide-or-not sha256 (inputsOf s n d E) (inputsOf s n d B)) [ inl nc ↦ inl (detects nc) | inr c ↦ inr c ]
 
   -- ---- with no day changed, without it too
 

@@ -3,3 +3,4 @@ pub mod Concrete
 pub mod Detection
 pub mod Meets
 pub mod Seal
+pub mod Records

@@ -1,10 +1,8 @@
 -- The premises of demand 3 can be met: the sealed days end to end, with their running totals as ends.
-use mathlib.Core.Path.{_≡_, refl, sym, ap, _∙_}
-use mathlib.Core.Logic.{_⊎_, inl, inr}
-use mathlib.Core.List.{List, [], _∷_, _++_, map, List·Memᴰ·append-cases, List·Memᴰ·eq-of-singleton}
+use mathlib.Core.{Path._≡_, Path.refl, Path.sym, Path.ap, Logic.inl, Logic.inr}
+use mathlib.Core.List.{List, [], _∷_, map, List·Memᴰ·append-cases, List·Memᴰ·eq-of-singleton}
 use Prim.Native.Nat.{ℕ, zero, suc, pred, _+_, _*_, _≤_}
 use native.Mathlib.Omega.{arith}
-use lib.Dec.{leb}
 use lib.ListN.{length, getD, replicate, length-append, length-replicate}
 use borrow.Author.Tests.{leb-true}
 use Rattle.lists.specs.Lists.{_among_, joined}
@@ -15,8 +13,7 @@ use Rattle.ledger.specs.Ledger.{endsFrom}
 use Rattle.ledger.proofs.JoinLaws.{days-joined, ends-joined}
 use Rattle.journal.specs.Journal.{Journal, empty, Argument, adds, closes, testsOf, refusalOf, entered, kept, journalAfter}
 use Rattle.journal.specs.Run.{Call, argumentOf, journalOf}
-use Rattle.daybook.specs.Detection.{Handed, Premises}
-use Rattle.daybook.specs.Claim.{sealed, wrote, SameDays, PremisesMet}
+use Rattle.daybook.specs.{Detection.Handed, Detection.Premises, Claim.sealed, Claim.wrote, Claim.PremisesMet}
 use Rattle.daybook.proofs.Claim.{unaltered-clean}
 
 -- ---- no entry is over the limit
@@ -33,15 +30,13 @@ limited-next s n j (adds piece) l = go (refusalOf s n j (adds piece)) refl
         let k = leb-true (length (j .day) + length piece) dayLimit (none-fails (testsOf s n j (adds piece)) refl e .1 .0) in
         record { entries-limited = l .entries-limited; day-limited = rw (length-append (j .day) piece) k }
     go (suc x) e = l
-limited-next s n j (closes size) l = go (refusalOf s n j (closes size))
-  where
-    each : (e : List ℕ) → (e among j .entries) ⊎ (e among (j .day ∷ [])) → length e ≤ dayLimit
-    each e (inl m) = l .entries-limited e m
-    each e (inr m) = rw (List·Memᴰ·eq-of-singleton m) (l .day-limited)
-
-    go : (x : ℕ) → Limited (unlessRefused x (entered j (closes size)) j)
-    go zero = record { entries-limited = λ e m. each e (List·Memᴰ·append-cases (j .entries) m); day-limited = omega arith }
-    go (suc x) = l
+limited-next s n j (closes size) l = elim (refusalOf s n j (closes size)) as (λ x. Limited (unlessRefused x (entered j (closes size)) j)) [
+  | zero ↦ record {
+    entries-limited = λ e m. elim (List·Memᴰ·append-cases (j .entries) m) [ inl k ↦ l .entries-limited e k | inr k ↦ rw (List·Memᴰ·eq-of-singleton k) (l .day-limited) ];
+    day-limited = omega arith;
+  }
+  | suc x ↦ l
+]
 
 limited-after : (s n : ℕ) (args : List Argument) (j : Journal) → Limited j → Limited (journalAfter s n j args)
 limited-after s n [] j l = l

@@ -1,36 +1,32 @@
 -- Demand 3 for a book written by seal: the calls that it stands for seal the ledger's days, and write its book.
-use mathlib.Core.Path.{_≡_, refl, sym, ap, ap₂, _∙_}
+use mathlib.Core.Path.{_≡_, refl, sym, ap, _∙_}
 use mathlib.Core.List.{List, [], _∷_, _++_, map, flatMap, map-append, append-assoc, append-nil}
-use Prim.Native.Nat.{ℕ, zero, suc, pred, _+_, _-_, _*_, _≤_, _<_}
+use Prim.Native.Nat.{ℕ, zero, suc, _+_, _*_, _≤_, _<_}
 use native.Mathlib.Omega.{arith}
-use lib.Dec.{leb, ltb}
-use lib.ListN.{length, getD, take, drop, length-append, length-drop}
+use lib.ListN.{length, drop, length-append, length-drop}
 use borrow.Author.Tests.{le-leb, lt-ltb}
-use Rattle.lists.specs.Lists.{upFrom}
 use Rattle.lists.proofs.Laws.{upFrom-snoc}
-use Rattle.refusals.specs.Refusals.{bookLimit, dayLimit, numberOf, answerOf, frontWritten}
+use Rattle.refusals.specs.Refusals.{bookLimit, dayLimit, numberOf, answerOf}
 use Rattle.refusals.specs.declared.Answer.the-variants.{Done}
 use Rattle.refusals.proofs.TestLaws.{all-pass}
 use Rattle.evidence.specs.Evidence.{days, dayOf}
-use Rattle.layouts.specs.Layouts.{setupRefusal, chains, chainsOfDay}
+use Rattle.layouts.specs.Layouts.{chains, chainsOfDay}
 use Rattle.layouts.proofs.Coverage.{chains-suc, chains-front}
 use Rattle.ledger.specs.Ledger.{dayAt, daysOf}
-use Rattle.ledger.specs.Private.{EndsHold}
 use Rattle.ledger.proofs.DayLaws.{days-none, days-snoc, days-length, days-at, days-at-length}
 use Rattle.chains.specs.Book.{bookOf}
-use Rattle.service.specs.Contract.{opened}
 use Rattle.journal.specs.Journal.{Journal, empty, Argument, adds, closes, testsOf, refusalOf, entered, kept, journalAfter}
-use Rattle.journal.specs.Run.{Call, argumentOf, journalOf}
+use Rattle.journal.specs.Run.{argumentOf}
 use Rattle.service.proofs.CallLaws.{opened-number}
 use Rattle.sealing.specs.Contract.{sealRefusal, sealedBook}
 use Rattle.sealing.proofs.SealLaws.{Sealable, sealable}
-use Rattle.daybook.specs.Claim.{sealed, wrote, dayCalls, sealCalls, SealedSo, SealClaim}
+use Rattle.daybook.specs.Claim.{sealed, wrote, dayCalls, sealCalls, SealClaim}
 use Rattle.daybook.proofs.Claim.{demand-3}
 
 flat-append : {A B : Type 0} (f : A → List B) (xs ys : List A) → flatMap f (xs ++ ys) ≡ flatMap f xs ++ flatMap f ys
 unfolding flatMap
 flat-append f [] ys = refl
-flat-append f (x ∷ xs) ys = ap (λ (r : List _). f x ++ r) (flat-append f xs ys) ∙ sym (append-assoc (f x) (flatMap f xs) (flatMap f ys))
+flat-append f (x ∷ xs) ys = rw (flat-append f xs ys, append-assoc)
 
 journal-append : (s n : ℕ) (xs ys : List Argument) (j : Journal) → journalAfter s n j (xs ++ ys) ≡ journalAfter s n (journalAfter s n j xs) ys
 journal-append s n [] ys j = refl
@@ -81,11 +77,10 @@ module _ (s n f d : ℕ) (ledger ends book : List ℕ) (ok : Sealable s n f d le
     grown = record { entries = daysOf ledger ends i; day = day }
 
     close-taken : refusalOf s n grown (closes (length (rest i))) ≡ 0
-    close-taken =
-        all-pass (testsOf s n grown (closes (length (rest i)))) (
-          lt-ltb (length (daysOf ledger ends i)) bookLimit (omega (arith, count-is, ok .days-most)),
-          (le-leb (32 * length (chainsOfDay s n (suc (length (daysOf ledger ends i))))) (length (rest i)) room, tt),
-        )
+    close-taken = all-pass (testsOf s n grown (closes (length (rest i)))) (
+      lt-ltb (length (daysOf ledger ends i)) bookLimit (omega (arith, count-is, ok .days-most)),
+      (le-leb (32 * length (chainsOfDay s n (suc (length (daysOf ledger ends i))))) (length (rest i)) room, tt),
+    )
 
     day-more : journalAfter s n (sealedTo i) (map argumentOf (dayCalls s n D book (suc i))) ≡ sealedTo (suc i)
     day-more =
@@ -96,9 +91,8 @@ module _ (s n f d : ℕ) (ledger ends book : List ℕ) (ok : Sealable s n f d le
   unfolding flatMap
   calls-more i =
       let e : 1 + i ≡ suc i = omega arith in
-      ap (λ (l : List ℕ). map argumentOf (flatMap (dayCalls s n D book) l)) (upFrom-snoc 1 i ∙ ap (λ (x : ℕ). days i ++ (x ∷ [])) e) ∙
-      ap (map argumentOf) (flat-append (dayCalls s n D book) (days i) (suc i ∷ []) ∙ ap (λ (l : List Call). flatMap (dayCalls s n D book) (days i) ++ l) (append-nil (dayCalls s n D book (suc i))))
-      ∙
+      ap (λ l. map argumentOf (flatMap (dayCalls s n D book) l)) (upFrom-snoc 1 i ∙ ap (λ x. days i ++ (x ∷ [])) e) ∙
+      ap (map argumentOf) (flat-append (dayCalls s n D book) (days i) (suc i ∷ []) ∙ ap (λ l. flatMap (dayCalls s n D book) (days i) ++ l) (append-nil (dayCalls s n D book (suc i)))) ∙
       map-append argumentOf (flatMap (dayCalls s n D book) (days i)) (dayCalls s n D book (suc i))
 
   sealed-to : (i : ℕ) → i ≤ d → journalAfter s n empty (argumentsTo i) ≡ sealedTo i

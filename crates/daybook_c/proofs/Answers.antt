@@ -12,11 +12,12 @@ use Rattle.reading.specs.Private.{NumbersOf}
 use Rattle.reading.specs.declared.Numbers.{Numbers}
 use Rattle.reading.specs.declared.Reading.{Reading}
 use Rattle.record_bytes.specs.Bytes.{recordBytes, recordOf}
-use Rattle.service.specs.Contract.{writingNumber, countOf, added, Closing, closing}
+use Rattle.service.specs.Contract.{writingNumber, countOf, added, Closing, closing, writtenSoFar}
 use Rattle.service.specs.declared.Record.{Record}
+use Rattle.service.specs.declared.Writing.{Writing}
 use Rattle.service.specs.declared.Added.{Added}
 use Rattle.service.specs.declared.Closed.{Closed}
-use Rattle.daybook_c.specs.Contract.{addedBytes, closedBytes, numbersAfter, valuesAfter}
+use Rattle.daybook_c.specs.Contract.{addedBytes, closedBytes, numbersAfter, valuesAfter, recordValuesAfter}
 
 -- ---- add
 
@@ -101,3 +102,21 @@ module _ (scheme n f d x old : ℕ) (e : x ≡ layoutRefusal scheme n f d) where
   pub values-kept : (x ≡ 0 → ⊥) → old ≡ valuesAfter scheme n f d old
   unfolding valuesAfter
   values-kept some = old-stays (layoutRefusal scheme n f d) (valueCount scheme n d) old e some
+
+-- ---- values of a record
+
+module _ (b : List ℕ) (old : ℕ) (s : Record) (a : Writing) (x : ℕ) (decoded : s ≡ recordOf b) (call : a ≡ writtenSoFar s)
+    (number : x ≡ writingNumber a) where
+  so-far-is : a ≡ writtenSoFar (recordOf b)
+  so-far-is = call ∙ ap writtenSoFar decoded
+
+  pub record-number : x ≡ writingNumber (writtenSoFar (recordOf b))
+  record-number = number ∙ ap writingNumber so-far-is
+
+  pub record-done : (k : ℕ) → x ≡ 0 → k ≡ countOf a → k ≡ recordValuesAfter b old
+  unfolding recordValuesAfter
+  record-done k z e = e ∙ ap countOf so-far-is ∙ new-stands (writingNumber (writtenSoFar (recordOf b))) _ old record-number z
+
+  pub record-kept : (x ≡ 0 → ⊥) → old ≡ recordValuesAfter b old
+  unfolding recordValuesAfter
+  record-kept some = old-stays (writingNumber (writtenSoFar (recordOf b))) (countOf (writtenSoFar (recordOf b))) old record-number some

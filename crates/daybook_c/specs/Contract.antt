@@ -6,7 +6,7 @@ use Rattle.refusals.specs.Refusals.{numberOf, unlessRefused}
 use Rattle.layouts.specs.Layouts.{layoutRefusal, valueCount}
 use Rattle.reading.specs.Contract.{Report, fiveNumbers}
 use Rattle.record_bytes.specs.Bytes.{recordBytes, recordOf}
-use Rattle.service.specs.Contract.{writingNumber, countOf, added, closing}
+use Rattle.service.specs.Contract.{writingNumber, countOf, added, closing, writtenSoFar}
 
 -- add, on a record's bytes
 pub record AddedBytes : Type 0 where
@@ -44,3 +44,12 @@ numbersAfter report numbers = unlessRefused (report .refusal) (fiveNumbers repor
 -- 01's number of values for d days (SPEC 4.12)
 unfoldable pub valuesAfter : ℕ → ℕ → ℕ → ℕ → ℕ → ℕ
 valuesAfter scheme n f d values = unlessRefused (layoutRefusal scheme n f d) (valueCount scheme n d) values
+
+-- the number of values of a record's closed days (SPEC 15.5), from its bytes
+unfoldable pub recordValuesAfter : List ℕ → ℕ → ℕ
+recordValuesAfter state values =
+    let answer = writtenSoFar (recordOf state) in unlessRefused (writingNumber answer) (countOf answer) values
+
+-- the version of the calls: 10000 · major + 100 · minor + patch
+abbrev pub version : ℕ
+version = 200

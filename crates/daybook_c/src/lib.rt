@@ -4,12 +4,13 @@ use record_bytes::RECORD_BYTES;
 ghost use mathlib.Core.Path.{_≡_};
 ghost use Rattle.refusals.specs.Refusals.{numberOf};
 ghost use Rattle.layouts.specs.Layouts.{layoutRefusal};
-ghost use Rattle.service.specs.Contract.{opened};
-ghost use Rattle.record_bytes.specs.Bytes.{recordBytes};
+ghost use Rattle.service.specs.Contract.{opened, writingNumber, writtenSoFar};
+ghost use Rattle.record_bytes.specs.Bytes.{recordBytes, recordOf};
 ghost use Rattle.sealing.specs.Contract.{sealedBook};
 ghost use Rattle.checking.specs.Contract.{checked};
 ghost use Rattle.reading.specs.Contract.{readout};
 ghost use Rattle.daybook_c.specs.Contract.{addedBytes, closedBytes, numbersAfter, valuesAfter};
+ghost use Rattle.daybook_c.specs.Contract.{recordValuesAfter, version};
 
 #[no_mangle]
 pub extern "C" fn daybook_open(scheme: u32, n: u32, f: u32, state: &mut [u8; RECORD_BYTES]) -> u32
@@ -144,4 +145,25 @@ pub extern "C" fn daybook_values(scheme: u32, n: u32, f: u32, d: u32, values: &m
         *values = layouts::values_through(scheme, n, d);
     }
     x
+}
+
+#[no_mangle]
+pub extern "C" fn daybook_record_values(state: &[u8; RECORD_BYTES], values: &mut u32) -> u32
+    ensures { λ r. ⌜ r ≡ writingNumber (writtenSoFar (recordOf (now (state .entry)))) ⌝ }
+    ensures { λ r. ⌜ now (values .exit) ≡ recordValuesAfter (now (state .entry)) (now (values .entry)) ⌝ }
+{
+    let b = *state;
+    let a = service::values_so_far(record_bytes::decode(b));
+    let x = service::writing_number(a);
+    if x == 0 {
+        *values = service::count_of(a);
+    }
+    x
+}
+
+#[no_mangle]
+pub extern "C" fn daybook_version() -> u32
+    ensures { λ r. ⌜ r ≡ version ⌝ }
+{
+    200
 }

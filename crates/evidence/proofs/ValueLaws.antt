@@ -1,19 +1,17 @@
 -- Laws of values: what equal values say of the days, and that a check against the book of the sealed days finds the
 -- changed days' table. Nothing is assumed of the hash but its length; that two inputs do not collide is a premise, and only
 -- of the inputs hashed.
-use mathlib.Core.Path.{_≡_, refl, _∙_}
-use mathlib.Core.Logic.{_↔_, _⊎_, inl, inr}
-use mathlib.Core.Bool.{Bool, true, false, not, cond}
+use mathlib.Core.{Path._≡_, Path.refl, Path._∙_, Logic._↔_, Logic.inl, Logic.inr, Bool.true, Bool.false, Bool.not, Bool.cond}
 use mathlib.Core.List.{List, [], _∷_, _++_, map, flatMap, append-assoc, List·Memᴰ·head, List·Memᴰ·tail, List·Memᴰ·cases-cons, Memᴰ·append-left, Memᴰ·append-right, Memᴰ·map}
-use Prim.Native.Nat.{ℕ, _+_, _*_, _≤_}
+use Prim.Native.Nat.{ℕ, _*_, _≤_}
 use native.Mathlib.Omega.{arith}
-use lib.ListN.{length, length-append}
-use lib.Seq.{take-at, drop-at}
+use lib.{ListN.length, ListN.length-append, Seq.take-at, Seq.drop-at}
 use borrow.Author.Tests.{not-true}
 use Rattle.lists.specs.Lists.{_among_, same}
-use Rattle.evidence.specs.Evidence.{days, Within, meets, setOutcome, tableOf, listing, dayOf, changed, digest, linkInput, value, values, checkOutcomes, linkInputs, inputs, NoCollision}
+use Rattle.evidence.specs.Evidence.{days, Within, meets, setOutcome, tableOf, listing, dayOf, changed, digest}
+use Rattle.evidence.specs.Evidence.{linkInput, value, values, checkOutcomes, linkInputs, inputs, NoCollision}
 use Rattle.lists.proofs.Laws.{split, true-or-false, same-eq, eq-same, upFrom-mem, upFrom-bounds, keep-mem, mem-keep, map-same}
-use Rattle.evidence.proofs.TableLaws.{meets-of, meets-day, lists-all, lists-exactly, lists-none}
+use Rattle.evidence.proofs.TableLaws.{meets-of, meets-day, none-met, lists-all, lists-exactly, lists-none}
 
 -- the inputs of the days' digests
 abbrev dayParts : ℕ → List (List ℕ) → List (List ℕ)
@@ -106,27 +104,12 @@ module _ (H : List ℕ → List ℕ) (sized : (x : List ℕ) → length (H x) �
       value H v A c ≡ value H w B c → (v ≡ w) × ((g : ℕ) → g among c → dayOf A g ≡ dayOf B g)
   agree-back A B [] v w hv hw day nc e = (e, λ g m. elim m [ ])
   agree-back A B (g ∷ c) v w hv hw day nc e =
-      step
-      (agree-back A B c (H (linkInput H A v g)) (H (linkInput H B w g)) (sized (linkInput H A v g)) (sized (linkInput H B w g)) (λ x m. day x (List·Memᴰ·tail m))
-      (λ x y mx my. nc x y (List·Memᴰ·tail mx) (List·Memᴰ·tail my)) e)
-    where
-      a : List ℕ
-      a = linkInput H A v g
-
-      b : List ℕ
-      b = linkInput H B w g
-
-      joined : H a ≡ H b → v ++ digest H (dayOf A g) ≡ w ++ digest H (dayOf B g)
-      joined r = let q : a ≡ b = nc a b (List·Memᴰ·head refl) (List·Memᴰ·head refl) r in cc
-
-      each : dayOf A g ≡ dayOf B g → ((x : ℕ) → x among c → dayOf A x ≡ dayOf B x) → (x : ℕ) → (x ≡ g) ⊎ (x among c) → dayOf A x ≡ dayOf B x
-      each f later x (inl q) = rw q f
-      each f later x (inr m) = later x m
-
-      step : (H a ≡ H b) × ((x : ℕ) → x among c → dayOf A x ≡ dayOf B x) → (v ≡ w) × ((x : ℕ) → x among (g ∷ c) → dayOf A x ≡ dayOf B x)
-      step rest =
-          let h = halves 32 v w (digest H (dayOf A g)) (digest H (dayOf B g)) hv hw (joined (rest .0)) in
-          (h .0, λ x m. each (day g (List·Memᴰ·head refl) (h .1)) (rest .1) x (List·Memᴰ·cases-cons m))
+      let a = linkInput H A v g in
+      let b = linkInput H B w g in
+      let rest = agree-back A B c (H a) (H b) (sized a) (sized b) (λ x m. day x (List·Memᴰ·tail m)) (λ x y mx my. nc x y (List·Memᴰ·tail mx) (List·Memᴰ·tail my)) e in
+      let q : a ≡ b = nc a b (List·Memᴰ·head refl) (List·Memᴰ·head refl) (rest .0) in
+      let h = halves 32 v w (digest H (dayOf A g)) (digest H (dayOf B g)) hv hw (cc) in
+      (h .0, λ x m. elim (List·Memᴰ·cases-cons m) [ inl r ↦ rw r (day g (List·Memᴰ·head refl) (h .1)) | inr k ↦ rest .1 x k ])
 
   module _ (start : List ℕ) (started : length start ≡ 32) (chains : List (List ℕ)) (d : ℕ) (inside : (c : List ℕ) → c among chains → Within d c)
       (A B : List (List ℕ)) (nc : NoCollision H (inputs H start chains d A) (inputs H start chains d B)) where
@@ -159,42 +142,29 @@ module _ (H : List ℕ → List ℕ) (sized : (x : List ℕ) → length (H x) �
 
     day-changed : (g : ℕ) → (1 ≤ g) × (g ≤ d) → (g among changed d A B → ⊥) → dayOf A g ≡ dayOf B g
     unfolding changed
-    day-changed g b n = go (split (same (dayOf A g) (dayOf B g)))
-      where
-        go : (same (dayOf A g) (dayOf B g) ≡ true) ⊎ (same (dayOf A g) (dayOf B g) ≡ false) → dayOf A g ≡ dayOf B g
-        go (inl e) = same-eq (dayOf A g) (dayOf B g) e
-        go (inr e) = absurd (n (mem-keep (λ x. not (same (dayOf A x) (dayOf B x))) (days d) g (upFrom-mem 1 d g (omega arith) (omega arith)) (rw e)))
+    day-changed g b n = elim (split (same (dayOf A g) (dayOf B g))) [
+      | inl e ↦ same-eq (dayOf A g) (dayOf B g) e
+      | inr e ↦ absurd (n (mem-keep (λ x. not (same (dayOf A x) (dayOf B x))) (days d) g (upFrom-mem 1 d g (omega arith) (omega arith)) (rw e)))
+    ]
 
     same-value : (c : List ℕ) → c among chains → same (value H start A c) (value H start B c) ≡ not (meets (changed d A B) c)
-    same-value c m = go (split (meets (changed d A B) c))
-      where
-        differs : meets (changed d A B) c ≡ true → same (value H start A c) (value H start B c) ≡ true → ⊥
-        differs e s =
-            let r = meets-day (changed d A B) c e in
-            changed-day (r .0) (r .2) (value-iff c m .0 (same-eq (value H start A c) (value H start B c) s) (r .0) (r .1))
-
-        not-same : meets (changed d A B) c ≡ true → (same (value H start A c) (value H start B c) ≡ true) ⊎ (same (value H start A c) (value H start B c) ≡ false) →
-            same (value H start A c) (value H start B c) ≡ false
-        not-same e (inl s) = absurd (differs e s)
-        not-same e (inr s) = s
-
-        alike : meets (changed d A B) c ≡ false → (g : ℕ) → g among c → dayOf A g ≡ dayOf B g
-        alike e g k = day-changed g (inside c m g k) (λ x. true-or-false (meets-of (changed d A B) c g k x) e)
-
-        go : (meets (changed d A B) c ≡ true) ⊎ (meets (changed d A B) c ≡ false) → same (value H start A c) (value H start B c) ≡ not (meets (changed d A B) c)
-        go (inl e) = rw e (not-same e (split (same (value H start A c) (value H start B c))))
-        go (inr e) = rw e (eq-same (value H start A c) (value H start B c) (value-iff c m .1 (alike e)))
+    same-value c m = elim (split (meets (changed d A B) c)) [
+      | inl e ↦ rw e (elim (split (same (value H start A c) (value H start B c))) [
+        | inl s ↦ let r = meets-day (changed d A B) c e in
+            absurd (changed-day (r .0) (r .2) (value-iff c m .0 (same-eq (value H start A c) (value H start B c) s) (r .0) (r .1)))
+        | inr s ↦ s
+      ])
+      | inr e ↦ rw e (eq-same (value H start A c) (value H start B c)
+          (value-iff c m .1 (λ g k. day-changed g (inside c m g k) (λ x. true-or-false (meets-of (changed d A B) c g k x) e))))
+    ]
 
     -- under the premise, a check against the book of the days A writes the table that the changed days give
     pub check-table : (rest : List ℕ) → checkOutcomes H start B chains (values H start A chains ++ rest) ≡ tableOf chains (changed d A B)
     unfolding tableOf sameValue
     check-table rest =
         outcomes-same start started A B chains rest ∙
-        map-same (sameValue H start A B) (setOutcome (changed d A B)) chains (λ c m. rw (same-value c m) (flip (meets (changed d A B) c)))
-      where
-        flip : (b : Bool) → _≡_ {A = ℕ} (cond (not b) 1 0) (cond b 0 1)
-        flip true = refl
-        flip false = refl
+        map-same (sameValue H start A B) (setOutcome (changed d A B)) chains (λ c m. rw (same-value c m)
+        (elim (meets (changed d A B) c) as (λ b. _≡_ {A = ℕ} (cond (not b) 1 0) (cond b 0 1)) [ true ↦ refl | false ↦ refl ]))
 
   -- with no premise: where the days agree, each value passes
   pub check-unaltered : (start : List ℕ) → length start ≡ 32 → (chains : List (List ℕ)) (d : ℕ) → ((c : List ℕ) → c among chains → Within d c) →
@@ -202,12 +172,7 @@ module _ (H : List ℕ → List ℕ) (sized : (x : List ℕ) → length (H x) �
       checkOutcomes H start B chains (values H start A chains ++ rest) ≡ tableOf chains []
   unfolding tableOf sameValue
   check-unaltered start started chains d inside A B agree rest =
-      outcomes-same start started A B chains rest ∙ map-same (sameValue H start A B) (setOutcome []) chains each
-    where
-      none : (c : List ℕ) → meets [] c ≡ false
-      none [] = refl
-      none (x ∷ c) = none c
-
-      each : (c : List ℕ) → c among chains → sameValue H start A B c ≡ setOutcome [] c
-      each c m =
-          rw (none c, eq-same (value H start A c) (value H start B c) (value-same H A B c start (λ g k. let b = inside c m g k in agree g (upFrom-mem 1 d g (omega arith) (omega arith)))))
+      outcomes-same start started A B chains rest ∙ map-same (sameValue H start A B) (setOutcome []) chains (λ c m. rw (
+        none-met c,
+        eq-same (value H start A c) (value H start B c) (value-same H A B c start (λ g k. let b = inside c m g k in agree g (upFrom-mem 1 d g (omega arith) (omega arith)))),
+      ))

@@ -1,8 +1,6 @@
 -- The marked examples hold: antt computes the listing and the acceptance, and the laws of tables turn them into statements
 -- about the sets that give a table.
-use mathlib.Core.Path.{_≡_, refl}
-use mathlib.Core.Bool.{true, false}
-use mathlib.Core.List.{List, flatMap}
+use mathlib.Core.{Path._≡_, Path.refl, Bool.true, Bool.false, List.List, List.flatMap}
 use Prim.Native.Nat.{ℕ}
 use Rattle.evidence.specs.Evidence.{tableOf, listing, accepted}
 use Rattle.lists.proofs.Laws.{true-or-false}

@@ -65,7 +65,7 @@ module _ {s n f : ℕ} {j : Journal} {r : Record} (k : Keeps s n f j r) where
   n-allowed : allowedN n ≡ true
   n-allowed = setup-is s n f (k .setup-ok) .n-ok
 
-  record-allowed : allowedRecord r ≡ true
+  pub record-allowed : allowedRecord r ≡ true
   record-allowed =
       is-allowed r (record {
         setup = rw (k .scheme-is, k .n-is, k .f-is) (k .setup-ok);

@@ -1,36 +1,20 @@
 -- What the tests of scheme, n, f and d say, and counts of bits as logarithms.
-use mathlib.Core.Path.{_≡_, refl, sym, ap, _∙_}
-use mathlib.Core.Logic.{_⊎_, inl, inr}
+use mathlib.Core.{Path._≡_, Path.refl, Path.sym, Path.ap, Path._∙_, Logic.inl, Logic.inr, List.List, List.[], List._∷_}
 use mathlib.Core.Bool.{Bool, true, false, not, _&&_, _||_, cond}
-use mathlib.Core.List.{List, [], _∷_, List·Memᴰ·head, List·Memᴰ·tail}
 use Prim.Native.Nat.{ℕ, zero, suc, pred, _+_, _-_, _*_, _/_, _%_, _^_, _≤_, _<_}
-use native.Mathlib.Nat.{le-div-iff-mul-le, mod-lt, div-add-mod', mul-assoc, div-le-self, le-trans, mul-le-mul, le-add-right}
+use native.Mathlib.Nat.{le-div-iff-mul-le, div-add-mod', mul-assoc, div-le-self, le-trans, mul-le-mul, le-add-right}
 use native.Mathlib.Omega.{arith}
-use lib.Arith.{digits-mod}
-use lib.Count.{ones, leadingZeros, leading-top, leading-of-zero}
-use lib.Dec.{eqb, leb}
-use lib.ListN.{length, length-map, length-append}
-use lib.Pow.{pow-pos, pow-mono}
-use borrow.Author.Tests.{eqb-true, eq-eqb, leb-true, not-true, not-false}
-use Rattle.lists.specs.Lists.{_among_}
-use Rattle.lists.proofs.Laws.{split, true-or-false, and-both, has-mem, upFrom-mem}
+use lib.{Arith.digits-mod, Count.ones, Count.leadingZeros, Count.leading-top, Count.leading-of-zero, Dec.eqb}
+use lib.{Dec.leb, ListN.length, ListN.length-map, ListN.length-append, Pow.pow-pos, Pow.pow-mono}
+use borrow.Author.Tests.{eqb-true, eq-eqb, leb-true, not-true}
+use Rattle.lists.proofs.Laws.{split, and-both, has-mem, upFrom-mem, every-at}
 use Rattle.refusals.specs.Refusals.{bookLimit, _orRefuse_}
-use Rattle.refusals.proofs.TestLaws.{Pass, none-fails, pass-split, refused-before, refused-after}
-use Rattle.layouts.specs.Statements.{ValuesCounted, BookFront}
-use Rattle.layouts.specs.Layouts.{divides, allowedScheme, allowedN, allowedF, allowedD, setupTests, layoutTests, setupRefusal, layoutRefusal, lg, black, covers, namesThrough, coveredDays, chainsOfDay, chains}
-use Rattle.layouts.specs.Private.{position}
-use Rattle.layouts.proofs.Coverage.{divisor-le, chains-suc, chains-front}
+use Rattle.refusals.proofs.TestLaws.{passed, failed, Pass, none-fails, pass-split, refused-before, last-fails, last-passes}
+use Rattle.layouts.specs.{Statements.ValuesCounted, Statements.BookFront, Private.position}
+use Rattle.layouts.specs.Layouts.{divides, allowedScheme, allowedN, allowedF, allowedD, setupTests, layoutTests, setupRefusal}
+use Rattle.layouts.specs.Layouts.{layoutRefusal, lg, black, covers, namesThrough, coveredDays, chainsOfDay, chains}
+use Rattle.layouts.proofs.Coverage.{by-scheme, divisor-le, chains-suc, chains-front}
 use Rattle.layouts.proofs.Counts.{lg-unique, ones-small, digits, digits-small, through, count-through, values-length}
-
--- ---- a test computed over a whole list
-
-abbrev allOf : (ℕ → Bool) → List ℕ → Bool
-allOf q [] = true
-allOf q (x ∷ xs) = q x && allOf q xs
-
-all-mem : (q : ℕ → Bool) {n : ℕ} {xs : List ℕ} → n among xs → allOf q xs ≡ true → q n ≡ true
-all-mem q (List·Memᴰ·head {x = x} {xs = xs} e) h = ap q e ∙ and-both (q x) (allOf q xs) h .0
-all-mem q (List·Memᴰ·tail {x = x} {xs = xs} m) h = all-mem q m (and-both (q x) (allOf q xs) h .1)
 
 -- ---- n
 
@@ -47,36 +31,27 @@ pub allowed-n-is : (n : ℕ) → allowedN n ≡ true → Power n
 unfolding isPower lg
 allowed-n-is n e =
     let l : List ℕ = 1 ∷ 2 ∷ 4 ∷ 8 ∷ 16 ∷ 32 ∷ 64 ∷ 128 ∷ 256 ∷ [] in
-    let q = all-mem isPower (has-mem n l e) refl in
+    let q = every-at isPower (has-mem n l e) refl in
     let a = and-both (eqb n (2 ^ lg n) && leb (lg n) 8) (leb 1 n && leb n 256) q in
     let b = and-both (eqb n (2 ^ lg n)) (leb (lg n) 8) (a .0) in
     let c = and-both (leb 1 n) (leb n 256) (a .1) in
     record { power = eqb-true n (2 ^ lg n) (b .0); small = leb-true (lg n) 8 (b .1); some = leb-true 1 n (c .0); most = leb-true n 256 (c .1) }
 
-alike : Bool → Bool → Bool
-alike true b = b
-alike false b = not b
-
-alike-eq : (a b : Bool) → alike a b ≡ true → a ≡ b
-unfolding alike
-alike-eq true b e = sym e
-alike-eq false true e = absurd (true-or-false e refl)
-alike-eq false false e = refl
-
 oneBit : ℕ → Bool
-oneBit n = alike (eqb (ones n) 1) (allowedN n)
+oneBit n = cond (eqb (ones n) 1) (allowedN n) (not (allowedN n))
+
+-- the test computes to true over the whole range
+alike-eq : (a b : Bool) → cond a b (not b) ≡ true → a ≡ b
+alike-eq true b e = sym e
+alike-eq false b e = sym (not-true b e)
 
 -- up to 256, the numbers with one bit
 pub one-bit : (n : ℕ) → n ≤ 256 → eqb (ones n) 1 ≡ allowedN n
-unfolding oneBit alike ones lib.Count.onesIn
-one-bit n l = alike-eq (eqb (ones n) 1) (allowedN n) (all-mem oneBit (upFrom-mem 0 257 n (omega arith) (omega arith)) refl)
+unfolding oneBit ones lib.Count.onesIn
+one-bit n l = alike-eq (eqb (ones n) 1) (allowedN n) (every-at oneBit (upFrom-mem 0 257 n (omega arith) (omega arith)) refl)
 
 pub too-large : (n : ℕ) → 256 < n → false ≡ allowedN n
-too-large n l = go (split (allowedN n))
-  where
-    go : (allowedN n ≡ true) ⊎ (allowedN n ≡ false) → false ≡ allowedN n
-    go (inl e) = let p = allowed-n-is n e in absurd (omega arith)
-    go (inr e) = sym e
+too-large n l = elim (split (allowedN n)) [ inl e ↦ let p = allowed-n-is n e in absurd (omega arith) | inr e ↦ sym e ]
 
 -- ---- scheme, f, d
 
@@ -103,11 +78,10 @@ allowed-d-is n f d e =
 -- what a multiple of n divides, n divides
 pub divides-factor : (n f d : ℕ) → 1 ≤ n → divides (f * n) d ≡ true → divides n d ≡ true
 divides-factor n f d p e =
-    let z : d % (f * n) ≡ 0 = eqb-true (d % (f * n)) 0 e in
-    let w : d / (f * n) * (f * n) + d % (f * n) ≡ d = div-add-mod' d (f * n) in
-    let m : d / (f * n) * (f * n) ≡ d / (f * n) * f * n = sym (mul-assoc (d / (f * n)) f n) in
-    let v : d ≡ d / (f * n) * f * n + 0 = omega arith in
-    eq-eqb (d % n) 0 (ap (λ (x : ℕ). x % n) v ∙ digits-mod (d / (f * n) * f) p)
+    let z = eqb-true (d % (f * n)) 0 e in
+    let w = div-add-mod' d (f * n) in
+    let v : d ≡ d / (f * n) * f * n + 0 = omega (arith, mul-assoc (d / (f * n)) f n) in
+    eq-eqb (d % n) 0 (ap (λ x. x % n) v ∙ digits-mod (d / (f * n) * f) p)
 
 -- ---- no refusal
 
@@ -137,17 +111,14 @@ layout-asks s n f d e z = let l = layout-is s n f d (sym e ∙ z) in (l .0 .sche
 -- ---- logarithms by leading zeros
 
 pub lg-leading : (x : ℕ) → 1 ≤ x → x < 2 ^ 32 → (leadingZeros 32 x ≤ 31) × (31 - leadingZeros 32 x ≡ lg x)
-lg-leading x p l = go (leading-top 32 x p l)
-  where
-    go : (j : ℕ) × (leadingZeros 32 x + suc j ≡ 32) × (2 ^ j ≤ x) × (x < 2 ^ suc j) → (leadingZeros 32 x ≤ 31) × (31 - leadingZeros 32 x ≡ lg x)
-    go r =
-        let e = r .1 in
-        let q = lg-unique x (r .0) (r .2) (r .3) in
-        (omega arith, omega arith)
+lg-leading x p l =
+    let r = leading-top 32 x p l in
+    let q = lg-unique x (r .0) (r .2) (r .3) in
+    omega (arith, r .1)
 
 pub digits-leading : (x : ℕ) → x < 2 ^ 32 → (leadingZeros 32 x ≤ 32) × (32 - leadingZeros 32 x ≡ digits x)
-digits-leading zero l = let e = leading-of-zero 32 in (omega arith, omega arith)
-digits-leading (suc x) l = let r = lg-leading (suc x) (omega arith) l in (omega (arith, r .0), omega (arith, r .0, r .1))
+digits-leading zero l = let e = leading-of-zero 32 in omega arith
+digits-leading (suc x) l = let r = lg-leading (suc x) (omega arith) l in omega arith
 
 -- ---- the number of chains, by arithmetic
 
@@ -155,43 +126,23 @@ pub chains-through : (s n g : ℕ) → allowedScheme s ≡ true → allowedN n �
 unfolding chains
 chains-through s n g a b =
     let r = allowed-scheme-is s a in
-    let p = allowed-n-is n b in
-    length-map (namesThrough s n g) (coveredDays n) ∙ ap (λ (x : ℕ). length (namesThrough s x g)) (p .power) ∙ count-through s (lg n) g (r .0) (r .1) ∙
-    ap (λ (x : ℕ). through s x g) (sym (p .power))
+    let w : 2 ^ lg n ≡ n = sym (allowed-n-is n b .power) in
+    length-map (namesThrough s n g) (coveredDays n) ∙ rw w at (count-through s (lg n) g (r .0) (r .1))
 
 -- ---- the refusals, by the tests
 
 module _ (s n f : ℕ) where
-  pub setup-1 : {r : Bool} → r ≡ allowedScheme s → not r ≡ true → 1 ≡ setupRefusal s n f
-  unfolding setupRefusal
-  setup-1 {r} e t = rw (← e, not-true r t)
-
-  pub setup-2 : {r q : Bool} → r ≡ allowedScheme s → not r ≡ false → q ≡ allowedN n → not q ≡ true → 2 ≡ setupRefusal s n f
-  unfolding setupRefusal
-  setup-2 {r} {q} e t h u = rw (← e, not-false r t, ← h, not-true q u)
-
-  pub setup-3 : {r q p : Bool} → r ≡ allowedScheme s → not r ≡ false → q ≡ allowedN n → not q ≡ false → p ≡ allowedF s f → not p ≡ true → 3 ≡ setupRefusal s n f
-  unfolding setupRefusal
-  setup-3 {r} {q} {p} e t h u k v = rw (← e, not-false r t, ← h, not-false q u, ← k, not-true p v)
-
-  pub setup-0 : {r q p : Bool} → r ≡ allowedScheme s → not r ≡ false → q ≡ allowedN n → not q ≡ false → p ≡ allowedF s f → not p ≡ false → 0 ≡ setupRefusal s n f
-  unfolding setupRefusal
-  setup-0 {r} {q} {p} e t h u k v = rw (← e, not-false r t, ← h, not-false q u, ← k, not-false p v)
-
   pub layout-early : (d r : ℕ) → r ≡ setupRefusal s n f → (r ≡ 0 → ⊥) → r ≡ layoutRefusal s n f d
   unfolding setupRefusal layoutRefusal
   layout-early d r e h = refused-before (setupTests s n f) (allowedD n f d orRefuse 7 ∷ []) e h
 
-  -- with tests 1 2 3 passed, the refusal is test 7's
-  layout-last : (d : ℕ) {r : ℕ} {q : Bool} → r ≡ setupRefusal s n f → r ≡ 0 → q ≡ allowedD n f d → cond q 0 7 ≡ layoutRefusal s n f d
-  unfolding setupRefusal layoutRefusal
-  layout-last d e z h = rw h (sym (refused-after (setupTests s n f) (allowedD n f d orRefuse 7 ∷ []) refl (sym e ∙ z)))
-
   pub layout-7 : (d : ℕ) {r : ℕ} {q : Bool} → r ≡ setupRefusal s n f → r ≡ 0 → q ≡ allowedD n f d → not q ≡ true → 7 ≡ layoutRefusal s n f d
-  layout-7 d {r} {q} e z h t = let w = layout-last d e z h in rw (not-true q t) at w
+  unfolding setupRefusal layoutRefusal
+  layout-7 d e z h t = last-fails (setupTests s n f) (allowedD n f d) 7 refl e z (failed h t)
 
   pub layout-0 : (d : ℕ) {r : ℕ} {q : Bool} → r ≡ setupRefusal s n f → r ≡ 0 → q ≡ allowedD n f d → not q ≡ false → 0 ≡ layoutRefusal s n f d
-  layout-0 d {r} {q} e z h t = let w = layout-last d e z h in rw (not-false q t) at w
+  unfolding setupRefusal layoutRefusal
+  layout-0 d e z h t = last-passes (setupTests s n f) (allowedD n f d) 7 refl e z (passed h t)
 
   pub setup-bounds : setupRefusal s n f ≡ 0 → (1 ≤ n) × (n ≤ 256) × (1 ≤ f) × (f ≤ 64)
   setup-bounds e =
@@ -201,13 +152,6 @@ module _ (s n f : ℕ) where
       (p .some, p .most, q .0, q .1)
 
 -- ---- counts in 32 bits
-
-tree-sum : (n g : ℕ) → allowedN n ≡ true → g ≤ 65536 → length (chains 3 n g) ≡ 2 * g - ones g + g / n - (32 - leadingZeros 32 (g / n))
-tree-sum n g e l =
-    let p = allowed-n-is n e in
-    let b : g / n ≤ g = div-le-self g n in
-    let w = digits-leading (g / n) (omega arith) in
-    chains-through 3 n g refl e ∙ ap (λ (x : ℕ). 2 * g - ones g + g / n - x) (sym (w .1))
 
 pub record TreeSum (n g : ℕ) : Type 0 where
   pub positive : 0 < n
@@ -221,60 +165,33 @@ pub tree-sum-is : (n g : ℕ) → allowedN n ≡ true → g ≤ 65536 → TreeSu
 tree-sum-is n g e l =
     let p = allowed-n-is n e in
     let o = ones-small g in
-    let b : g / n ≤ g = div-le-self g n in
+    let b = div-le-self g n in
     let w = digits-leading (g / n) (omega arith) in
     let k = digits-small (g / n) in
-    record {
-      positive = p .some;
-      ones-less = omega arith;
-      sum-fits = omega arith;
-      zeros-most = w .0;
-      digits-less = omega (arith, w .1);
-      sum-is = sym (tree-sum n g e l);
-    }
+    let c = chains-through 3 n g refl e in
+    record { positive = p .some; ones-less = omega arith; sum-fits = omega arith; zeros-most = w .0; digits-less = omega (arith, w .1); sum-is = rw (w .1) (sym c) }
 
-pub tile-bound : (n g : ℕ) → allowedN n ≡ true → g ≤ 65536 → g / n * (2 + lg n) < 2 ^ 32
+pub tile-bound : (n g : ℕ) → allowedN n ≡ true → g ≤ 65536 → g / n * (2 + lg n) < 1000000
 tile-bound n g e l =
     let p = allowed-n-is n e in
-    let b : g / n ≤ 65536 = le-trans (div-le-self g n) l in
-    let k : 2 + lg n ≤ 10 = omega (arith, p .small) in
-    let m = mul-le-mul b k in
+    let m = mul-le-mul (le-trans (div-le-self g n) l) (let k : 2 + lg n ≤ 10 = omega (arith, p .small) in k) in
     omega arith
 
 -- the values are few
 pub chains-few : (s n g : ℕ) → allowedScheme s ≡ true → allowedN n ≡ true → g ≤ 65536 → length (chains s n g) < 1000000
-chains-few s n g a e l = rw (chains-through s n g a e) (go s (allowed-scheme-is s a))
-  where
-    go : (t : ℕ) → (1 ≤ t) × (t ≤ 3) → through t n g < 1000000
-    go zero r = absurd (omega (arith, r .0))
-    go (suc zero) r = let b : g / n ≤ g = div-le-self g n in omega arith
-    go (suc (suc zero)) r =
-        let p = allowed-n-is n e in
-        let b : g / n ≤ 65536 = le-trans (div-le-self g n) l in
-        let k : 2 + lg n ≤ 10 = omega (arith, p .small) in
-        let m = mul-le-mul b k in
-        omega arith
-    go (suc (suc (suc zero))) r = let b : g / n ≤ g = div-le-self g n in omega arith
-    go (suc (suc (suc (suc t)))) r = absurd (omega (arith, r .1))
+chains-few s n g a e l =
+    let r = allowed-scheme-is s a in
+    let b = div-le-self g n in
+    rw (chains-through s n g a e) (by-scheme (λ s. through s n g < 1000000) (omega arith) (tile-bound n g e l) (omega arith) s (r .0) (r .1))
 
 pub through-1 : (s n g : ℕ) → s ≡ 1 → allowedN n ≡ true → g / n ≡ length (chains s n g)
-through-1 s n g q e = sym (ap (λ (x : ℕ). length (chains x n g)) q ∙ chains-through 1 n g refl e)
+through-1 s n g q e = rw q (sym (chains-through 1 n g refl e))
 
 pub through-2 : (s n g k : ℕ) → s ≡ 2 → allowedN n ≡ true → k ≡ lg n → g / n * (2 + k) ≡ length (chains s n g)
-through-2 s n g k q e h = ap (λ (x : ℕ). g / n * (2 + x)) h ∙ sym (ap (λ (x : ℕ). length (chains x n g)) q ∙ chains-through 2 n g refl e)
+through-2 s n g k q e h = rw (h, q) (sym (chains-through 2 n g refl e))
 
 pub through-3 : (s n g r : ℕ) → allowedScheme s ≡ true → (s ≡ 1 → ⊥) → (s ≡ 2 → ⊥) → r ≡ length (chains 3 n g) → r ≡ length (chains s n g)
-through-3 s n g r a h k e =
-    let b = allowed-scheme-is s a in
-    let q : s ≡ 3 = three s (b .0) (b .1) h k in
-    e ∙ ap (λ (x : ℕ). length (chains x n g)) (sym q)
-  where
-    three : (t : ℕ) → 1 ≤ t → t ≤ 3 → (t ≡ 1 → ⊥) → (t ≡ 2 → ⊥) → t ≡ 3
-    three zero l m u v = absurd (omega arith)
-    three (suc zero) l m u v = absurd (u refl)
-    three (suc (suc zero)) l m u v = absurd (v refl)
-    three (suc (suc (suc zero))) l m u v = refl
-    three (suc (suc (suc (suc t)))) l m u v = absurd (omega arith)
+through-3 s n g r a h k e = let b = allowed-scheme-is s a in let q : s ≡ 3 = omega arith in rw q e
 
 -- the values of a day are the difference of two counts
 pub day-values : (s n g : ℕ) {p q : ℕ} → 1 ≤ g → p ≡ length (chains s n g) → q ≡ length (chains s n (g - 1)) → (q ≤ p) × (p - q ≡ length (chainsOfDay s n g))
@@ -282,36 +199,22 @@ day-values s n zero l e h = absurd (omega arith)
 day-values s n (suc g) {p} {q} l e h =
     let k : suc g - 1 ≡ g = omega arith in
     let c : length (chains s n (suc g)) ≡ length (chains s n g) + length (chainsOfDay s n (suc g)) = rw (chains-suc s n g, length-append) in
-    let w : q ≡ length (chains s n g) = h ∙ ap (λ (x : ℕ). length (chains s n x)) k in
-    (omega arith, omega arith)
+    let w = rw k at h in
+    omega arith
 
 namesThrough-length : (s n g : ℕ) → length (chains s n g) ≡ length (namesThrough s n g)
 unfolding chains
 namesThrough-length s n g = length-map (namesThrough s n g) (coveredDays n)
 
-one-le-div : {n g : ℕ} → 1 ≤ n → n ≤ g → 1 ≤ g / n
-one-le-div {n} {g} p h = le-of-eq-div (div-add-mod' g n) (mod-lt g p)
-  where
-    le-of-eq-div : g / n * n + g % n ≡ g → g % n < n → 1 ≤ g / n
-    le-of-eq-div e l = go (g / n) e
-      where
-        go : (q : ℕ) → q * n + g % n ≡ g → 1 ≤ q
-        go zero w = absurd (omega arith)
-        go (suc q) w = omega arith
-
 -- from day n on there is a black value
 some-value : (s n g : ℕ) → allowedScheme s ≡ true → allowedN n ≡ true → 1 ≤ g → n ≤ g → 1 ≤ length (chains s n g)
-some-value s n g a e l h = rw (chains-through s n g a e) (go s (allowed-scheme-is s a))
-  where
-    one : 1 ≤ g / n
-    one = let p = allowed-n-is n e in one-le-div (p .some) h
-
-    go : (t : ℕ) → (1 ≤ t) × (t ≤ 3) → 1 ≤ through t n g
-    go zero r = absurd (omega (arith, r .0))
-    go (suc zero) r = one
-    go (suc (suc zero)) r = let m = mul-le-mul one (le-add-right 2 (lg n)) in omega arith
-    go (suc (suc (suc zero))) r = let o = ones-small g in let k = digits-small (g / n) in omega arith
-    go (suc (suc (suc (suc t)))) r = absurd (omega (arith, r .1))
+some-value s n g a e l h =
+    let r = allowed-scheme-is s a in
+    let one : 1 ≤ g / n = le-div-iff-mul-le (allowed-n-is n e .some) .1 (omega arith) in
+    let m = mul-le-mul one (le-add-right 2 (lg n)) in
+    let o = ones-small g in
+    let k = digits-small (g / n) in
+    rw (chains-through s n g a e) (by-scheme (λ s. 1 ≤ through s n g) one (omega arith) (omega arith) s (r .0) (r .1))
 
 pub black-value : (s n g : ℕ) {p : ℕ} → allowedScheme s ≡ true → allowedN n ≡ true → 1 ≤ g → n ≤ g → p ≡ length (chains s n g) →
     (1 ≤ p) × (p - 1 ≡ position s n (black g))
@@ -322,14 +225,14 @@ black-value s n g {p} a e l h q =
     (omega arith, v)
 
 pub place : (s n g i : ℕ) {p : ℕ} → p ≡ length (chains s n (g - 1)) → p + i ≡ length (namesThrough s n (pred g)) + i
-place s n g i {p} e = let k : g - 1 ≡ pred g = omega arith in ap (λ (x : ℕ). x + i) (e ∙ ap (λ (x : ℕ). length (chains s n x)) k ∙ namesThrough-length s n (pred g))
+place s n g i {p} e = let k : g - 1 ≡ pred g = omega arith in rw (e, k, namesThrough-length s n (pred g))
 
 -- the weight of a tile chain's bit
 pub weight : (n i : ℕ) → allowedN n ≡ true → i ≤ lg n → (i < 32) × (0 < n / 2 ^ i)
 weight n i e l =
     let p = allowed-n-is n e in
-    let m : 2 ^ i ≤ 2 ^ lg n = pow-mono l in
-    (omega (arith, p .small), one-le-div (pow-pos i) (rw (← (p .power)) at m))
+    let m : 2 ^ i ≤ n = rw (← (p .power)) at (pow-mono l) in
+    (omega (arith, p .small), le-div-iff-mul-le (pow-pos i) .1 (omega arith))
 
 pub covers-by : (n i o : ℕ) → (i ≡ 0 → ⊥) → eqb (o / (n / 2 ^ i) % 2) 0 ≡ covers n i o
 covers-by n zero o h = absurd (h refl)

@@ -1,22 +1,17 @@
 -- How many values a layout has: 01's formulas are the number of chains; and the count through any day.
-use mathlib.Core.Path.{_≡_, refl, sym, ap, _∙_}
-use mathlib.Core.Logic.{_⊎_, inl, inr}
+use mathlib.Core.{Path._≡_, Path.refl, Path.sym, Path.ap, Path._∙_, Logic._⊎_, Logic.inl, Logic.inr}
 use mathlib.Core.Bool.{Bool, true, false, not, _&&_, cond}
 use mathlib.Core.List.{List, [], _∷_, _++_, map, flatMap, Memᴰ·map, Memᴰ·of-map, Memᴰ·cast}
 use Prim.Native.Nat.{ℕ, zero, suc, pred, _+_, _-_, _*_, _/_, _%_, _^_, _≤_, _<_}
 use native.Mathlib.Nat.{mod-one, mod-lt, div-eq-of-lt, mod-self, div-add-mod', suc-mul, add-zero, pow-succ', eq-of-mul-eq-mul-left, mul-le-mul-left, mul-comm, lt-of-not-le}
-use native.Mathlib.Decide.{decLt, decLe, ℕ-discrete}
-use native.Mathlib.Omega.{arith}
-use lib.Dec.{eqb, leb, lit<}
-use lib.Arith.{digits-div, digits-mod}
-use lib.Pow.{pow-pos, pow-mono, pow-add}
-use lib.Count.{ones, ones-step, ones-le}
-use lib.ListN.{length, length-append, length-map}
+use native.Mathlib.{Decide.decLt, Decide.decLe, Decide.ℕ-discrete, Omega.arith}
+use lib.{Dec.eqb, Dec.leb, Dec.lit<, Arith.digits-div, Arith.digits-mod, Pow.pow-pos, Pow.pow-mono, Pow.pow-add}
+use lib.{Count.ones, Count.ones-step, Count.ones-le, ListN.length, ListN.length-append, ListN.length-map}
 use borrow.Author.Tests.{eqb-true, eq-eqb, ne-eqb, leb-true, leb-false}
-use Rattle.lists.specs.Lists.{_among_, upFrom, keep}
+use Rattle.lists.specs.Lists.{upFrom, keep}
 use Rattle.lists.proofs.Laws.{length-upFrom, split, bool-ext, has-mem, mem-has, upFrom-mem, mem-keep}
 use Rattle.layouts.specs.Layouts.{divides, lgIn, lg, Name, black, tile, levels, storedOnce, namesOfDay, namesThrough, coveredDays, chains, valueCount}
-use Rattle.layouts.proofs.Coverage.{namesThrough-suc}
+use Rattle.layouts.proofs.Coverage.{by-scheme, namesThrough-suc}
 
 abbrev pub bit : Bool → ℕ
 bit b = cond b 1 0
@@ -26,24 +21,14 @@ count-suc s n d = rw (namesThrough-suc, length-append)
 
 -- n divides the next number exactly if the quotient grows
 pub div-step : (n d : ℕ) → 0 < n → suc d / n ≡ d / n + bit (divides n (suc d))
-div-step n d p = go (decLt (suc (d % n)) n)
-  where
-    whole : d / n * n + d % n ≡ d
-    whole = div-add-mod' d n
-
-    go : Dec (suc (d % n) < n) → suc d / n ≡ d / n + bit (divides n (suc d))
-    go (yes h) =
-        let e : suc d ≡ d / n * n + suc (d % n) = omega (arith, whole) in
-        let m : suc d % n ≡ suc (d % n) = ap (λ (x : ℕ). x % n) e ∙ digits-mod (d / n) h in
-        let f : divides n (suc d) ≡ false = ne-eqb (suc d % n) 0 (λ z. omega arith) in
-        rw (f, add-zero) (ap (λ (x : ℕ). x / n) e ∙ digits-div (d / n) h)
-    go (no h) =
-        let l : d % n < n = mod-lt d p in
-        let e : suc d ≡ suc (d / n) * n + 0 = omega (arith, whole, suc-mul (d / n) n) in
-        let m : suc d % n ≡ 0 = ap (λ (x : ℕ). x % n) e ∙ digits-mod (suc (d / n)) p in
-        let f : divides n (suc d) ≡ true = eq-eqb (suc d % n) 0 m in
-        let d : suc d / n ≡ suc (d / n) = ap (λ (x : ℕ). x / n) e ∙ digits-div (suc (d / n)) p in
-        rw f (omega arith)
+div-step n d p = let w = div-add-mod' d n in let l = mod-lt d p in elim (decLt (suc (d % n)) n) [
+  | yes h ↦ let e : suc d ≡ d / n * n + suc (d % n) = omega arith in
+      let m : suc d % n ≡ suc (d % n) = ap (λ x. x % n) e ∙ digits-mod (d / n) h in
+      rw (ne-eqb (suc d % n) 0 (λ z. omega arith), add-zero) (ap (λ x. x / n) e ∙ digits-div (d / n) h)
+  | no h ↦ let e : suc d ≡ suc (d / n) * n + 0 = omega (arith, suc-mul (d / n) n) in
+      let m : suc d % n ≡ 0 = ap (λ x. x % n) e ∙ digits-mod (suc (d / n)) p in
+      rw (eq-eqb (suc d % n) 0 m) (ap (λ x. x / n) e ∙ digits-div (suc (d / n)) p ∙ (let q : suc (d / n) ≡ d / n + 1 = omega arith in q))
+]
 
 length-cond : (b : Bool) (x : Name) → length (cond b (x ∷ []) []) ≡ bit b
 length-cond true x = refl
@@ -108,11 +93,7 @@ count-odd h zero i = refl
 count-odd h (suc n) i = rw (odd-divides i h) (count-odd h n (suc i))
 
 parity : (g : ℕ) → (g ≡ 2 * (g / 2)) ⊎ (g ≡ 2 * (g / 2) + 1)
-parity g = go (decLt (g % 2) 1)
-  where
-    go : Dec (g % 2 < 1) → (g ≡ 2 * (g / 2)) ⊎ (g ≡ 2 * (g / 2) + 1)
-    go (yes h) = inl (omega arith)
-    go (no h) = inr (omega arith)
+parity g = elim (decLt (g % 2) 1) [ yes h ↦ inl (omega arith) | no h ↦ inr (omega arith) ]
 
 count-first : (n g : ℕ) → count g (suc n) 0 ≡ 1 + count g n 1
 unfolding count
@@ -120,18 +101,15 @@ count-first n g = let e : divides 1 g ≡ true = eq-eqb (g % 1) 0 (mod-one g) in
 
 count-ones : (n g : ℕ) → 1 ≤ g → g ≤ n → count g n 0 + ones g ≡ 2 + ones (pred g)
 count-ones zero g p l = absurd (omega arith)
-count-ones (suc n) g p l = go (λ a b. count-ones n (g / 2) a b) (parity g)
-  where
-    go : (1 ≤ g / 2 → g / 2 ≤ n → count (g / 2) n 0 + ones (g / 2) ≡ 2 + ones (pred (g / 2))) → (g ≡ 2 * (g / 2)) ⊎ (g ≡ 2 * (g / 2) + 1) → count g (suc n) 0 + ones g ≡ 2 + ones (pred g)
-    go rec (inl e) =
-        let r = rec (omega arith) (omega arith) in
-        let c : count g n 1 ≡ count (g / 2) n 0 = ap (λ (x : ℕ). count x n 1) e ∙ count-even (g / 2) n 0 in
-        let q : ones (pred g / 2) ≡ ones (pred (g / 2)) = ap ones (omega arith) in
-        omega (arith, count-first n g, ones-step g, ones-step (pred g))
-    go rec (inr e) =
-        let c : count g n 1 ≡ 0 = ap (λ (x : ℕ). count x n 1) e ∙ count-odd (g / 2) n 0 in
-        let q : ones (pred g / 2) ≡ ones (g / 2) = ap ones (omega arith) in
-        omega (arith, count-first n g, ones-step g, ones-step (pred g))
+count-ones (suc n) g p l = elim (parity g) [
+  | inl e ↦ let r = count-ones n (g / 2) (omega arith) (omega arith) in
+      let c : count g n 1 ≡ count (g / 2) n 0 = ap (λ x. count x n 1) e ∙ count-even (g / 2) n 0 in
+      let q : ones (pred g / 2) ≡ ones (pred (g / 2)) = ap ones (omega arith) in
+      omega (arith, count-first n g, ones-step g, ones-step (pred g))
+  | inr e ↦ let c : count g n 1 ≡ 0 = ap (λ x. count x n 1) e ∙ count-odd (g / 2) n 0 in
+      let q : ones (pred g / 2) ≡ ones (g / 2) = ap ones (omega arith) in
+      omega (arith, count-first n g, ones-step g, ones-step (pred g))
+]
 
 levels-ones : (g : ℕ) → 1 ≤ g → length (levels g) + ones g ≡ 2 + ones (pred g)
 unfolding count
@@ -144,10 +122,7 @@ below-pow zero = lit< tt
 below-pow (suc l) = let r = below-pow l in omega arith
 
 pub power-of : (g : ℕ) → storedOnce g ≡ true → (l : ℕ) × (2 ^ l ≡ g)
-power-of g e = go (Memᴰ·of-map (λ (l : ℕ). 2 ^ l) (levels g) (has-mem g (map (λ l. 2 ^ l) (levels g)) e))
-  where
-    go : (l : ℕ) × (l among levels g) × (2 ^ l ≡ g) → (l : ℕ) × (2 ^ l ≡ g)
-    go r = (r .0, r .2)
+power-of g e = let r = Memᴰ·of-map (λ l. 2 ^ l) (levels g) (has-mem g (map (λ l. 2 ^ l) (levels g)) e) in (r .0, r .2)
 
 pub of-power : (l g : ℕ) → 2 ^ l ≡ g → storedOnce g ≡ true
 of-power l g e =
@@ -156,50 +131,32 @@ of-power l g e =
     (mem-keep (λ x. divides (2 ^ x) g) (upFrom 0 g) l (upFrom-mem 0 g l (omega arith) (omega arith)) (eq-eqb (g % 2 ^ l) 0 (rw e (mod-self g))))))
 
 pow-lt-inv : {i j : ℕ} → 2 ^ i < 2 ^ j → i < j
-pow-lt-inv {i} {j} h = go (decLt i j)
-  where
-    go : Dec (i < j) → i < j
-    go (yes l) = l
-    go (no n) = let m : 2 ^ j ≤ 2 ^ i = pow-mono (omega arith) in absurd (omega arith)
+pow-lt-inv {i} {j} h = elim (decLt i j) [ yes l ↦ l | no n ↦ let m : 2 ^ j ≤ 2 ^ i = pow-mono (omega arith) in absurd (omega arith) ]
 
 once-scale : (k m : ℕ) → 1 ≤ m → storedOnce (2 ^ k * m) ≡ storedOnce m
-once-scale k m p = bool-ext (storedOnce (2 ^ k * m)) (storedOnce m) (λ e. down (power-of (2 ^ k * m) e)) (λ e. up (power-of m e))
+once-scale k m p = bool-ext (storedOnce (2 ^ k * m)) (storedOnce m) (λ e. let r = power-of (2 ^ k * m) e in down (r .0) (r .1))
+    (λ e. let r = power-of m e in of-power (k + r .0) (2 ^ k * m) (pow-add 2 k (r .0) ∙ rw (r .1)))
   where
-    up : (l : ℕ) × (2 ^ l ≡ m) → storedOnce (2 ^ k * m) ≡ true
-    up r = of-power (k + r .0) (2 ^ k * m) (pow-add 2 k (r .0) ∙ ap (λ (x : ℕ). 2 ^ k * x) (r .1))
-
-    split-off : (l : ℕ) → 2 ^ l ≡ 2 ^ k * m → k ≤ l → storedOnce m ≡ true
-    split-off l e le =
-        let a : k + (l - k) ≡ l = omega arith in
-        let b : 2 ^ k * 2 ^ (l - k) ≡ 2 ^ k * m = sym (pow-add 2 k (l - k)) ∙ ap (λ (x : ℕ). 2 ^ x) a ∙ e in
-        of-power (l - k) m (eq-of-mul-eq-mul-left (2 ^ k) (pow-pos k) (2 ^ (l - k)) m b)
-
-    big : (l : ℕ) → 2 ^ l ≡ 2 ^ k * m → Dec (k ≤ l) → k ≤ l
-    big l e (yes h) = h
-    big l e (no h) =
-        let a : 2 ^ suc l ≤ 2 ^ k = pow-mono (lt-of-not-le h) in
-        let b : 2 ^ k * 1 ≤ 2 ^ k * m = mul-le-mul-left (2 ^ k) p in
-        let c = pow-pos l in
-        absurd (omega arith)
-
-    down : (l : ℕ) × (2 ^ l ≡ 2 ^ k * m) → storedOnce m ≡ true
-    down r = split-off (r .0) (r .1) (big (r .0) (r .1) (decLe k (r .0)))
+    down : (l : ℕ) → 2 ^ l ≡ 2 ^ k * m → storedOnce m ≡ true
+    down l e = elim (decLe k l) [
+      | yes h ↦ let a : k + (l - k) ≡ l = omega arith in
+          of-power (l - k) m (eq-of-mul-eq-mul-left (2 ^ k) (pow-pos k) (2 ^ (l - k)) m (sym (pow-add 2 k (l - k)) ∙ ap (λ x. 2 ^ x) a ∙ e))
+      | no h ↦ let a : 2 ^ suc l ≤ 2 ^ k = pow-mono (lt-of-not-le h) in
+          let b = mul-le-mul-left (2 ^ k) p in
+          let c = pow-pos l in
+          absurd (omega arith)
+    ]
 
 -- ---- lg
 
 lgIn-bounds : (f n : ℕ) → 1 ≤ n → n ≤ f → (2 ^ lgIn f n ≤ n) × (n < 2 ^ suc (lgIn f n))
 lgIn-bounds zero n p l = absurd (omega arith)
-lgIn-bounds (suc f) n p l = go (leb n 1) refl (λ a b. lgIn-bounds f (n / 2) a b)
-  where
-    go : (b : Bool) → leb n 1 ≡ b → (1 ≤ n / 2 → n / 2 ≤ f → (2 ^ lgIn f (n / 2) ≤ n / 2) × (n / 2 < 2 ^ suc (lgIn f (n / 2)))) →
-        (2 ^ cond b 0 (suc (lgIn f (n / 2))) ≤ n) × (n < 2 ^ suc (cond b 0 (suc (lgIn f (n / 2)))))
-    go true e rec = let h : n ≤ 1 = leb-true n 1 e in (p, omega arith)
-    go false e rec =
-        let h : 1 < n = leb-false n 1 e in
-        let r = rec (omega arith) (omega arith) in
-        let a : 2 ^ suc (lgIn f (n / 2)) ≤ n = omega arith in
-        let b : n < 2 ^ suc (suc (lgIn f (n / 2))) = omega arith in
-        (a, b)
+lgIn-bounds (suc f) n p l = elim (split (leb n 1)) [
+  | inl e ↦ let h = leb-true n 1 e in rw e (p, omega arith)
+  | inr e ↦ let h = leb-false n 1 e in let r = lgIn-bounds f (n / 2) (omega arith) (omega arith) in
+      let a : 2 ^ suc (lgIn f (n / 2)) ≤ n = omega arith in
+      let b : n < 2 ^ suc (suc (lgIn f (n / 2))) = omega arith in rw e (a, b)
+]
 
 pub lg-bounds : (n : ℕ) → 1 ≤ n → (2 ^ lg n ≤ n) × (n < 2 ^ suc (lg n))
 unfolding lg
@@ -221,57 +178,37 @@ digits (suc n) = suc (lg (suc n))
 digits-step : (n : ℕ) → digits (suc n) ≡ digits n + bit (storedOnce (suc n))
 unfolding lg
 digits-step zero = refl
-digits-step (suc n) = go (ℕ-discrete (suc (suc n)) (2 ^ suc (lg (suc n))))
-  where
-    go : Dec (suc (suc n) ≡ 2 ^ suc (lg (suc n))) → digits (suc (suc n)) ≡ digits (suc n) + bit (storedOnce (suc (suc n)))
-    go (yes e) =
-        let b = lg-bounds (suc n) (omega arith) in
-        let q : lg (suc (suc n)) ≡ suc (lg (suc n)) = lg-unique (suc (suc n)) (suc (lg (suc n))) (omega arith) (omega (arith, pow-pos (lg (suc n)))) in
-        rw (of-power (suc (lg (suc n))) (suc (suc n)) (sym e)) (omega arith)
-    go (no h) =
-        let b = lg-bounds (suc n) (omega arith) in
-        let q : lg (suc (suc n)) ≡ lg (suc n) = lg-unique (suc (suc n)) (lg (suc n)) (omega arith) (omega arith) in
-        rw (none (split (storedOnce (suc (suc n))))) (omega arith)
-      where
-        between : (l : ℕ) × (2 ^ l ≡ suc (suc n)) → ⊥
-        between r =
-            let b = lg-bounds (suc n) (omega arith) in
+digits-step (suc n) = let b = lg-bounds (suc n) (omega arith) in elim (ℕ-discrete (suc (suc n)) (2 ^ suc (lg (suc n)))) [
+  | yes e ↦ let q = lg-unique (suc (suc n)) (suc (lg (suc n))) (omega arith) (omega (arith, pow-pos (lg (suc n)))) in
+      rw (of-power (suc (lg (suc n))) (suc (suc n)) (sym e)) (omega arith)
+  | no h ↦ let q = lg-unique (suc (suc n)) (lg (suc n)) (omega arith) (omega arith) in
+      let none : storedOnce (suc (suc n)) ≡ false = elim (split (storedOnce (suc (suc n)))) [
+        | inl e ↦ let r = power-of (suc (suc n)) e in
             let c : lg (suc n) < r .0 = pow-lt-inv (omega (arith, r .1)) in
             let d : r .0 < suc (lg (suc n)) = pow-lt-inv (omega (arith, r .1)) in
-            omega arith
-
-        none : (storedOnce (suc (suc n)) ≡ true) ⊎ (storedOnce (suc (suc n)) ≡ false) → storedOnce (suc (suc n)) ≡ false
-        none (inl e) = absurd (between (power-of (suc (suc n)) e))
-        none (inr e) = e
+            absurd (omega arith)
+        | inr e ↦ e
+      ] in rw none (omega arith)
+]
 
 -- ---- the tree's formula
 
 -- of the days that n = 2^k divides, those that are powers of two
 stored-step : (k d : ℕ) → digits (suc d / 2 ^ k) ≡ digits (d / 2 ^ k) + bit (divides (2 ^ k) (suc d) && storedOnce (suc d))
-stored-step k d = go (split (divides (2 ^ k) (suc d)))
-  where
-    step : suc d / 2 ^ k ≡ d / 2 ^ k + bit (divides (2 ^ k) (suc d))
-    step = div-step (2 ^ k) d (pow-pos k)
-
-    go : (divides (2 ^ k) (suc d) ≡ true) ⊎ (divides (2 ^ k) (suc d) ≡ false) →
-        digits (suc d / 2 ^ k) ≡ digits (d / 2 ^ k) + bit (divides (2 ^ k) (suc d) && storedOnce (suc d))
-    go (inl e) =
-        let s : suc d / 2 ^ k ≡ d / 2 ^ k + 1 = rw e at step in
-        let q : suc d / 2 ^ k ≡ suc (d / 2 ^ k) = omega arith in
-        let z : suc d % 2 ^ k ≡ 0 = eqb-true (suc d % 2 ^ k) 0 e in
-        let w : suc d ≡ 2 ^ k * suc (d / 2 ^ k) = omega (arith, div-add-mod' (suc d) (2 ^ k), ap (λ (x : ℕ). x * 2 ^ k) q, mul-comm (2 ^ k) (suc (d / 2 ^ k))) in
-        let v : storedOnce (suc d) ≡ storedOnce (suc (d / 2 ^ k)) = ap storedOnce w ∙ once-scale k (suc (d / 2 ^ k)) (omega arith) in
-        rw (e, v, q) (digits-step (d / 2 ^ k))
-    go (inr e) =
-        let s : suc d / 2 ^ k ≡ d / 2 ^ k + 0 = rw e at step in
-        rw (e, s, add-zero) (omega arith)
+stored-step k d = let step = div-step (2 ^ k) d (pow-pos k) in elim (split (divides (2 ^ k) (suc d))) [
+  | inl e ↦ let s = rw e at step in
+      let q : suc d / 2 ^ k ≡ suc (d / 2 ^ k) = omega arith in
+      let z = eqb-true (suc d % 2 ^ k) 0 e in
+      let w : suc d ≡ 2 ^ k * suc (d / 2 ^ k) = omega (arith, div-add-mod' (suc d) (2 ^ k), ap (λ x. x * 2 ^ k) q, mul-comm (2 ^ k) (suc (d / 2 ^ k))) in
+      rw (e, ap storedOnce w ∙ once-scale k (suc (d / 2 ^ k)) (omega arith), q) (digits-step (d / 2 ^ k))
+  | inr e ↦ let s = rw e at step in rw (e, s, add-zero) (omega arith)
+]
 
 length-tree : (n g : ℕ) → length (namesOfDay 3 n g) ≡ length (levels g) + bit (divides n g && not (storedOnce g))
 length-tree n g = simp (length-append, length-map, length-cond)
 
 bits : (a b : Bool) → bit (a && not b) + bit (a && b) ≡ bit a
-bits true true = refl
-bits true false = refl
+bits true b = elim b [ true ↦ refl | false ↦ refl ]
 bits false b = refl
 
 ones-zero : ones 0 ≡ 0
@@ -315,21 +252,12 @@ digits-small zero = omega arith
 digits-small (suc g) = let b = lg-bounds (suc g) (omega arith) in let p = below-pow (lg (suc g)) in omega arith
 
 pub count-through : (s k g : ℕ) → 1 ≤ s → s ≤ 3 → length (namesThrough s (2 ^ k) g) ≡ through s (2 ^ k) g
-count-through zero k g a b = absurd (omega arith)
-count-through (suc zero) k g a b = count-black (2 ^ k) g (pow-pos k)
-count-through (suc (suc zero)) k g a b = count-tile (2 ^ k) g (pow-pos k)
-count-through (suc (suc (suc zero))) k g a b = omega (arith, count-tree-sum k g, ones-small g)
-count-through (suc (suc (suc (suc s)))) k g a b = absurd (omega arith)
-
--- where d / n is not 0, this is 01's formula
-through-formula : (s n d : ℕ) → 1 ≤ d / n → through s n d ≡ valueCount s n d
-through-formula zero n d p = refl
-through-formula (suc zero) n d p = refl
-through-formula (suc (suc zero)) n d p = refl
-through-formula (suc (suc (suc zero))) n d p = ap (λ (x : ℕ). 2 * d - ones d + d / n - x) (digits-lg (d / n) p)
-through-formula (suc (suc (suc (suc s)))) n d p = refl
+count-through s k g = by-scheme (λ s. length (namesThrough s (2 ^ k) g) ≡ through s (2 ^ k) g)
+    (count-black (2 ^ k) g (pow-pos k)) (count-tile (2 ^ k) g (pow-pos k)) (omega (arith, count-tree-sum k g, ones-small g)) s
 
 -- 01's number of values is the number of chains
 pub values-length : (s k d : ℕ) → 1 ≤ s → s ≤ 3 → 1 ≤ d / 2 ^ k → valueCount s (2 ^ k) d ≡ length (chains s (2 ^ k) d)
 unfolding chains
-values-length s k d a b p = sym (length-map (namesThrough s (2 ^ k) d) (coveredDays (2 ^ k)) ∙ count-through s k d a b ∙ through-formula s (2 ^ k) d p)
+values-length s k d a b p =
+    let formula = by-scheme (λ s. through s (2 ^ k) d ≡ valueCount s (2 ^ k) d) refl refl (rw (digits-lg (d / 2 ^ k) p)) s a b in
+    sym (length-map (namesThrough s (2 ^ k) d) (coveredDays (2 ^ k)) ∙ count-through s k d a b ∙ formula)

@@ -1,26 +1,32 @@
 -- What the chains of the three layouts cover: days 1 to d only; every day; in the tree each day alone. The chains of d days
 -- are the front of those of more.
-use mathlib.Core.Path.{_≡_, refl, sym, ap, _∙_}
-use mathlib.Core.Logic.{_⊎_, inl, inr}
+use mathlib.Core.{Path._≡_, Path.refl, Path.sym, Path.ap, Path._∙_, Logic.inl, Logic.inr}
 use mathlib.Core.Bool.{Bool, true, false, cond}
-use mathlib.Core.List.{List, [], _∷_, _++_, map, flatMap, map-append, append-assoc, append-nil, List·Memᴰ·head, List·Memᴰ·tail, List·Memᴰ·append-cases, List·Memᴰ·eq-of-singleton, Memᴰ·append-left, Memᴰ·append-right, Memᴰ·map, Memᴰ·of-map, Memᴰ·cast}
-use Prim.Native.Nat.{ℕ, zero, suc, _+_, _-_, _%_, _^_, _≤_, _<_}
-use native.Mathlib.Nat.{mod-eq-of-lt, mod-one, lt-of-not-le, add-zero, add-suc}
-use native.Mathlib.Decide.{decLe}
-use native.Mathlib.Omega.{arith}
+use mathlib.Core.List.{List, [], _∷_, _++_, map, flatMap, map-append, append-assoc, append-nil, List·Memᴰ·head, List·Memᴰ·tail}
+use mathlib.Core.List.{List·Memᴰ·append-cases, List·Memᴰ·eq-of-singleton, Memᴰ·append-left, Memᴰ·append-right, Memᴰ·map, Memᴰ·of-map, Memᴰ·cast}
+use Prim.Native.Nat.{ℕ, zero, suc, _+_, _-_, _%_, _^_, _≤_}
+use native.Mathlib.{Nat.mod-eq-of-lt, Nat.mod-one, Nat.lt-of-not-le, Nat.add-zero, Nat.add-suc, Decide.decLe, Omega.arith}
 use borrow.Author.Tests.{eqb-true, eq-eqb}
 use Rattle.lists.specs.Lists.{_among_, upFrom}
 use Rattle.evidence.specs.Evidence.{days, Within}
-use Rattle.lists.proofs.Laws.{upFrom-snoc, has-mem, upFrom-mem, upFrom-bounds, keep-mem, mem-keep}
-use Rattle.layouts.specs.Layouts.{divides, lg, Name, black, tile, tree, lastDays, offset, covers, coveredDays, levels, storedOnce, storesBlackOfTree, namesOfDay, namesThrough, chainsOfDay, chains}
+use Rattle.lists.proofs.Laws.{split, and-both, upFrom-snoc, has-mem, upFrom-mem, upFrom-bounds, keep-mem, mem-keep}
+use Rattle.layouts.specs.Layouts.{divides, lg, Name, black, tile, tree, lastDays, offset, covers, coveredDays, levels}
+use Rattle.layouts.specs.Layouts.{storedOnce, storesBlackOfTree, namesOfDay, namesThrough, chainsOfDay, chains}
+
+-- what holds of each scheme holds of all
+pub by-scheme : (P : ℕ → Type 0) → P 1 → P 2 → P 3 → (s : ℕ) → 1 ≤ s → s ≤ 3 → P s
+by-scheme P x y z zero a b = absurd (omega arith)
+by-scheme P x y z (suc zero) a b = x
+by-scheme P x y z (suc (suc zero)) a b = y
+by-scheme P x y z (suc (suc (suc zero))) a b = z
+by-scheme P x y z (suc (suc (suc (suc s)))) a b = absurd (omega arith)
 
 -- a divisor of a number that is not 0 is no greater
 pub divisor-le : (w g : ℕ) → 1 ≤ g → divides w g ≡ true → w ≤ g
-divisor-le w g p e = go (decLe w g)
-  where
-    go : Dec (w ≤ g) → w ≤ g
-    go (yes h) = h
-    go (no h) = let z = eqb-true (g % w) 0 e in let l : g % w ≡ g = mod-eq-of-lt (lt-of-not-le h) in absurd (omega arith)
+divisor-le w g p e = elim (decLe w g) [
+  | yes h ↦ h
+  | no h ↦ let z = eqb-true (g % w) 0 e in let l : g % w ≡ g = mod-eq-of-lt (lt-of-not-le h) in absurd (omega arith)
+]
 
 lastDays-within : (n g : ℕ) → n ≤ g → Within g (lastDays n g)
 lastDays-within n g l x m = let b = upFrom-bounds (suc (g - n)) n x m in omega arith
@@ -29,49 +35,48 @@ pub cond-mem : (b : Bool) (xs : List Name) {x : Name} → x among cond b xs [] �
 cond-mem true xs m = (refl, m)
 cond-mem false xs m = elim m [ ]
 
--- ---- the names that close at g: which they are, by cases
+-- ---- the names that close at g: what holds of each holds of all
+
+pub of-day-1 : (P : Name → Type 0) (n g : ℕ) → (divides n g ≡ true → P (black g)) → (x : Name) → x among namesOfDay 1 n g → P x
+of-day-1 P n g f x m = let o = cond-mem (divides n g) (black g ∷ []) m in rw (List·Memᴰ·eq-of-singleton (o .1)) (f (o .0))
+
+pub of-day-2 : (P : Name → Type 0) (n g : ℕ) → (divides n g ≡ true → P (black g)) → ((i : ℕ) → divides n g ≡ true → i ≤ lg n → P (tile i g)) →
+    (x : Name) → x among namesOfDay 2 n g → P x
+of-day-2 P n g f h x m =
+    let tiles = map (λ i. tile i g) (upFrom 0 (suc (lg n))) in
+    let o = cond-mem (divides n g) (tiles ++ (black g ∷ [])) m in
+    elim (List·Memᴰ·append-cases tiles (o .1)) [
+      | inl k ↦ let y = Memᴰ·of-map (λ i. tile i g) (upFrom 0 (suc (lg n))) k in
+          let l = upFrom-bounds 0 (suc (lg n)) (y .0) (y .1) in rw (← (y .2)) (h (y .0) (o .0) (omega arith))
+      | inr k ↦ rw (List·Memᴰ·eq-of-singleton k) (f (o .0))
+    ]
+
+pub of-day-3 : (P : Name → Type 0) (n g : ℕ) → (divides n g ≡ true → P (black g)) → ((l : ℕ) → divides (2 ^ l) g ≡ true → P (tree l g)) →
+    (x : Name) → x among namesOfDay 3 n g → P x
+of-day-3 P n g f h x m = elim (List·Memᴰ·append-cases (map (λ l. tree l g) (levels g)) m) [
+  | inl k ↦ let y = Memᴰ·of-map (λ l. tree l g) (levels g) k in rw (← (y .2)) (h (y .0) (keep-mem (λ l. divides (2 ^ l) g) (upFrom 0 g) (y .0) (y .1) .1))
+  | inr k ↦ let o = cond-mem (storesBlackOfTree n g) (black g ∷ []) k in
+      rw (List·Memᴰ·eq-of-singleton (o .1)) (f (and-both (divides n g) _ (o .0) .0))
+]
 
 -- a name of the scheme at day g covers days 1 to g only
 pub namesOfDay-within : (s n g : ℕ) → 1 ≤ g → (x : Name) → x among namesOfDay s n g → Within g (coveredDays n x)
-namesOfDay-within zero n g p x m = elim m [ ]
-namesOfDay-within (suc zero) n g p x m =
-    let r = cond-mem (divides n g) (black g ∷ []) m in
-    rw (List·Memᴰ·eq-of-singleton (r .1)) (lastDays-within g g (omega arith))
-namesOfDay-within (suc (suc zero)) n g p x m =
-    go (List·Memᴰ·append-cases (map (λ (i : ℕ). tile i g) (upFrom 0 (suc (lg n)))) (cond-mem (divides n g) (map (λ i. tile i g) (upFrom 0 (suc (lg n))) ++ (black g ∷ [])) m .1))
-  where
-    small : n ≤ g
-    small = divisor-le n g p (cond-mem (divides n g) (map (λ i. tile i g) (upFrom 0 (suc (lg n))) ++ (black g ∷ [])) m .0)
-
-    part : (i : ℕ) × (i among upFrom 0 (suc (lg n))) × (tile i g ≡ x) → Within g (coveredDays n x)
-    part r = rw (← (r .2)) (λ d k. lastDays-within n g small d (keep-mem (λ day. covers n (r .0) (offset n day)) (lastDays n g) d k .0))
-
-    go : (x among map (λ (i : ℕ). tile i g) (upFrom 0 (suc (lg n)))) ⊎ (x among (black g ∷ [])) → Within g (coveredDays n x)
-    go (inl k) = part (Memᴰ·of-map (λ (i : ℕ). tile i g) (upFrom 0 (suc (lg n))) k)
-    go (inr k) = rw (List·Memᴰ·eq-of-singleton k) (lastDays-within g g (omega arith))
-namesOfDay-within (suc (suc (suc zero))) n g p x m = go (List·Memᴰ·append-cases (map (λ (l : ℕ). tree l g) (levels g)) m)
-  where
-    part : (l : ℕ) × (l among levels g) × (tree l g ≡ x) → Within g (coveredDays n x)
-    part r = rw (← (r .2)) (lastDays-within (2 ^ (r .0)) g (divisor-le (2 ^ (r .0)) g p (keep-mem (λ l. divides (2 ^ l) g) (upFrom 0 g) (r .0) (r .1) .1)))
-
-    go : (x among map (λ (l : ℕ). tree l g) (levels g)) ⊎ (x among cond (storesBlackOfTree n g) (black g ∷ []) []) → Within g (coveredDays n x)
-    go (inl k) = part (Memᴰ·of-map (λ (l : ℕ). tree l g) (levels g) k)
-    go (inr k) = rw (List·Memᴰ·eq-of-singleton (cond-mem (storesBlackOfTree n g) (black g ∷ []) k .1)) (lastDays-within g g (omega arith))
-namesOfDay-within (suc (suc (suc (suc s)))) n g p x m = elim m [ ]
+namesOfDay-within zero n g p = λ x m. elim m [ ]
+namesOfDay-within (suc zero) n g p = of-day-1 (λ x. Within g (coveredDays n x)) n g (λ e. lastDays-within g g (omega arith))
+namesOfDay-within (suc (suc zero)) n g p = of-day-2 (λ x. Within g (coveredDays n x)) n g (λ e. lastDays-within g g (omega arith))
+    (λ i e l d k. lastDays-within n g (divisor-le n g p e) d (keep-mem (λ day. covers n i (offset n day)) (lastDays n g) d k .0))
+namesOfDay-within (suc (suc (suc zero))) n g p = of-day-3 (λ x. Within g (coveredDays n x)) n g (λ e. lastDays-within g g (omega arith))
+    (λ l e. lastDays-within (2 ^ l) g (divisor-le (2 ^ l) g p e))
+namesOfDay-within (suc (suc (suc (suc s)))) n g p = λ x m. elim m [ ]
 
 -- a name of the layout closes at one of its days
 namesOfDay-at : (s n : ℕ) (gs : List ℕ) (x : Name) → x among flatMap (namesOfDay s n) gs → (g : ℕ) × (g among gs) × (x among namesOfDay s n g)
 unfolding flatMap
 namesOfDay-at s n [] x m = elim m [ ]
-namesOfDay-at s n (g ∷ gs) x m = go (λ k. namesOfDay-at s n gs x k) (List·Memᴰ·append-cases (namesOfDay s n g) m)
-  where
-    later : (y : ℕ) × (y among gs) × (x among namesOfDay s n y) → (y : ℕ) × (y among (g ∷ gs)) × (x among namesOfDay s n y)
-    later r = (r .0, List·Memᴰ·tail (r .1), r .2)
-
-    go : (x among flatMap (namesOfDay s n) gs → (y : ℕ) × (y among gs) × (x among namesOfDay s n y)) → (x among namesOfDay s n g) ⊎ (x among flatMap (namesOfDay s n) gs) →
-        (y : ℕ) × (y among (g ∷ gs)) × (x among namesOfDay s n y)
-    go rec (inl k) = (g, List·Memᴰ·head refl, k)
-    go rec (inr k) = later (rec k)
+namesOfDay-at s n (g ∷ gs) x m = elim (List·Memᴰ·append-cases (namesOfDay s n g) m) [
+  | inl k ↦ (g, List·Memᴰ·head refl, k)
+  | inr k ↦ let r = namesOfDay-at s n gs x k in (r .0, List·Memᴰ·tail (r .1), r .2)
+]
 
 namesOfDay-in : (s n : ℕ) {g : ℕ} {gs : List ℕ} → g among gs → (x : Name) → x among namesOfDay s n g → x among flatMap (namesOfDay s n) gs
 unfolding flatMap
@@ -90,38 +95,25 @@ namesThrough-in s n d m x k = namesOfDay-in s n m x k
 
 pub chains-within : (s n d : ℕ) (c : List ℕ) → c among chains s n d → Within d c
 unfolding chains
-chains-within s n d c m = go (Memᴰ·of-map (coveredDays n) (namesThrough s n d) m)
-  where
-    at : (x : Name) → coveredDays n x ≡ c → (g : ℕ) × (g among days d) × (x among namesOfDay s n g) → Within d c
-    at x e r y k =
-        let b = upFrom-bounds 1 d (r .0) (r .1) in
-        let w = namesOfDay-within s n (r .0) (omega arith) x (r .2) y (rw (← e) at k) in
-        omega arith
-
-    go : (x : Name) × (x among namesThrough s n d) × (coveredDays n x ≡ c) → Within d c
-    go r = at (r .0) (r .2) (namesThrough-at s n d (r .0) (r .1))
+chains-within s n d c m y k =
+    let o = Memᴰ·of-map (coveredDays n) (namesThrough s n d) m in
+    let r = namesThrough-at s n d (o .0) (o .1) in
+    let b = upFrom-bounds 1 d (r .0) (r .1) in
+    let w = namesOfDay-within s n (r .0) (omega arith) (o .0) (r .2) y (rw (← (o .2)) at k) in
+    omega arith
 
 -- ---- black, and every day
 
 -- where n divides the day, the chain over days 1 to g closes at g
 pub black-closes : (s n g : ℕ) → 1 ≤ s → s ≤ 3 → 1 ≤ g → divides n g ≡ true → (x : Name) × (x among namesOfDay s n g) × (coveredDays n x ≡ lastDays g g)
-black-closes zero n g a b p e = absurd (omega arith)
-black-closes (suc zero) n g a b p e = (black g, rw e (List·Memᴰ·head refl), refl)
-black-closes (suc (suc zero)) n g a b p e =
-    (black g, rw e (Memᴰ·append-right (map (λ (i : ℕ). tile i g) (upFrom 0 (suc (lg n)))) (List·Memᴰ·head refl)), refl)
-black-closes (suc (suc (suc zero))) n g a b p e = go (storedOnce g) refl
-  where
-    once : (l : ℕ) × (l among levels g) × (2 ^ l ≡ g) → (x : Name) × (x among namesOfDay 3 n g) × (coveredDays n x ≡ lastDays g g)
-    once r = (
-      tree (r .0) g,
-      Memᴰ·append-left (cond (storesBlackOfTree n g) (black g ∷ []) []) (Memᴰ·map (λ (l : ℕ). tree l g) (r .1)),
-      ap (λ (w : ℕ). lastDays w g) (r .2),
-    )
-
-    go : (b : Bool) → storedOnce g ≡ b → (x : Name) × (x among namesOfDay 3 n g) × (coveredDays n x ≡ lastDays g g)
-    go true h = once (Memᴰ·of-map (λ (l : ℕ). 2 ^ l) (levels g) (has-mem g (map (λ l. 2 ^ l) (levels g)) h))
-    go false h = (black g, Memᴰ·append-right (map (λ (l : ℕ). tree l g) (levels g)) (rw (e, h) (List·Memᴰ·head refl)), refl)
-black-closes (suc (suc (suc (suc s)))) n g a b p e = absurd (omega arith)
+black-closes s n g a b p e = by-scheme (λ s. (x : Name) × (x among namesOfDay s n g) × (coveredDays n x ≡ lastDays g g))
+    (black g, rw e (List·Memᴰ·head refl), refl)
+    (black g, rw e (Memᴰ·append-right (map (λ i. tile i g) (upFrom 0 (suc (lg n)))) (List·Memᴰ·head refl)), refl)
+    (elim (split (storedOnce g)) [
+      | inl h ↦ let r = Memᴰ·of-map (λ l. 2 ^ l) (levels g) (has-mem g (map (λ l. 2 ^ l) (levels g)) h) in
+          (tree (r .0) g, Memᴰ·append-left (cond (storesBlackOfTree n g) (black g ∷ []) []) (Memᴰ·map (λ l. tree l g) (r .1)), ap (λ w. lastDays w g) (r .2))
+      | inr h ↦ (black g, Memᴰ·append-right (map (λ l. tree l g) (levels g)) (rw (e, h) (List·Memᴰ·head refl)), refl)
+    ]) s a b
 
 -- every day is covered
 pub chains-cover : (s n d : ℕ) → 1 ≤ s → s ≤ 3 → divides n d ≡ true → (g : ℕ) → g among days d → (c : List ℕ) × (c among chains s n d) × (g among c)
@@ -139,13 +131,10 @@ pub tree-single : (n d g : ℕ) → g among days d → (g ∷ []) among chains 3
 unfolding chains
 tree-single n d g m =
     let b = upFrom-bounds 1 d g m in
-    Memᴰ·cast (lone b) (Memᴰ·map (coveredDays n) (namesThrough-in 3 n d m (tree 0 g) (Memᴰ·append-left (cond (storesBlackOfTree n g) (black g ∷ []) []) (Memᴰ·map (λ (l : ℕ). tree l g) (none b)))))
-  where
-    lone : (1 ≤ g) × (g < 1 + d) → g ∷ [] ≡ lastDays 1 g
-    lone b = let q : g ≡ suc (g - 1) = omega arith in ap (λ (x : ℕ). x ∷ []) q
-
-    none : (1 ≤ g) × (g < 1 + d) → 0 among levels g
-    none b = mem-keep (λ l. divides (2 ^ l) g) (upFrom 0 g) 0 (upFrom-mem 0 g 0 (omega arith) (omega arith)) (eq-eqb (g % 1) 0 (mod-one g))
+    let q : g ≡ suc (g - 1) = omega arith in
+    let none = mem-keep (λ l. divides (2 ^ l) g) (upFrom 0 g) 0 (upFrom-mem 0 g 0 (omega arith) (omega arith)) (eq-eqb (g % 1) 0 (mod-one g)) in
+    Memᴰ·cast (ap (λ x. x ∷ []) q)
+    (Memᴰ·map (coveredDays n) (namesThrough-in 3 n d m (tree 0 g) (Memᴰ·append-left (cond (storesBlackOfTree n g) (black g ∷ []) []) (Memᴰ·map (λ l. tree l g) none))))
 
 -- ---- the chains of d days are the front of those of more
 
@@ -164,11 +153,8 @@ namesThrough-suc s n d =
 pub namesThrough-add : (s n d k : ℕ) → (rest : List Name) × (namesThrough s n (d + k) ≡ namesThrough s n d ++ rest)
 namesThrough-add s n d zero = ([], rw (add-zero, append-nil))
 namesThrough-add s n d (suc k) =
-    let r = namesThrough-add s n d k in (
-      r .0 ++ namesOfDay s n (suc (d + k)),
-      ap (namesThrough s n) (add-suc d k) ∙ namesThrough-suc s n (d + k) ∙ ap (λ (z : List Name). z ++ namesOfDay s n (suc (d + k))) (r .1) ∙
-          append-assoc (namesThrough s n d) (r .0) (namesOfDay s n (suc (d + k))),
-    )
+    let r = namesThrough-add s n d k in
+    (r .0 ++ namesOfDay s n (suc (d + k)), rw (add-suc d k, namesThrough-suc s n (d + k), r .1, append-assoc))
 
 pub chains-suc : (s n d : ℕ) → chains s n (suc d) ≡ chains s n d ++ chainsOfDay s n (suc d)
 unfolding chains chainsOfDay
@@ -180,7 +166,4 @@ chains-add s n d k =
     let r = namesThrough-add s n d k in (map (coveredDays n) (r .0), ap (map (coveredDays n)) (r .1) ∙ map-append (coveredDays n) (namesThrough s n d) (r .0))
 
 pub chains-front : (s n d e : ℕ) → d ≤ e → (rest : List (List ℕ)) × (chains s n e ≡ chains s n d ++ rest)
-chains-front s n d e l =
-    let r = chains-add s n d (e - d) in
-    let q : e ≡ d + (e - d) = omega arith in
-    (r .0, ap (chains s n) q ∙ r .1)
+chains-front s n d e l = let q : d + (e - d) ≡ e = omega arith in rw q at (chains-add s n d (e - d))

@@ -1,57 +1,39 @@
 -- Where values stand in the book: the position of a name indexes the chains.
-use mathlib.Core.Path.{_≡_, refl, sym, ap, _∙_}
-use mathlib.Core.Logic.{_⊎_, inl, inr}
-use mathlib.Core.Bool.{Bool, true, false, cond}
-use mathlib.Core.List.{List, [], _∷_, _++_, map}
+use mathlib.Core.{Path._≡_, Path.refl, Path.sym, Path.ap, Path._∙_, Logic.inl, Logic.inr, Bool.Bool}
+use mathlib.Core.{Bool.true, Bool.false, Bool.cond, List.List, List.[], List._∷_, List._++_, List.map}
 use Prim.Native.Nat.{ℕ, zero, suc, _+_, _-_, _*_, _/_, _%_, _^_, _≤_, _<_}
-use native.Mathlib.Nat.{pow-succ', div-add-mod', mul-assoc, zero-add}
-use native.Mathlib.Omega.{arith}
-use lib.Arith.{digits-mod}
+use native.Mathlib.{Nat.pow-succ', Nat.div-add-mod', Nat.zero-add, Omega.arith}
+use lib.{Arith.digits-mod, Pow.pow-pos, Seq.getD-append-add}
 use lib.ListN.{length, getD, length-append, length-map, List·getD-append, List·getD-map}
-use lib.Pow.{pow-pos}
-use lib.Seq.{getD-append-add}
 use borrow.Author.Tests.{eqb-true, eq-eqb}
 use Rattle.lists.specs.Lists.{_among_, upFrom, keep}
 use Rattle.lists.proofs.Laws.{split, true-or-false, upFrom-mem, upFrom-bounds, mem-keep, length-upFrom}
 use Rattle.layouts.specs.Layouts.{divides, lg, Name, black, tile, tree, coveredDays, levels, storesBlackOfTree, namesOfDay, namesThrough, chains}
 use Rattle.layouts.specs.Private.{position}
-use Rattle.layouts.proofs.Coverage.{divisor-le, namesThrough-suc, namesThrough-add}
-use Rattle.layouts.proofs.Counts.{below-pow}
+use Rattle.layouts.proofs.{Coverage.divisor-le, Coverage.namesThrough-suc, Coverage.namesThrough-add, Counts.below-pow}
 
 -- ---- the numbers that pass a test are the first ones, where each number below one that passes does
 
+-- and none from one on that does not
 keep-none : (p : ℕ → Bool) → ((l : ℕ) → p (suc l) ≡ true → p l ≡ true) → (i k : ℕ) → p i ≡ false → keep p (upFrom i k) ≡ []
 keep-none p down i zero e = refl
-keep-none p down i (suc k) e = rw e (keep-none p down (suc i) k (go (split (p (suc i)))))
-  where
-    go : (p (suc i) ≡ true) ⊎ (p (suc i) ≡ false) → p (suc i) ≡ false
-    go (inl h) = absurd (true-or-false (down i h) e)
-    go (inr h) = h
+keep-none p down i (suc k) e = rw e (elim (split (p (suc i))) [ inl h ↦ absurd (true-or-false (down i h) e) | inr h ↦ keep-none p down (suc i) k h ])
 
 keep-first : (p : ℕ → Bool) → ((l : ℕ) → p (suc l) ≡ true → p l ≡ true) → (i k : ℕ) → keep p (upFrom i k) ≡ upFrom i (length (keep p (upFrom i k)))
 keep-first p down i zero = refl
-keep-first p down i (suc k) = go (p i) refl (keep-first p down (suc i) k)
-  where
-    go : (b : Bool) → p i ≡ b → keep p (upFrom (suc i) k) ≡ upFrom (suc i) (length (keep p (upFrom (suc i) k))) →
-        cond b (i ∷ keep p (upFrom (suc i) k)) (keep p (upFrom (suc i) k)) ≡ upFrom i (length (cond b (i ∷ keep p (upFrom (suc i) k)) (keep p (upFrom (suc i) k))))
-    go true e rec = ap (λ (r : List ℕ). i ∷ r) rec
-    go false e rec = rw (keep-none p down (suc i) k (up (split (p (suc i)))))
-      where
-        up : (p (suc i) ≡ true) ⊎ (p (suc i) ≡ false) → p (suc i) ≡ false
-        up (inl h) = absurd (true-or-false (down i h) e)
-        up (inr h) = h
-
-twice-pow : (q l : ℕ) → q * 2 ^ suc l ≡ q * 2 * 2 ^ l
-twice-pow q l = ap (λ (x : ℕ). q * x) (pow-succ' 2 l) ∙ sym (mul-assoc q 2 (2 ^ l))
+keep-first p down i (suc k) = elim (split (p i)) [
+  | inl e ↦ rw e (ap (λ r. i ∷ r) (keep-first p down (suc i) k))
+  | inr e ↦ rw (keep-none p down i (suc k) e)
+]
 
 -- a number that 2^(l + 1) divides, 2^l divides
 pub divides-half : (l g : ℕ) → divides (2 ^ suc l) g ≡ true → divides (2 ^ l) g ≡ true
 divides-half l g e =
-    let z : g % 2 ^ suc l ≡ 0 = eqb-true (g % 2 ^ suc l) 0 e in
-    let d : g / 2 ^ suc l * 2 ^ suc l + g % 2 ^ suc l ≡ g = div-add-mod' g (2 ^ suc l) in
-    let m : g / 2 ^ suc l * 2 ^ suc l ≡ g / 2 ^ suc l * 2 * 2 ^ l = twice-pow (g / 2 ^ suc l) l in
+    let z = eqb-true (g % 2 ^ suc l) 0 e in
+    let d = div-add-mod' g (2 ^ suc l) in
+    let m : g / 2 ^ suc l * 2 ^ suc l ≡ g / 2 ^ suc l * 2 * 2 ^ l = rw (pow-succ' 2 l) (omega arith) in
     let w : g ≡ g / 2 ^ suc l * 2 * 2 ^ l + 0 = omega arith in
-    eq-eqb (g % 2 ^ l) 0 (ap (λ (x : ℕ). x % 2 ^ l) w ∙ digits-mod (g / 2 ^ suc l * 2) (pow-pos l))
+    eq-eqb (g % 2 ^ l) 0 (ap (λ x. x % 2 ^ l) w ∙ digits-mod (g / 2 ^ suc l * 2) (pow-pos l))
 
 -- the levels at a day are 0, 1 and so on
 pub levels-run : (g : ℕ) → levels g ≡ upFrom 0 (length (levels g))
@@ -62,17 +44,16 @@ levels-run g = keep-first (λ l. divides (2 ^ l) g) (λ l e. divides-half l g e)
 pub getD-upFrom : (i k j d : ℕ) → j < k → getD (upFrom i k) j d ≡ i + j
 getD-upFrom i zero j d l = absurd (omega arith)
 getD-upFrom i (suc k) zero d l = omega arith
-getD-upFrom i (suc k) (suc j) d l = getD-upFrom (suc i) k j d (omega arith) ∙ (let e : suc i + j ≡ i + suc j = omega arith in e)
+getD-upFrom i (suc k) (suc j) d l = let r = getD-upFrom (suc i) k j d (omega arith) in omega arith
 
 -- the place of a name among the values of its day goes over to the book
 pub in-day : (s n g d i : ℕ) (z : Name) → g < d → i < length (namesOfDay s n (suc g)) → getD (namesThrough s n d) (length (namesThrough s n g) + i) z ≡ getD (namesOfDay s n (suc g)) i z
 in-day s n g d i z l h =
     let r = namesThrough-add s n (suc g) (d - suc g) in
     let q : d ≡ suc g + (d - suc g) = omega arith in
-    let e : namesThrough s n d ≡ namesThrough s n (suc g) ++ r .0 = ap (namesThrough s n) q ∙ r .1 in
     let b : length (namesThrough s n g) + i < length (namesThrough s n (suc g)) = rw (namesThrough-suc s n g, length-append) (omega arith) in
-    ap (λ (x : List Name). getD x (length (namesThrough s n g) + i) z) e ∙ List·getD-append (namesThrough s n (suc g)) (r .0) z (length (namesThrough s n g) + i) b ∙
-    ap (λ (x : List Name). getD x (length (namesThrough s n g) + i) z) (namesThrough-suc s n g) ∙ getD-append-add (namesThrough s n g) (namesOfDay s n (suc g)) i z
+    ap (λ x. getD x (length (namesThrough s n g) + i) z) (ap (namesThrough s n) q ∙ r .1) ∙ List·getD-append (namesThrough s n (suc g)) (r .0) z (length (namesThrough s n g) + i) b ∙
+    rw (namesThrough-suc s n g) (getD-append-add (namesThrough s n g) (namesOfDay s n (suc g)) i z)
 
 getD-map-in : {A : Type 0} (f : ℕ → A) (l : List ℕ) (i d : ℕ) (z : A) → i < length l → getD (map f l) i z ≡ f (getD l i d)
 getD-map-in f [] i d z h = absurd (omega arith)

@@ -1,14 +1,11 @@
 -- Laws of the days of a ledger.
-use mathlib.Core.Path.{_≡_, refl, sym, ap, _∙_}
-use mathlib.Core.Logic.{_⊎_, inl, inr}
+use mathlib.Core.{Path._≡_, Path.refl, Path.sym, Path._∙_, Logic.inl, Logic.inr}
 use mathlib.Core.List.{List, [], _∷_, _++_, map-append}
 use Prim.Native.Nat.{ℕ, zero, suc, _+_, _-_, _≤_, _<_}
-use native.Mathlib.Nat.{eq-or-lt-of-le, le-refl}
-use native.Mathlib.Omega.{arith}
+use native.Mathlib.{Nat.eq-or-lt-of-le, Nat.le-refl, Omega.arith}
 use lib.ListN.{length, getD, take, drop, length-append, length-drop, List·getD-append}
 use lib.Seq.{take-take, getD-take, getD-at, length-take-le}
-use Rattle.ledger.specs.Ledger.{startOf, endOf, dayAt, upTo, daysOf}
-use Rattle.ledger.specs.Private.{EndsHold}
+use Rattle.ledger.specs.{Ledger.startOf, Ledger.endOf, Ledger.dayAt, Ledger.upTo, Ledger.daysOf, Private.EndsHold}
 use Rattle.ledger.proofs.EndLaws.{start-ascends, start-front}
 
 -- ---- one after the other
@@ -29,15 +26,11 @@ days-length ledger ends (suc d) = rw (days-snoc, length-append, days-length ledg
 -- the day of index i
 pub days-at : (ledger ends : List ℕ) (d i : ℕ) → i < d → getD (daysOf ledger ends d) i [] ≡ dayAt ledger ends i
 days-at ledger ends zero i l = absurd (omega arith)
-days-at ledger ends (suc d) i l = go (λ m. days-at ledger ends d i m) (eq-or-lt-of-le l)
-  where
-    go : (i < d → getD (daysOf ledger ends d) i [] ≡ dayAt ledger ends i) → (suc i ≡ suc d) ⊎ (suc i < suc d) → getD (daysOf ledger ends (suc d)) i [] ≡ dayAt ledger ends i
-    go rec (inl e) =
-        let q : d ≡ i = omega arith in
-        rw days-snoc (getD-at (daysOf ledger ends d) (dayAt ledger ends d) [] [] i (days-length ledger ends d ∙ q) ∙ ap (dayAt ledger ends) q)
-    go rec (inr m) =
-        let n : i < d = omega arith in
-        rw days-snoc (List·getD-append (daysOf ledger ends d) (dayAt ledger ends d ∷ []) [] i (rw days-length n) ∙ rec n)
+days-at ledger ends (suc d) i l = elim (eq-or-lt-of-le l) [
+  | inl e ↦ let q : i ≡ d = omega arith in rw (days-snoc, q) (getD-at (daysOf ledger ends d) (dayAt ledger ends d) [] [] d (days-length ledger ends d))
+  | inr m ↦ let n : i < d = omega arith in
+      rw days-snoc (List·getD-append (daysOf ledger ends d) (dayAt ledger ends d ∷ []) [] i (rw days-length n) ∙ days-at ledger ends d i n)
+]
 
 -- ---- under good ends
 

@@ -1,18 +1,12 @@
 -- Laws of the ends of days, and of the refusals 9 and 10.
-use mathlib.Core.Path.{_≡_, refl, sym, ap, _∙_}
-use mathlib.Core.Logic.{_⊎_, inl, inr}
-use mathlib.Core.Bool.{Bool, true, false, _&&_}
+use mathlib.Core.{Path._≡_, Path.refl, Path.sym, Path._∙_, Logic.inl, Logic.inr, Bool.Bool, Bool.true, Bool.false, Bool._&&_}
 use mathlib.Core.List.{List}
 use Prim.Native.Nat.{ℕ, zero, suc, _+_, _-_, _≤_, _<_}
-use native.Mathlib.Nat.{eq-or-lt-of-le, le-refl}
-use native.Mathlib.Numerals.{add-one}
-use native.Mathlib.Omega.{arith}
-use lib.Dec.{leb}
-use lib.ListN.{length, take}
-use lib.Seq.{getD-take, take-all, length-take-le}
+use native.Mathlib.{Nat.eq-or-lt-of-le, Nat.le-refl, Numerals.add-one, Omega.arith}
+use lib.{Dec.leb, ListN.length, ListN.take, Seq.getD-take, Seq.take-all, Seq.length-take-le}
 use borrow.Author.Tests.{leb-true, leb-false, le-leb, lt-leb}
 use Rattle.refusals.specs.Refusals.{dayLimit}
-use Rattle.lists.proofs.Laws.{true-or-false, and-both}
+use Rattle.lists.proofs.Laws.{split, true-or-false, and-both}
 use Rattle.refusals.proofs.TestLaws.{none-fails}
 use Rattle.ledger.specs.Ledger.{startOf, endOf, goodEnd, goodEnds, endsTests, endsRefusal}
 use Rattle.ledger.specs.Private.{EndsHold}
@@ -32,21 +26,16 @@ end-good s e size p q r = rw (le-leb s e p, le-leb e size q, le-leb (e - s) dayL
 -- every day but day 1 starts where the one before ends
 pub start-later : (ends : List ℕ) (i : ℕ) → 1 ≤ i → startOf ends i ≡ endOf ends (i - 1)
 start-later ends zero h = absurd (omega arith)
-start-later ends (suc i) h = ap (endOf ends) (let e : i ≡ suc i - 1 = omega arith in e)
+start-later ends (suc i) h = let e : suc i - 1 ≡ i = omega arith in rw e
 
 -- ---- the first d ends
 
 -- the test of the first d ends is the test of each
 pub good-at : (d : ℕ) (ends : List ℕ) (size i : ℕ) → goodEnds d ends size ≡ true → i < d → goodEnd (startOf ends i) (endOf ends i) size ≡ true
 good-at zero ends size i h l = absurd (omega arith)
-good-at (suc d) ends size i h l = go (λ m. good-at d ends size i (b .0) m) (eq-or-lt-of-le l)
-  where
-    b : (goodEnds d ends size ≡ true) × (goodEnd (startOf ends d) (endOf ends d) size ≡ true)
-    b = and-both (goodEnds d ends size) (goodEnd (startOf ends d) (endOf ends d) size) h
-
-    go : (i < d → goodEnd (startOf ends i) (endOf ends i) size ≡ true) → (suc i ≡ suc d) ⊎ (suc i < suc d) → goodEnd (startOf ends i) (endOf ends i) size ≡ true
-    go rec (inl e) = let q : i ≡ d = omega arith in rw q (b .1)
-    go rec (inr m) = rec (omega arith)
+good-at (suc d) ends size i h l =
+    let b = and-both (goodEnds d ends size) (goodEnd (startOf ends d) (endOf ends d) size) h in
+    elim (eq-or-lt-of-le l) [ inl e ↦ let q : i ≡ d = omega arith in rw q (b .1) | inr m ↦ good-at d ends size i (b .0) (omega arith) ]
 
 pub at-good : (d : ℕ) (ends : List ℕ) (size : ℕ) → ((i : ℕ) → i < d → goodEnd (startOf ends i) (endOf ends i) size ≡ true) → goodEnds d ends size ≡ true
 at-good zero ends size f = refl
@@ -58,11 +47,7 @@ good-more ends size i p q = rw (p, q)
 
 -- one that is not, among the first d
 pub bad-at : (d : ℕ) (ends : List ℕ) (size i : ℕ) → i < d → goodEnd (startOf ends i) (endOf ends i) size ≡ false → goodEnds d ends size ≡ false
-bad-at d ends size i l e = go (goodEnds d ends size) refl
-  where
-    go : (b : Bool) → goodEnds d ends size ≡ b → b ≡ false
-    go true h = absurd (true-or-false (good-at d ends size i h l) e)
-    go false h = refl
+bad-at d ends size i l e = elim (split (goodEnds d ends size)) [ inl h ↦ absurd (true-or-false (good-at d ends size i h l) e) | inr h ↦ h ]
 
 -- ---- the refusal
 
@@ -99,12 +84,7 @@ refusal-none d ends size e =
     let t = none-fails (endsTests d ends size) refl e in
     let g : (i : ℕ) → i < d → (startOf ends i ≤ endOf ends i) × (endOf ends i ≤ size) × (endOf ends i - startOf ends i ≤ dayLimit) =
     λ i l. good-end (startOf ends i) (endOf ends i) size (good-at d ends size i (t .1 .0) l) in
-    record {
-      enough = leb-true d (length ends) (t .0);
-      ascend = λ i l. g i l .0;
-      within = λ i l. g i l .1;
-      limited = λ i l. g i l .2;
-    }
+    record { enough = leb-true d (length ends) (t .0); ascend = λ i l. g i l .0; within = λ i l. g i l .1; limited = λ i l. g i l .2 }
 
 pub none-refusal : (d : ℕ) (ends : List ℕ) (size : ℕ) → EndsHold d ends size → endsRefusal d ends size ≡ 0
 none-refusal d ends size h =
@@ -115,16 +95,11 @@ none-refusal d ends size h =
 
 -- starts ascend
 pub start-ascends : (d : ℕ) (ends : List ℕ) → ((i : ℕ) → i < d → startOf ends i ≤ endOf ends i) → (i : ℕ) → i ≤ d → startOf ends i ≤ startOf ends d
-start-ascends zero ends a zero l = omega arith
-start-ascends zero ends a (suc i) l = absurd (omega arith)
-start-ascends (suc d) ends a i l = go (λ m. start-ascends d ends (λ k n. a k (omega arith)) i m) (eq-or-lt-of-le l)
-  where
-    go : (i ≤ d → startOf ends i ≤ startOf ends d) → (i ≡ suc d) ⊎ (i < suc d) → startOf ends i ≤ startOf ends (suc d)
-    go rec (inl e) = rw e (le-refl (startOf ends (suc d)))
-    go rec (inr m) =
-        let p = rec (omega arith) in
-        let q = a d (omega arith) in
-        omega arith
+start-ascends zero ends a i l = let e : i ≡ 0 = omega arith in rw e (omega arith)
+start-ascends (suc d) ends a i l = elim (eq-or-lt-of-le l) [
+  | inl e ↦ rw e (le-refl (startOf ends (suc d)))
+  | inr m ↦ let p = start-ascends d ends (λ k n. a k (omega arith)) i (omega arith) in let q = a d (omega arith) in omega arith
+]
 
 -- ---- what is read
 
@@ -146,10 +121,7 @@ read-enough d ends size l =
 
 -- the refusal looks at the first d ends only
 pub refusal-read : (d : ℕ) (ends : List ℕ) (size : ℕ) → endsRefusal d ends size ≡ endsRefusal d (take d ends) size
-refusal-read d ends size = go (leb d (length ends)) refl
-  where
-    go : (b : Bool) → leb d (length ends) ≡ b → endsRefusal d ends size ≡ endsRefusal d (take d ends) size
-    go true e = read-enough d ends size (leb-true d (length ends) e)
-    go false e =
-        let l = leb-false d (length ends) e in
-        rw (take-all d ends (omega arith))
+refusal-read d ends size = elim (split (leb d (length ends))) [
+  | inl e ↦ read-enough d ends size (leb-true d (length ends) e)
+  | inr e ↦ let l = leb-false d (length ends) e in rw (take-all d ends (omega arith))
+]

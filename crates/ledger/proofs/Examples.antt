@@ -1,6 +1,5 @@
 -- Ends at 01's limits, computed: what the definitions say of them.
-use mathlib.Core.Path.{_≡_, refl}
-use mathlib.Core.List.{[], _∷_}
+use mathlib.Core.{Path._≡_, Path.refl, List.[], List._∷_}
 use Rattle.ledger.specs.Ledger.{daysOf, endsRefusal}
 
 -- an end equal to the ledger's length is allowed, and so is an empty day; one more is 10

@@ -9,8 +9,7 @@ use Rattle.lists.specs.Lists.{_among_, joined}
 use Rattle.lists.proofs.Laws.{joined-append, joined-one, joined-single}
 use Rattle.refusals.specs.Refusals.{dayLimit}
 use Rattle.ledger.specs.Ledger.{startOf, endOf, dayAt, daysOf, endsFrom, endsRefusal}
-use Rattle.ledger.proofs.EndLaws.{none-refusal}
-use Rattle.ledger.proofs.DayLaws.{days-length, days-at}
+use Rattle.ledger.proofs.{EndLaws.none-refusal, DayLaws.days-length, DayLaws.days-at}
 
 -- the bytes of the first i days
 total : List (List ℕ) → ℕ → ℕ
@@ -40,13 +39,10 @@ module _ (E : List (List ℕ)) where
 
   grows : (i : ℕ) → i < length E → total E (suc i) ≡ total E i + length (getD E i [])
   unfolding total
-  grows i h =
-      ap (λ (l : List (List ℕ)). length (joined l)) (take-suc E i [] h) ∙ ap length
-      (joined-append (take i E) (getD E i [] ∷ []) ∙ ap (λ (r : List ℕ). joined (take i E) ++ r) (joined-single (getD E i []))) ∙
-      length-append (joined (take i E)) (getD E i [])
+  grows i h = rw (take-suc E i [] h, joined-append, joined-single, length-append)
 
   parts : (i : ℕ) → i < length E → joined E ≡ joined (take i E) ++ (getD E i [] ++ joined (drop (suc i) E))
-  parts i h = ap joined (split-at E i [] h) ∙ joined-append (take i E) (getD E i [] ∷ drop (suc i) E) ∙ ap (λ (r : List ℕ). joined (take i E) ++ r) (joined-one (getD E i []) (drop (suc i) E))
+  parts i h = ap joined (split-at E i [] h) ∙ rw (joined-append, joined-one)
 
   day-is : (i : ℕ) → i < length E → dayAt (joined E) ends i ≡ getD E i []
   unfolding total

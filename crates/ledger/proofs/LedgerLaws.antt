@@ -1,7 +1,5 @@
 -- The tests with which checking a ledger and sealing one begin.
-use mathlib.Core.Path.{_≡_, refl, sym, _∙_}
-use mathlib.Core.Bool.{true}
-use mathlib.Core.List.{List, _++_}
+use mathlib.Core.{Path._≡_, Path.refl, Path.sym, Path._∙_, Bool.true, List.List}
 use Prim.Native.Nat.{ℕ, _≤_}
 use Rattle.refusals.specs.Refusals.{bookLimit}
 use Rattle.refusals.proofs.TestLaws.{none-fails, all-pass, pass-split, refused-before, refused-after}

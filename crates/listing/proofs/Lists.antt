@@ -1,27 +1,19 @@
 -- The lists of an interval, of the intervals in turn and of the tree's maximal chains in turn are the days listed locally.
-use mathlib.Core.Path.{_≡_, refl, sym, ap, _∙_}
-use mathlib.Core.Bool.{Bool, true, false, cond}
-use mathlib.Core.List.{List, [], _++_, append-nil}
-use Prim.Native.Nat.{ℕ, zero, suc, pred, _+_, _-_, _*_, _/_, _%_, _^_, _≤_, _<_}
-use native.Mathlib.Nat.{pow-succ', suc-mul, mul-assoc, div-one, div-eq-of-lt, div-mul-le-self}
-use native.Mathlib.Decide.{ℕ-discrete}
-use native.Mathlib.Omega.{arith}
-use lib.Dec.{eqb}
-use lib.ListN.{length}
-use lib.Pow.{shr-shr}
+use mathlib.Core.{Path._≡_, Path.sym, Path._∙_, Bool.Bool, Bool.true, Bool.false, List.List, List.[], List._++_, List.append-nil}
+use Prim.Native.Nat.{ℕ, suc, pred, _+_, _-_, _*_, _/_, _%_, _^_, _≤_, _<_}
+use native.Mathlib.{Nat.pow-succ', Nat.suc-mul, Nat.div-one, Nat.div-eq-of-lt, Nat.div-mul-le-self, Decide.ℕ-discrete, Numerals.add-one, Omega.arith}
+use lib.{ListN.length, Pow.shr-shr}
 use borrow.Author.Tests.{eq-eqb, ne-eqb}
 use Rattle.lists.specs.Lists.{upFrom, keep}
 use Rattle.evidence.specs.Evidence.{days}
 use Rattle.lists.proofs.Laws.{and-both, length-upFrom}
 use Rattle.layouts.specs.Layouts.{divides, allowedScheme, lg, black, tile, lastDays}
-use Rattle.layouts.proofs.AllowedLaws.{allowed-n-is, allowed-scheme-is}
-use Rattle.layouts.proofs.Coverage.{divisor-le}
+use Rattle.layouts.proofs.{AllowedLaws.allowed-n-is, AllowedLaws.allowed-scheme-is, Coverage.divisor-le}
 use Rattle.acceptance.specs.Private.{Table, Interval, Chain, passes, levelsRule, rules, blocksRule, tileBit, isListed}
 use Rattle.listing.specs.Private.{Tile, tileDays, treeDays, topDays}
 use Rattle.buffers.specs.Private.{Wrote}
-use Rattle.acceptance.proofs.Runs.{keep-length, div-whole}
+use Rattle.acceptance.proofs.{Runs.keep-length, Runs.div-whole, Steps.interval-number, Steps.interval-end, Steps.chain-of}
 use Rattle.listing.proofs.Walks.{run-none, run-all, tile-none, tile-days, tree-days, days-block}
-use Rattle.acceptance.proofs.Steps.{interval-number, interval-end, chain-of}
 use Rattle.buffers.proofs.Writes.{wrote-none, wrote-length, wrote-join}
 
 -- ---- an interval
@@ -37,11 +29,10 @@ black-none n g t h e f =
 pub black-all : (n g : ℕ) (t : List ℕ) {r : Bool} → Interval 1 n g t → r ≡ passes 1 n t (black g) → r ≡ false → keep (isListed 1 n t) (lastDays n g) ≡ upFrom (g - n + 1) (g + 1 - (g - n + 1))
 black-all n g t h e f =
     let q = interval-number h in
-    let a : keep (isListed 1 n t) (lastDays n g) ≡ lastDays n g = rw q at (run-all n (pred (g / n)) t (rw q (sym e ∙ f))) in
     let l = interval-room h in
-    let b : suc (g - n) ≡ g - n + 1 = omega arith in
-    let c : n ≡ g + 1 - (g - n + 1) = omega arith in
-    a ∙ ap (λ (x : ℕ). upFrom x n) b ∙ ap (upFrom (g - n + 1)) c
+    let b : g - n + 1 ≡ suc (g - n) = omega arith in
+    let c : g + 1 - suc (g - n) ≡ n = omega arith in
+    rw (b, c) (rw q at (run-all n (pred (g / n)) t (rw q (sym e ∙ f))))
 
 pub tile-whole : (n g : ℕ) (t : List ℕ) {r : Bool} → Interval 2 n g t → r ≡ passes 2 n t (tile 0 g) → r ≡ true → keep (isListed 2 n t) (lastDays n g) ≡ []
 tile-whole n g t h e f =
@@ -52,39 +43,20 @@ pub tile-failed : (n g : ℕ) (t : List ℕ) {k : ℕ} {r : Bool} → Interval 2
     keep (isListed 2 n t) (lastDays n g) ≡ tileDays (tileBit n t g) k (g - n + 1)
 tile-failed n g t h e f z =
     let q = interval-number h in
-    let w = allowed-n-is n (h .has .n-ok) in
-    let a : keep (isListed 2 n t) (lastDays n g) ≡ tileDays (tileBit n t g) (lg n) (suc (g - n)) = rw q at (tile-days n (pred (g / n)) t w (rw q (sym e ∙ f))) in
-    let b : suc (g - n) ≡ g - n + 1 = omega arith in
-    a ∙ ap (tileDays (tileBit n t g) (lg n)) b ∙ ap (λ (x : ℕ). tileDays (tileBit n t g) x (g - n + 1)) (sym z)
+    let b : g - n + 1 ≡ suc (g - n) = omega arith in
+    rw (b, z) (rw q at (tile-days n (pred (g / n)) t (allowed-n-is n (h .has .n-ok)) (rw q (sym e ∙ f))))
 
 pub tile-start : (n g k at m : ℕ) {t : List ℕ} → Interval 2 n g t → at + n ≤ m → k ≡ lg n → Tile n g k (g - n + 1) t × (at + 2 ^ k ≤ m)
 tile-start n g k at m h l e =
-    let w = allowed-n-is n (h .has .n-ok) in
     let q = interval-room h in
-    let p : 2 ^ k ≡ n = ap (λ (x : ℕ). 2 ^ x) e ∙ sym (w .power) in
+    let p : 2 ^ k ≡ n = rw e (sym (allowed-n-is n (h .has .n-ok) .power)) in
     (record { at = h; level = omega arith; fits = omega arith }, omega arith)
 
 pub scheme-is-2 : (s : ℕ) → allowedScheme s ≡ true → s ≤ 2 → (s ≡ 1 → ⊥) → s ≡ 2
-scheme-is-2 s a l f = go s (allowed-scheme-is s a) l f
-  where
-    go : (x : ℕ) → (1 ≤ x) × (x ≤ 3) → x ≤ 2 → (x ≡ 1 → ⊥) → x ≡ 2
-    go zero b u v = absurd (omega (arith, b .0))
-    go (suc zero) b u v = absurd (v refl)
-    go (suc (suc zero)) b u v = refl
-    go (suc (suc (suc x))) b u v = absurd (omega arith)
+scheme-is-2 s a l f = let b = allowed-scheme-is s a in omega arith
 
 pub below-third : (s : ℕ) → allowedScheme s ≡ true → (s ≡ 3 → ⊥) → s ≤ 2
-below-third s a f = go s (allowed-scheme-is s a) f
-  where
-    go : (x : ℕ) → (1 ≤ x) × (x ≤ 3) → (x ≡ 3 → ⊥) → x ≤ 2
-    go zero b u = omega arith
-    go (suc zero) b u = omega arith
-    go (suc (suc zero)) b u = omega arith
-    go (suc (suc (suc zero))) b u = absurd (u refl)
-    go (suc (suc (suc (suc x)))) b u = absurd (omega (arith, b .1))
-
-pub isListed-as : (s n : ℕ) (t xs : List ℕ) (k : ℕ) → s ≡ k → keep (isListed s n t) xs ≡ keep (isListed k n t) xs
-isListed-as s n t xs k e = rw e
+below-third s a f = let b = allowed-scheme-is s a in omega arith
 
 -- ---- the intervals in turn
 
@@ -92,7 +64,7 @@ kept-within : (p : ℕ → Bool) (d : ℕ) → length (keep p (days d)) ≤ d
 kept-within p d = let a = keep-length p (days d) in let b = length-upFrom 1 d in omega arith
 
 pub none-yet : (p : ℕ → Bool) (x : ℕ) (l : List ℕ) → x ≡ 0 → Wrote 0 (keep p (days x)) l 0 l
-none-yet p x l e = wrote-none 0 (keep p (days x)) l (ap (λ (y : ℕ). keep p (days y)) e)
+none-yet p x l e = wrote-none 0 (keep p (days x)) l (rw e)
 
 pub so-far-length : (p : ℕ → Bool) (x d r : ℕ) (l m : List ℕ) → x ≤ d → d ≤ length l → Wrote 0 (keep p (days x)) l r m → length m ≡ length l
 so-far-length p x d r l m a b u = let c = kept-within p x in wrote-length 0 r (keep p (days x)) l m u (omega arith)
@@ -111,71 +83,41 @@ next-place p n d k r l m a b u =
 pub next-interval : (p : ℕ → Bool) (n d k b r : ℕ) (l m y : List ℕ) → k < d / n → d ≤ length l → Wrote 0 (keep p (days (k * n))) l b m → Wrote b (keep p (lastDays n ((k + 1) * n))) m r y →
     Wrote 0 (keep p (days ((k + 1) * n))) l r y
 next-interval p n d k b r l m y a h u v =
-    let e : k + 1 ≡ suc k = omega arith in
     let c = interval-end n d (suc k) a in
     let f = kept-within p (suc k * n) in
-    let w : Wrote b (keep p (lastDays n (suc k * n))) m r y = rw e at v in
-    rw e (wrote-join 0 (keep p (days (suc k * n))) (keep p (days (k * n))) (keep p (lastDays n (suc k * n))) l m y b r (days-block p n k) (omega arith) u w)
+    rw add-one (wrote-join 0 (keep p (days (suc k * n))) (keep p (days (k * n))) (keep p (lastDays n (suc k * n))) l m y b r (days-block p n k) (omega arith) u (rw add-one at v))
 
 pub all-intervals : (p : ℕ → Bool) (n d k r : ℕ) (l m : List ℕ) → divides n d ≡ true → k ≤ d / n → d / n ≤ k → Wrote 0 (keep p (days (k * n))) l r m → Wrote 0 (keep p (days d)) l r m
-all-intervals p n d k r l m w a b u =
-    let e : k ≡ d / n = omega arith in
-    let f : k * n ≡ d = ap (λ (x : ℕ). x * n) e ∙ div-whole n d w in
-    rw f at u
+all-intervals p n d k r l m w a b u = let e : k ≡ d / n = omega arith in rw (e, div-whole n d w) at u
 
 -- ---- the tree's maximal chains in turn
 
 -- the chains of level l and above make up the days through d / 2^l * 2^l
 odd-even : (d l : ℕ) → d / 2 ^ l ≡ d / 2 ^ suc l + d / 2 ^ suc l + d / 2 ^ l % 2
-odd-even d l =
-    let a : l + 1 ≡ suc l = omega arith in
-    let b : d / 2 ^ l / 2 ≡ d / 2 ^ suc l = shr-shr d l 1 ∙ ap (λ (x : ℕ). d / 2 ^ x) a in
-    omega arith
+odd-even d l = let b : d / 2 ^ l / 2 ≡ d / 2 ^ suc l = shr-shr d l 1 ∙ rw add-one in omega arith
 
 twice : (q l : ℕ) → (q + q) * 2 ^ l ≡ q * 2 ^ suc l
-twice q l =
-    let a : q + q ≡ q * 2 = omega arith in
-    ap (λ (x : ℕ). x * 2 ^ l) a ∙ mul-assoc q 2 (2 ^ l) ∙ ap (λ (x : ℕ). q * x) (sym (pow-succ' 2 l))
+twice q l = rw (pow-succ' 2 l) (omega arith)
 
 top-even : (d l : ℕ) → d / 2 ^ l % 2 ≡ 0 → d / 2 ^ l * 2 ^ l ≡ d / 2 ^ suc l * 2 ^ suc l
-top-even d l z =
-    let o = odd-even d l in
-    let e : d / 2 ^ l ≡ d / 2 ^ suc l + d / 2 ^ suc l = omega arith in
-    ap (λ (x : ℕ). x * 2 ^ l) e ∙ twice (d / 2 ^ suc l) l
+top-even d l z = let o = odd-even d l in let e : d / 2 ^ l ≡ d / 2 ^ suc l + d / 2 ^ suc l = omega arith in rw e (twice (d / 2 ^ suc l) l)
 
 top-odd : (d l : ℕ) → (d / 2 ^ l % 2 ≡ 0 → ⊥) → d / 2 ^ l ≡ suc (d / 2 ^ suc l + d / 2 ^ suc l)
-top-odd d l z = go (d / 2 ^ l % 2) refl
-  where
-    go : (r : ℕ) → d / 2 ^ l % 2 ≡ r → d / 2 ^ l ≡ suc (d / 2 ^ suc l + d / 2 ^ suc l)
-    go zero e = absurd (z e)
-    go (suc r) e = let o = odd-even d l in omega arith
+top-odd d l z = let o = odd-even d l in omega arith
 
 top-end : (d l : ℕ) → (d / 2 ^ l % 2 ≡ 0 → ⊥) → d / 2 ^ l * 2 ^ l ≡ d / 2 ^ suc l * 2 ^ suc l + 2 ^ l
-top-end d l z =
-    ap (λ (x : ℕ). x * 2 ^ l) (top-odd d l z) ∙ suc-mul (d / 2 ^ suc l + d / 2 ^ suc l) (2 ^ l) ∙
-    ap (λ (x : ℕ). x + 2 ^ l) (twice (d / 2 ^ suc l) l)
+top-end d l z = rw (top-odd d l z, suc-mul, twice)
 
 module _ (n d : ℕ) (t : List ℕ) (small : d ≤ 65536) (r : levelsRule n d t ≡ true) (l : ℕ) where
   top-step : keep (isListed 3 n t) (days (d / 2 ^ l * 2 ^ l)) ≡ keep (isListed 3 n t) (days (d / 2 ^ suc l * 2 ^ suc l)) ++ topDays n d t l
   unfolding topDays
-  top-step = go (ℕ-discrete (d / 2 ^ l % 2) 0)
-    where
-      p : ℕ → Bool
-      p = isListed 3 n t
-
-      q : ℕ
-      q = d / 2 ^ suc l
-
-      go : Dec (d / 2 ^ l % 2 ≡ 0) → keep p (days (d / 2 ^ l * 2 ^ l)) ≡ keep p (days (q * 2 ^ suc l)) ++ cond (eqb (d / 2 ^ l % 2) 0) [] (treeDays n t l (d / 2 ^ l * 2 ^ l))
-      go (yes z) = rw (eq-eqb (d / 2 ^ l % 2) 0 z) (ap (λ (x : ℕ). keep p (days x)) (top-even d l z) ∙ sym (append-nil (keep p (days (q * 2 ^ suc l)))))
-      go (no z) =
-          let o : d / 2 ^ l ≡ suc (q + q) = top-odd d l z in
-          let b : d / 2 ^ l * 2 ^ l ≤ d = div-mul-le-self d (2 ^ l) in
-          let c : suc (q + q) * 2 ^ l ≤ d = rw o at b in
-          rw (ne-eqb (d / 2 ^ l % 2) 0 z)
-          (ap (λ (x : ℕ). keep p (days (x * 2 ^ l))) o ∙ days-block p (2 ^ l) (q + q) ∙
-          ap (λ (x : ℕ). keep p (days x) ++ keep p (lastDays (2 ^ l) (suc (q + q) * 2 ^ l))) (twice q l) ∙
-          ap (λ (x : List ℕ). keep p (days (q * 2 ^ suc l)) ++ x) (tree-days n d t small r l (q + q) c ∙ ap (λ (x : ℕ). treeDays n t l (x * 2 ^ l)) (sym o)))
+  top-step = elim (ℕ-discrete (d / 2 ^ l % 2) 0) [
+    | yes z ↦ rw (eq-eqb (d / 2 ^ l % 2) 0 z, top-even d l z) (sym (append-nil (keep (isListed 3 n t) (days (d / 2 ^ suc l * 2 ^ suc l)))))
+    | no z ↦ let q = d / 2 ^ suc l in
+        let o : d / 2 ^ l ≡ suc (q + q) = top-odd d l z in
+        let c : suc (q + q) * 2 ^ l ≤ d = rw o at (div-mul-le-self d (2 ^ l)) in
+        rw (ne-eqb (d / 2 ^ l % 2) 0 z, o) (days-block (isListed 3 n t) (2 ^ l) (q + q) ∙ rw (twice q l, tree-days n d t small r l (q + q) c))
+  ]
 
 -- one level
 pub top-none : (n d l w : ℕ) (t : List ℕ) → w ≡ 2 ^ l → d / w % 2 ≡ 0 → topDays n d t l ≡ []
@@ -207,10 +149,9 @@ pub level-place : (p : ℕ → Bool) (d l r : ℕ) (k m : List ℕ) → 0 < l �
     (d ≤ length m) × (r ≤ d / 2 ^ suc (l - 1) * 2 ^ suc (l - 1))
 level-place p d l r k m a b u =
     let e : suc (l - 1) ≡ l = omega arith in
-    let c : d / 2 ^ l * 2 ^ l ≤ d = div-mul-le-self d (2 ^ l) in
-    let f = so-far-length p (d / 2 ^ l * 2 ^ l) d r k m c b u in
+    let f = so-far-length p (d / 2 ^ l * 2 ^ l) d r k m (div-mul-le-self d (2 ^ l)) b u in
     let g = so-far-place p (d / 2 ^ l * 2 ^ l) r k m u in
-    rw e (omega arith, omega arith)
+    rw e (omega arith)
 
 pub next-level : (n d : ℕ) (t : List ℕ) → d ≤ 65536 → levelsRule n d t ≡ true → (l b r : ℕ) (k m y : List ℕ) → 0 < l → d ≤ length k →
     Wrote 0 (keep (isListed 3 n t) (days (d / 2 ^ l * 2 ^ l))) k b m → Wrote b (topDays n d t (l - 1)) m r y → Wrote 0 (keep (isListed 3 n t) (days (d / 2 ^ (l - 1) * 2 ^ (l - 1)))) k r y
@@ -228,9 +169,9 @@ level-length p d l r k m b u = so-far-length p (d / 2 ^ l * 2 ^ l) d r k m (div-
 pub all-levels : (p : ℕ → Bool) (d l r : ℕ) (k m : List ℕ) → l ≤ 0 → Wrote 0 (keep p (days (d / 2 ^ l * 2 ^ l))) k r m → Wrote 0 (keep p (days d)) k r m
 all-levels p d l r k m a u =
     let e : l ≡ 0 = omega arith in
-    let f : d / 2 ^ l * 2 ^ l ≡ d = ap (λ (x : ℕ). d / 2 ^ x * 2 ^ x) e ∙ (let g = div-one d in omega arith) in
+    let f : d / 2 ^ l * 2 ^ l ≡ d = rw e (let g = div-one d in omega arith) in
     rw f at u
 
 pub rules-levels : (s n d : ℕ) (t : List ℕ) → s ≡ 3 → rules s n d t ≡ true → levelsRule n d t ≡ true
 unfolding rules
-rules-levels s n d t e r = let q : rules 3 n d t ≡ true = rw e at r in and-both (blocksRule 3 n d t) (levelsRule n d t) q .1
+rules-levels s n d t e r = and-both (blocksRule 3 n d t) (levelsRule n d t) (rw e at r) .1

@@ -1,16 +1,13 @@
 -- What the functions that write the list need: what was written after what, and the walks by their steps.
-use mathlib.Core.Path.{_≡_, refl, sym, ap, _∙_}
-use mathlib.Core.Bool.{Bool, true, false, cond}
+use mathlib.Core.{Path._≡_, Path.refl, Path.ap, Path._∙_, Logic.inl, Logic.inr, Bool.Bool, Bool.true, Bool.false}
 use mathlib.Core.List.{List, [], _∷_, _++_}
 use Prim.Native.Nat.{ℕ, zero, suc, _+_, _-_, _^_, _≤_, _<_}
-use native.Mathlib.Nat.{pow-succ'}
-use native.Mathlib.Omega.{arith}
-use lib.ListN.{length, set, length-append}
-use lib.Pow.{pow-pos}
+use native.Mathlib.{Nat.pow-succ', Omega.arith}
+use lib.{ListN.length, ListN.set, ListN.length-append, Pow.pow-pos}
 use Rattle.lists.specs.Lists.{upFrom}
 use Rattle.layouts.specs.Layouts.{lg, tree}
 use Rattle.layouts.proofs.AllowedLaws.{allowed-n-is}
-use Rattle.lists.proofs.Laws.{upFrom-snoc, length-upFrom}
+use Rattle.lists.proofs.Laws.{split, upFrom-snoc, length-upFrom}
 use Rattle.acceptance.specs.Private.{Chain, passes}
 use Rattle.buffers.proofs.Writes.{wrote-none, wrote-one, wrote-length, wrote-join}
 use Rattle.listing.specs.Private.{Tile, tileDays, treeDays}
@@ -20,7 +17,7 @@ use Rattle.acceptance.proofs.Steps.{chain-left, chain-right, chain-room}
 -- ---- a run of days
 
 pub run-start : (first at : ℕ) (l : List ℕ) → Wrote at (upFrom first (first - first)) l at l
-run-start first at l = let e : first - first ≡ 0 = omega arith in wrote-none at (upFrom first (first - first)) l (ap (upFrom first) e)
+run-start first at l = let e : first - first ≡ 0 = omega arith in wrote-none at (upFrom first (first - first)) l (rw e)
 
 run-bound : (first day at : ℕ) (l : List ℕ) → at + (day - first) ≤ length l → at + length (upFrom first (day - first)) ≤ length l
 run-bound first day at l h = omega (arith, length-upFrom first (day - first))
@@ -39,7 +36,7 @@ run-next first day end at p l m a b h u =
     let e : day + 1 - first ≡ suc (day - first) = omega arith in
     let f : first + (day - first) ≡ day = omega arith in
     wrote-join at (upFrom first (day + 1 - first)) (upFrom first (day - first)) (day ∷ []) l m (set m p day) p (p + 1)
-    (ap (upFrom first) e ∙ upFrom-snoc first (day - first) ∙ ap (λ (x : ℕ). upFrom first (day - first) ++ (x ∷ [])) f)
+    (ap (upFrom first) e ∙ upFrom-snoc first (day - first) ∙ rw f)
     (run-bound first (day + 1) at l (omega arith)) u (wrote-one p day (day ∷ []) m refl (q .0))
 
 pub run-length : (first day end at p : ℕ) (l m : List ℕ) → first ≤ day → day ≤ end → at + (end - first) ≤ length l → Wrote at (upFrom first (day - first)) l p m → length m ≡ length l
@@ -52,16 +49,13 @@ run-end first day end at p l m a b u = let e : day ≡ end = omega arith in rw e
 
 tree-size : (n : ℕ) (t : List ℕ) (l g : ℕ) → length (treeDays n t l g) ≤ 2 ^ l
 unfolding treeDays
-tree-size n t zero g = go (passes 3 n t (tree 0 g))
-  where
-    go : (b : Bool) → length (cond b [] (g ∷ [])) ≤ 2 ^ 0
-    go true = omega arith
-    go false = omega arith
-tree-size n t (suc l) g = go (passes 3 n t (tree (suc l) g)) (tree-size n t l (g - 2 ^ l)) (tree-size n t l g)
-  where
-    go : (b : Bool) → length (treeDays n t l (g - 2 ^ l)) ≤ 2 ^ l → length (treeDays n t l g) ≤ 2 ^ l → length (cond b [] (treeDays n t l (g - 2 ^ l) ++ treeDays n t l g)) ≤ 2 ^ suc l
-    go true x y = omega arith
-    go false x y = let e = pow-succ' 2 l in omega (arith, length-append (treeDays n t l (g - 2 ^ l)) (treeDays n t l g))
+tree-size n t zero g = elim (split (passes 3 n t (tree 0 g))) [ inl e ↦ rw e (omega arith) | inr e ↦ rw e (omega arith) ]
+tree-size n t (suc l) g =
+    let x = tree-size n t l (g - 2 ^ l) in
+    let y = tree-size n t l g in
+    let z = length-append (treeDays n t l (g - 2 ^ l)) (treeDays n t l g) in
+    let p = pow-succ' 2 l in
+    elim (split (passes 3 n t (tree (suc l) g))) [ inl e ↦ rw e (omega arith) | inr e ↦ rw e (omega arith) ]
 
 pub tree-none : (n l g : ℕ) (t : List ℕ) {r : Bool} → r ≡ passes 3 n t (tree l g) → r ≡ true → treeDays n t l g ≡ []
 unfolding treeDays
@@ -79,28 +73,18 @@ unfolding treeDays
 tree-halves n zero g w t e f z q = absurd (z refl)
 tree-halves n (suc l) g w t e f z q = let p : suc l - 1 ≡ l = omega arith in rw (q, p, ← e, f)
 
-level-suc : (l : ℕ) → (l ≡ 0 → ⊥) → l ≡ suc (l - 1)
-level-suc zero h = absurd (h refl)
-level-suc (suc l) h = omega arith
-
 pub level-less : (l t : ℕ) → l ≡ t → (l ≡ 0 → ⊥) → l - 1 < t
-level-less zero t e h = absurd (h refl)
-level-less (suc l) t e h = omega arith
-
-pub level-some : (l : ℕ) → (l ≡ 0 → ⊥) → 1 ≤ l
-level-some zero h = absurd (h refl)
-level-some (suc l) h = omega arith
+level-less l t e h = omega arith
 
 pow-half : (l : ℕ) → (l ≡ 0 → ⊥) → 2 ^ l ≡ 2 ^ (l - 1) + 2 ^ (l - 1)
-pow-half zero h = absurd (h refl)
-pow-half (suc l) h = let p : suc l - 1 ≡ l = omega arith in let e = pow-succ' 2 l in rw p (omega arith)
+pow-half l h = let p : l ≡ suc (l - 1) = omega arith in ap (λ x. 2 ^ x) p ∙ (let e = pow-succ' 2 (l - 1) in omega arith)
 
 pub place-one : (at l n : ℕ) → at + 2 ^ l ≤ n → at < n
 place-one at l n h = let p = pow-pos l in omega arith
 
 module _ {n l g w : ℕ} {t : List ℕ} (h : Chain n l g t) (z : l ≡ 0 → ⊥) (q : w ≡ 2 ^ (l - 1)) where
   lower : Chain n (suc (l - 1)) g t
-  lower = rw (level-suc l z) at h
+  lower = let e : l ≡ suc (l - 1) = omega arith in rw e at h
 
   pub left-room : w ≤ g
   left-room = chain-room w lower q
@@ -131,11 +115,12 @@ tree-join n l g w at b r t k s y e f z q h u v =
 tile-size : (p : ℕ → Bool) (l day : ℕ) → length (tileDays p l day) ≤ 2 ^ l
 unfolding tileDays
 tile-size p zero day = omega arith
-tile-size p (suc l) day = go (p l) (tile-size p l day) (tile-size p l (day + 2 ^ l))
-  where
-    go : (b : Bool) → length (tileDays p l day) ≤ 2 ^ l → length (tileDays p l (day + 2 ^ l)) ≤ 2 ^ l → length (cond b [] (tileDays p l day) ++ tileDays p l (day + 2 ^ l)) ≤ 2 ^ suc l
-    go true x y = let e = pow-succ' 2 l in omega arith
-    go false x y = let e = pow-succ' 2 l in omega (arith, length-append (tileDays p l day) (tileDays p l (day + 2 ^ l)))
+tile-size p (suc l) day =
+    let x = tile-size p l day in
+    let y = tile-size p l (day + 2 ^ l) in
+    let z = length-append (tileDays p l day) (tileDays p l (day + 2 ^ l)) in
+    let q = pow-succ' 2 l in
+    elim (split (p l)) [ inl e ↦ rw e (omega arith) | inr e ↦ rw e (omega arith) ]
 
 pub tile-day : (p : ℕ → Bool) (l day : ℕ) → l ≡ 0 → tileDays p l day ≡ day ∷ []
 unfolding tileDays
@@ -145,12 +130,12 @@ tile-day p (suc l) day z = absurd (omega arith)
 pub tile-upper : (p : ℕ → Bool) (l day w : ℕ) {r : Bool} → r ≡ p (l - 1) → r ≡ true → (l ≡ 0 → ⊥) → w ≡ 2 ^ (l - 1) → tileDays p l day ≡ tileDays p (l - 1) (day + w)
 unfolding tileDays
 tile-upper p zero day w e f z q = absurd (z refl)
-tile-upper p (suc l) day w e f z q = let s : suc l - 1 ≡ l = omega arith in let b : p l ≡ true = ap p (sym s) ∙ sym e ∙ f in rw (q, s, b)
+tile-upper p (suc l) day w e f z q = let s : suc l - 1 ≡ l = omega arith in rw (q, s, ← (rw s at e), f)
 
 pub tile-halves : (p : ℕ → Bool) (l day w : ℕ) {r : Bool} → r ≡ p (l - 1) → r ≡ false → (l ≡ 0 → ⊥) → w ≡ 2 ^ (l - 1) → tileDays p l day ≡ tileDays p (l - 1) day ++ tileDays p (l - 1) (day + w)
 unfolding tileDays
 tile-halves p zero day w e f z q = absurd (z refl)
-tile-halves p (suc l) day w e f z q = let s : suc l - 1 ≡ l = omega arith in let b : p l ≡ false = ap p (sym s) ∙ sym e ∙ f in rw (q, s, b)
+tile-halves p (suc l) day w e f z q = let s : suc l - 1 ≡ l = omega arith in rw (q, s, ← (rw s at e), f)
 
 module _ {n g l day w : ℕ} {t : List ℕ} (h : Tile n g l day t) (z : l ≡ 0 → ⊥) (q : w ≡ 2 ^ (l - 1)) where
   pub lower-tile : Tile n g (l - 1) day t

@@ -1,15 +1,10 @@
 -- Laws of lists of numbers: membership, tests, runs, the numbers that pass a test.
-use mathlib.Core.Path.{_≡_, refl, sym, ap, _∙_}
-use mathlib.Core.Logic.{_⊎_, inl, inr}
-use mathlib.Core.Bool.{Bool, true, false, _&&_, _||_, cond}
+use mathlib.Core.{Path._≡_, Path.refl, Path.sym, Path.ap, Path._∙_, Logic._⊎_, Logic.inl, Logic.inr}
+use mathlib.Core.Bool.{Bool, true, false, _&&_, _||_, and-assoc}
 use mathlib.Core.List.{List, [], _∷_, _++_, map, append-assoc, append-nil, List·Memᴰ·head, List·Memᴰ·tail, List·Memᴰ·cases-cons}
 use Prim.Native.Nat.{ℕ, zero, suc, _+_, _≤_, _<_}
-use native.Mathlib.Nat.{eq-or-lt-of-le}
-use native.Mathlib.Nat.{add-zero}
-use native.Mathlib.Omega.{arith}
-use lib.Dec.{eqb, leb}
-use lib.ListN.{length, take}
-use lib.Seq.{length-take-le, take-all}
+use native.Mathlib.{Nat.add-zero, Nat.eq-or-lt-of-le, Omega.arith}
+use lib.{Dec.eqb, Dec.leb, ListN.length, ListN.take, Seq.length-take-le, Seq.take-all}
 use borrow.Author.Tests.{eqb-true, eq-eqb, leb-true, leb-false, le-leb}
 use Rattle.lists.specs.Lists.{_among_, has, same, every, upFrom, keep, Ascends, joined}
 
@@ -44,11 +39,7 @@ bool-ext false false f g = refl
 
 pub has-mem : (g : ℕ) (xs : List ℕ) → has g xs ≡ true → g among xs
 has-mem g [] e = absurd (true-or-false e refl)
-has-mem g (x ∷ xs) e = go (λ h. has-mem g xs h) (or-split (eqb g x) (has g xs) e)
-  where
-    go : (has g xs ≡ true → g among xs) → (eqb g x ≡ true) ⊎ (has g xs ≡ true) → g among (x ∷ xs)
-    go rec (inl h) = List·Memᴰ·head (eqb-true g x h)
-    go rec (inr h) = List·Memᴰ·tail (rec h)
+has-mem g (x ∷ xs) e = elim (or-split (eqb g x) (has g xs) e) [ inl h ↦ List·Memᴰ·head (eqb-true g x h) | inr h ↦ List·Memᴰ·tail (has-mem g xs h) ]
 
 pub mem-has : {g : ℕ} {xs : List ℕ} → g among xs → has g xs ≡ true
 mem-has {g} (List·Memᴰ·head {x = x} {xs = xs} e) = or-left (eqb g x) (has g xs) (eq-eqb g x e)
@@ -79,46 +70,27 @@ eq-same xs ys e = rw e (same-refl ys)
 
 pub upFrom-mem : (i n g : ℕ) → i ≤ g → g < i + n → g among upFrom i n
 upFrom-mem i zero g a b = absurd (omega arith)
-upFrom-mem i (suc n) g a b = go (λ l. upFrom-mem (suc i) n g l (omega arith)) (eq-or-lt-of-le a)
-  where
-    go : (suc i ≤ g → g among upFrom (suc i) n) → (i ≡ g) ⊎ (i < g) → g among upFrom i (suc n)
-    go rec (inl e) = List·Memᴰ·head (sym e)
-    go rec (inr l) = List·Memᴰ·tail (rec l)
+upFrom-mem i (suc n) g a b = elim (eq-or-lt-of-le a) [ inl e ↦ List·Memᴰ·head (sym e) | inr l ↦ List·Memᴰ·tail (upFrom-mem (suc i) n g l (omega arith)) ]
 
 pub upFrom-bounds : (i n g : ℕ) → g among upFrom i n → (i ≤ g) × (g < i + n)
 upFrom-bounds i zero g m = elim m [ ]
-upFrom-bounds i (suc n) g m = go (λ h. upFrom-bounds (suc i) n g h) (List·Memᴰ·cases-cons m)
-  where
-    go : (g among upFrom (suc i) n → (suc i ≤ g) × (g < suc i + n)) → (g ≡ i) ⊎ (g among upFrom (suc i) n) → (i ≤ g) × (g < i + suc n)
-    go rec (inl e) = omega arith
-    go rec (inr h) = let b = rec h in omega arith
+upFrom-bounds i (suc n) g m = elim (List·Memᴰ·cases-cons m) [ inl e ↦ omega arith | inr h ↦ let b = upFrom-bounds (suc i) n g h in omega arith ]
 
 -- ---- the numbers that pass a test, in order
 
 pub keep-mem : (p : ℕ → Bool) (xs : List ℕ) (g : ℕ) → g among keep p xs → (g among xs) × (p g ≡ true)
 keep-mem p [] g m = elim m [ ]
-keep-mem p (x ∷ xs) g m = go (p x) refl (λ h. keep-mem p xs g h) m
-  where
-    old : (g among xs) × (p g ≡ true) → (g among (x ∷ xs)) × (p g ≡ true)
-    old r = (List·Memᴰ·tail (r .0), r .1)
-
-    first : p x ≡ true → (g among keep p xs → (g among xs) × (p g ≡ true)) → (g ≡ x) ⊎ (g among keep p xs) → (g among (x ∷ xs)) × (p g ≡ true)
-    first e rec (inl q) = (List·Memᴰ·head q, ap p q ∙ e)
-    first e rec (inr h) = old (rec h)
-
-    go : (b : Bool) → p x ≡ b → (g among keep p xs → (g among xs) × (p g ≡ true)) → g among cond b (x ∷ keep p xs) (keep p xs) → (g among (x ∷ xs)) × (p g ≡ true)
-    go true e rec h = first e rec (List·Memᴰ·cases-cons h)
-    go false e rec h = old (rec h)
+keep-mem p (x ∷ xs) g m = elim (split (p x)) [
+  | inl e ↦ elim (List·Memᴰ·cases-cons (rw e at m)) [ inl q ↦ (List·Memᴰ·head q, ap p q ∙ e) | inr h ↦ let r = keep-mem p xs g h in (List·Memᴰ·tail (r .0), r .1) ]
+  | inr e ↦ let r = keep-mem p xs g (rw e at m) in (List·Memᴰ·tail (r .0), r .1)
+]
 
 pub mem-keep : (p : ℕ → Bool) (xs : List ℕ) (g : ℕ) → g among xs → p g ≡ true → g among keep p xs
 mem-keep p [] g m e = elim m [ ]
-mem-keep p (x ∷ xs) g m e = go (p x) refl (λ h. mem-keep p xs g h e) (List·Memᴰ·cases-cons m)
-  where
-    go : (b : Bool) → p x ≡ b → (g among xs → g among keep p xs) → (g ≡ x) ⊎ (g among xs) → g among cond b (x ∷ keep p xs) (keep p xs)
-    go true q rec (inl h) = List·Memᴰ·head h
-    go true q rec (inr h) = List·Memᴰ·tail (rec h)
-    go false q rec (inl h) = absurd (true-or-false e (ap p h ∙ q))
-    go false q rec (inr h) = rec h
+mem-keep p (x ∷ xs) g m e = elim (split (p x)) [
+  | inl q ↦ rw q (elim (List·Memᴰ·cases-cons m) [ inl h ↦ List·Memᴰ·head h | inr h ↦ List·Memᴰ·tail (mem-keep p xs g h e) ])
+  | inr q ↦ rw q (elim (List·Memᴰ·cases-cons m) [ inl h ↦ absurd (true-or-false e (ap p h ∙ q)) | inr h ↦ mem-keep p xs g h e ])
+]
 
 pub keep-congr : (p q : ℕ → Bool) (xs : List ℕ) → ((g : ℕ) → g among xs → p g ≡ q g) → keep p xs ≡ keep q xs
 keep-congr p q [] f = refl
@@ -126,11 +98,7 @@ keep-congr p q (x ∷ xs) f = rw (f x (List·Memᴰ·head refl), keep-congr p q 
 
 pub keep-append : (p : ℕ → Bool) (xs ys : List ℕ) → keep p (xs ++ ys) ≡ keep p xs ++ keep p ys
 keep-append p [] ys = refl
-keep-append p (x ∷ xs) ys = rw (keep-append p xs ys) (go (p x))
-  where
-    go : (b : Bool) → cond b (x ∷ (keep p xs ++ keep p ys)) (keep p xs ++ keep p ys) ≡ cond b (x ∷ keep p xs) (keep p xs) ++ keep p ys
-    go true = refl
-    go false = refl
+keep-append p (x ∷ xs) ys = elim (split (p x)) [ inl e ↦ rw (e, keep-append p xs ys) | inr e ↦ rw (e, keep-append p xs ys) ]
 
 pub ascends-later : (xs : List ℕ) (i j : ℕ) → i ≤ j → Ascends j xs → Ascends i xs
 ascends-later [] i j l a = tt
@@ -138,11 +106,8 @@ ascends-later (x ∷ xs) i j l a = (omega (arith, a .0), a .1)
 
 pub keep-ascends : (p : ℕ → Bool) (i n : ℕ) → Ascends i (keep p (upFrom i n))
 keep-ascends p i zero = tt
-keep-ascends p i (suc n) = go (p i) (keep-ascends p (suc i) n)
-  where
-    go : (b : Bool) → Ascends (suc i) (keep p (upFrom (suc i) n)) → Ascends i (cond b (i ∷ keep p (upFrom (suc i) n)) (keep p (upFrom (suc i) n)))
-    go true a = (omega arith, a)
-    go false a = ascends-later (keep p (upFrom (suc i) n)) i (suc i) (omega arith) a
+keep-ascends p i (suc n) = let a = keep-ascends p (suc i) n in
+    elim (split (p i)) [ inl e ↦ rw e (omega arith, a) | inr e ↦ rw e (ascends-later (keep p (upFrom (suc i) n)) i (suc i) (omega arith) a) ]
 
 -- a list with no member is empty
 pub no-mem : {A : Type 0} (xs : List A) → ((x : A) → x among xs → ⊥) → xs ≡ []
@@ -163,17 +128,9 @@ pub and-of : (a b : Bool) → a ≡ true → b ≡ true → a && b ≡ true
 and-of a b p q = rw (p, q)
 
 pub has-keep : (p : ℕ → Bool) (xs : List ℕ) (x : ℕ) → has x (keep p xs) ≡ has x xs && p x
-has-keep p xs x = bool-ext (has x (keep p xs)) (has x xs && p x) forth back
-  where
-    forth : has x (keep p xs) ≡ true → has x xs && p x ≡ true
-    forth e =
-        let b = keep-mem p xs x (has-mem x (keep p xs) e) in
-        and-of (has x xs) (p x) (mem-has (b .0)) (b .1)
-
-    back : has x xs && p x ≡ true → has x (keep p xs) ≡ true
-    back e =
-        let b = and-both (has x xs) (p x) e in
-        mem-has (mem-keep p xs x (has-mem x xs (b .0)) (b .1))
+has-keep p xs x = bool-ext (has x (keep p xs)) (has x xs && p x)
+    (λ e. let b = keep-mem p xs x (has-mem x (keep p xs) e) in and-of (has x xs) (p x) (mem-has (b .0)) (b .1))
+    (λ e. let b = and-both (has x xs) (p x) e in mem-has (mem-keep p xs x (has-mem x xs (b .0)) (b .1)))
 
 -- ---- runs
 
@@ -183,16 +140,14 @@ length-upFrom i (suc n) = ap suc (length-upFrom (suc i) n)
 
 pub upFrom-snoc : (i k : ℕ) → upFrom i (suc k) ≡ upFrom i k ++ ((i + k) ∷ [])
 upFrom-snoc i zero = rw add-zero
-upFrom-snoc i (suc k) =
-    let e : suc i + k ≡ i + suc k = omega arith in
-    ap (λ (r : List ℕ). i ∷ r) (upFrom-snoc (suc i) k ∙ ap (λ (x : ℕ). upFrom (suc i) k ++ (x ∷ [])) e)
+upFrom-snoc i (suc k) = let e : i + suc k ≡ suc i + k = omega arith in rw (e, upFrom-snoc (suc i) k)
 
 pub upFrom-append : (i a b : ℕ) → upFrom i (a + b) ≡ upFrom i a ++ upFrom (i + a) b
 upFrom-append i zero b = let e : 0 + b ≡ b = omega arith in let f : i + 0 ≡ i = omega arith in rw (e, f)
 upFrom-append i (suc a) b =
     let e : suc a + b ≡ suc (a + b) = omega arith in
     let f : i + suc a ≡ suc i + a = omega arith in
-    rw (e, f) (ap (λ (r : List ℕ). i ∷ r) (upFrom-append (suc i) a b))
+    rw (e, f, upFrom-append (suc i) a b)
 
 -- ---- every
 
@@ -207,29 +162,17 @@ every-of p (x ∷ xs) f = and-of (p x) (every p xs) (f x (List·Memᴰ·head ref
 -- a test that fails somewhere
 pub every-not : (p : ℕ → Bool) (xs : List ℕ) → every p xs ≡ false → (g : ℕ) × (g among xs) × (p g ≡ false)
 every-not p [] e = absurd (true-or-false refl e)
-every-not p (x ∷ xs) e = go (λ h. every-not p xs h) (split (p x))
-  where
-    later : (g : ℕ) × (g among xs) × (p g ≡ false) → (g : ℕ) × (g among (x ∷ xs)) × (p g ≡ false)
-    later r = (r .0, List·Memᴰ·tail (r .1), r .2)
-
-    go : (every p xs ≡ false → (g : ℕ) × (g among xs) × (p g ≡ false)) → (p x ≡ true) ⊎ (p x ≡ false) → (g : ℕ) × (g among (x ∷ xs)) × (p g ≡ false)
-    go rec (inl h) = later (rec (rw h at e))
-    go rec (inr h) = (x, List·Memᴰ·head refl, h)
+every-not p (x ∷ xs) e = elim (split (p x)) [
+  | inl h ↦ let r = every-not p xs (rw h at e) in (r .0, List·Memᴰ·tail (r .1), r .2)
+  | inr h ↦ (x, List·Memᴰ·head refl, h)
+]
 
 pub every-fails : (p : ℕ → Bool) (xs : List ℕ) (g : ℕ) → g among xs → p g ≡ false → every p xs ≡ false
-every-fails p xs g m e = go (split (every p xs))
-  where
-    go : (every p xs ≡ true) ⊎ (every p xs ≡ false) → every p xs ≡ false
-    go (inl h) = absurd (true-or-false (every-at p m h) e)
-    go (inr h) = h
+every-fails p xs g m e = elim (split (every p xs)) [ inl h ↦ absurd (true-or-false (every-at p m h) e) | inr h ↦ h ]
 
 pub every-append : (p : ℕ → Bool) (xs ys : List ℕ) → every p (xs ++ ys) ≡ every p xs && every p ys
 every-append p [] ys = refl
-every-append p (x ∷ xs) ys = rw (every-append p xs ys) (assoc (p x))
-  where
-    assoc : (b : Bool) → b && (every p xs && every p ys) ≡ (b && every p xs) && every p ys
-    assoc true = refl
-    assoc false = refl
+every-append p (x ∷ xs) ys = rw (every-append p xs ys) (sym (and-assoc (p x) (every p xs) (every p ys)))
 
 -- one more in a loop
 pub every-more : (p : ℕ → Bool) (i k : ℕ) → every p (upFrom i k) ≡ true → p (i + k) ≡ true → every p (upFrom i (suc k)) ≡ true
@@ -240,7 +183,7 @@ every-more p i k e h = ap (every p) (upFrom-snoc i k) ∙ every-append p (upFrom
 pub joined-append : (xs ys : List (List ℕ)) → joined (xs ++ ys) ≡ joined xs ++ joined ys
 unfolding joined
 joined-append [] ys = refl
-joined-append (x ∷ xs) ys = ap (λ (r : List ℕ). x ++ r) (joined-append xs ys) ∙ sym (append-assoc x (joined xs) (joined ys))
+joined-append (x ∷ xs) ys = rw (joined-append xs ys, append-assoc)
 
 pub joined-one : (x : List ℕ) (xs : List (List ℕ)) → joined (x ∷ xs) ≡ x ++ joined xs
 unfolding joined
@@ -253,8 +196,7 @@ joined-single x = append-nil x
 -- ---- as many as are needed
 
 pub enough-read : (k : ℕ) (o : List ℕ) → leb k (length o) ≡ leb k (length (take k o))
-enough-read k o = go (leb k (length o)) refl
-  where
-    go : (b : Bool) → leb k (length o) ≡ b → leb k (length o) ≡ leb k (length (take k o))
-    go true e = let m = length-take-le k o (leb-true k (length o) e) in e ∙ sym (le-leb k (length (take k o)) (omega arith))
-    go false e = let m = leb-false k (length o) e in rw (take-all k o (omega arith))
+enough-read k o = elim (split (leb k (length o))) [
+  | inl e ↦ let m = length-take-le k o (leb-true k (length o) e) in e ∙ sym (le-leb k (length (take k o)) (omega arith))
+  | inr e ↦ let m = leb-false k (length o) e in rw (take-all k o (omega arith))
+]

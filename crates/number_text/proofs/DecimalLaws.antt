@@ -1,14 +1,12 @@
 -- Laws of writing numbers: decimals, numbers after commas.
-use mathlib.Core.Path.{_≡_, refl, sym, ap, _∙_}
-use mathlib.Core.Bool.{Bool, true, false, cond}
+use mathlib.Core.{Path._≡_, Path.refl, Path.sym, Path.ap, Logic.inl, Logic.inr}
 use mathlib.Core.List.{List, [], _∷_, _++_, append-assoc, append-nil}
 use Prim.Native.Nat.{ℕ, zero, suc, _+_, _-_, _*_, _/_, _%_, _≤_, _<_}
-use native.Mathlib.Numerals.{add-one}
-use native.Mathlib.Omega.{arith}
-use lib.Dec.{ltb}
-use lib.ListN.{length, getD, set, take, length-append}
+use native.Mathlib.{Numerals.add-one, Omega.arith}
+use lib.{Dec.ltb, ListN.length, ListN.getD, ListN.set, ListN.take, ListN.length-append}
 use lib.Seq.{take-all, take-suc, length-take-le}
 use borrow.Author.Tests.{lt-ltb, le-ltb}
+use Rattle.lists.proofs.Laws.{split}
 use Rattle.buffers.specs.Private.{Wrote}
 use Rattle.buffers.proofs.Writes.{wrote-none, wrote-one, wrote-as, wrote-byte, wrote-join}
 use Rattle.number_text.specs.Numbers.{decimalIn, decimal, commaNumbers}
@@ -16,14 +14,13 @@ use Rattle.number_text.specs.Numbers.{decimalIn, decimal, commaNumbers}
 -- ---- decimals
 
 pub not-zero : (k : ℕ) → (k ≡ 0 → ⊥) → 1 ≤ k
-not-zero zero f = absurd (f refl)
-not-zero (suc k) f = omega arith
+not-zero k f = omega arith
 
 pub place-within : (at k n : ℕ) → (k ≡ 0 → ⊥) → at + k ≤ n → at < n
-place-within at k n f h = let w = not-zero k f in omega arith
+place-within at k n f h = omega arith
 
 pub digits-left : (k t at n : ℕ) → k ≡ t → (k ≡ 0 → ⊥) → at + k ≤ n → (k - 1 < t) × (at + (k - 1) ≤ n)
-digits-left k t at n e f h = let w = not-zero k f in (omega arith, omega arith)
+digits-left k t at n e f h = omega arith
 
 pub decimal-none : (k x : ℕ) → k ≡ 0 → decimalIn k x ≡ []
 decimal-none k x e = rw e
@@ -38,15 +35,13 @@ decimal-more (suc k) x n h = let e : suc k - 1 ≡ k = omega arith in rw (le-ltb
 
 pub decimal-most : (k x : ℕ) → length (decimalIn k x) ≤ k
 decimal-most zero x = omega arith
-decimal-most (suc k) x = go (ltb x 10) (decimal-most k (x / 10))
-  where
-    go : (b : Bool) → length (decimalIn k (x / 10)) ≤ k → length (cond b ((48 + x) ∷ []) (decimalIn k (x / 10) ++ ((48 + x % 10) ∷ []))) ≤ suc k
-    go true w = omega arith
-    go false w = let e = length-append (decimalIn k (x / 10)) ((48 + x % 10) ∷ []) in omega arith
+decimal-most (suc k) x =
+    let w = decimal-most k (x / 10) in
+    let l = length-append (decimalIn k (x / 10)) ((48 + x % 10) ∷ []) in
+    elim (split (ltb x 10)) [ inl e ↦ rw e (omega arith) | inr e ↦ rw e (omega arith) ]
 
 pub decimal-room : (k x at b n : ℕ) (l m : List ℕ) → (k ≡ 0 → ⊥) → at + k ≤ length l → Wrote at (decimalIn (k - 1) x) l b m → n ≡ length l → b < n
-decimal-room zero x at b n l m z h w e = absurd (z refl)
-decimal-room (suc k) x at b n l m z h w e = let f = decimal-most (suc k - 1) x in omega (arith, w .count)
+decimal-room k x at b n l m z h w e = let f = decimal-most (k - 1) x in omega (arith, w .count)
 
 pub decimal-next : (k x at b : ℕ) (l m : List ℕ) → (k ≡ 0 → ⊥) → 10 ≤ x → at + k ≤ length l → Wrote at (decimalIn (k - 1) (x / 10)) l b m → length m ≡ length l →
     Wrote at (decimalIn k x) l (b + 1) (set m b (48 + x % 10))
@@ -66,16 +61,14 @@ number-most x = let f = decimal-most 10 x in omega arith
 
 numbers-append : (xs ys : List ℕ) → commaNumbers (xs ++ ys) ≡ commaNumbers xs ++ commaNumbers ys
 numbers-append [] ys = refl
-numbers-append (x ∷ xs) ys = ap (λ (r : List ℕ). (44 ∷ decimal x) ++ r) (numbers-append xs ys) ∙ sym (append-assoc (44 ∷ decimal x) (commaNumbers xs) (commaNumbers ys))
+numbers-append (x ∷ xs) ys = rw (numbers-append xs ys, append-assoc)
 
 pub numbers-most : (xs : List ℕ) → length (commaNumbers xs) ≤ 11 * length xs
 numbers-most [] = omega arith
 numbers-most (x ∷ xs) = let a = number-most x in let b = numbers-most xs in let e = length-append (44 ∷ decimal x) (commaNumbers xs) in omega arith
 
 numbers-snoc : (xs : List ℕ) (i : ℕ) → i < length xs → commaNumbers (take (i + 1) xs) ≡ commaNumbers (take i xs) ++ (44 ∷ decimal (getD xs i 0))
-numbers-snoc xs i h =
-    rw (add-one i)
-    (ap commaNumbers (take-suc xs i 0 h) ∙ numbers-append (take i xs) (getD xs i 0 ∷ []) ∙ ap (λ (r : List ℕ). commaNumbers (take i xs) ++ r) (append-nil (44 ∷ decimal (getD xs i 0))))
+numbers-snoc xs i h = rw (add-one i, take-suc xs i 0 h, numbers-append (take i xs) (getD xs i 0 ∷ []), append-nil)
 
 pub numbers-none : (at : ℕ) (xs l : List ℕ) → Wrote at (commaNumbers (take 0 xs)) l at l
 numbers-none at xs l = wrote-none at (commaNumbers (take 0 xs)) l refl

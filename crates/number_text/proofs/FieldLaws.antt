@@ -1,25 +1,17 @@
 -- Laws of reading numbers: digits, numbers, marks, fields.
-use mathlib.Core.Path.{_≡_, refl, sym, ap, ap₂, _∙_}
-use mathlib.Core.Bool.{Bool, true, false, not, _&&_, _||_, cond}
-use mathlib.Core.List.{List, [], _∷_, _++_}
+use mathlib.Core.{Path._≡_, Path.refl, Path.sym, Path.ap, Path.ap₂, Path._∙_, Logic.inl, Logic.inr, Bool.Bool}
+use mathlib.Core.{Bool.true, Bool.false, Bool.not, Bool._&&_, Bool._||_, List.List, List.[], List._∷_, List._++_}
 use Prim.Native.Nat.{ℕ, zero, suc, _+_, _-_, _*_, _≤_, _<_, _^_}
-use native.Mathlib.Numerals.{add-one}
-use native.Mathlib.Omega.{arith}
-use lib.Dec.{eqb, leb}
+use native.Mathlib.{Numerals.add-one, Omega.arith}
+use lib.{Dec.eqb, Dec.leb, Seq.take-all, Seq.take-suc, Seq.drop-cons, Seq.drop-drop, Seq.drop-append-seam}
 use lib.ListN.{length, getD, take, drop, length-drop, drop-of-length-le, take-append-drop}
-use lib.Seq.{take-all, take-suc, drop-cons, drop-drop, drop-append-seam}
-use borrow.Author.Tests.{eq-eqb, eqb-true, ne-eqb, le-leb, lt-leb, leb-true, not-true, not-false}
-use Rattle.lists.proofs.Laws.{true-or-false, and-both, and-of}
+use borrow.Author.Tests.{eq-eqb, eqb-true, ne-eqb, le-leb, leb-true, not-true, not-false}
+use Rattle.lists.proofs.Laws.{split, true-or-false, and-both, upFrom-mem, every-at}
+use Rattle.lists.specs.Lists.{upFrom}
 use Rattle.number_text.specs.Numbers.{isDigit, digitOf, digits, afterDigits, isNumber, numberFrom, Number, startsWith, isField, valueIn, afterField}
 use Rattle.number_text.specs.Private.{FieldAt}
 
 -- ---- digits
-
-pub digit-low : (b : ℕ) → b < 48 → false ≡ isDigit b
-digit-low b h = rw (lt-leb 48 b h)
-
-pub digit-high : (b : ℕ) → 48 ≤ b → leb b 57 ≡ isDigit b
-digit-high b h = rw (le-leb 48 b h)
 
 -- how many digits stand from a place on
 abbrev run : List ℕ → ℕ → ℕ
@@ -47,57 +39,31 @@ digits-all s at i l h = let w = run-past s i l in omega arith
 
 pub digits-take : (s : List ℕ) → take (length (digits s)) s ≡ digits s
 digits-take [] = refl
-digits-take (b ∷ s) = go (isDigit b) (digits-take s)
-  where
-    go : (x : Bool) → take (length (digits s)) s ≡ digits s → take (length (cond x (b ∷ digits s) [])) (b ∷ s) ≡ cond x (b ∷ digits s) []
-    go true e = ap (λ (r : List ℕ). b ∷ r) e
-    go false e = refl
+digits-take (b ∷ s) = elim (split (isDigit b)) [ inl e ↦ rw e (ap (λ r. b ∷ r) (digits-take s)) | inr e ↦ rw e ]
 
 digits-most : (s : List ℕ) → length (digits s) ≤ length s
 digits-most [] = omega arith
-digits-most (b ∷ s) = go (isDigit b) (digits-most s)
-  where
-    go : (x : Bool) → length (digits s) ≤ length s → length (cond x (b ∷ digits s) []) ≤ suc (length s)
-    go true h = omega arith
-    go false h = omega arith
+digits-most (b ∷ s) = let h = digits-most s in elim (split (isDigit b)) [ inl e ↦ rw e (omega arith) | inr e ↦ rw e (omega arith) ]
 
 -- the part from a place to where its digits end
 pub digits-part : (s : List ℕ) (at end : ℕ) → end ≡ at + length (digits (drop at s)) → take (end - at) (drop at s) ≡ digits (drop at s)
 digits-part s at end e = let w : end - at ≡ length (digits (drop at s)) = omega arith in rw w (digits-take (drop at s))
 
 pub digits-within : (s : List ℕ) (at end : ℕ) → at ≤ length s → end ≡ at + length (digits (drop at s)) → (at ≤ end) × (end ≤ length s)
-digits-within s at end h e = let w = digits-most (drop at s) in let l = length-drop at s in (omega arith, omega arith)
+digits-within s at end h e = let w = digits-most (drop at s) in let l = length-drop at s in omega arith
 
 -- ---- a number
 
-pub number-none : (ds : List ℕ) {k : ℕ} → k ≡ length ds → k ≡ 0 → false ≡ isNumber ds
-unfolding isNumber
-number-none ds e z = rw (lt-leb 1 (length ds) (omega arith))
-
-pub number-long : (ds : List ℕ) → 5 < length ds → false ≡ isNumber ds
-unfolding isNumber
-number-long ds h = rw (le-leb 1 (length ds) (omega arith), lt-leb (length ds) 5 (omega arith))
-
-pub number-one : (ds : List ℕ) → length ds ≡ 1 → true ≡ isNumber ds
-unfolding isNumber
-number-one ds h = rw (le-leb 1 (length ds) (omega arith), le-leb (length ds) 5 (omega arith), eq-eqb (length ds) 1 h)
-
 pub number-more : (ds : List ℕ) → (length ds ≡ 0 → ⊥) → length ds ≤ 5 → (length ds ≡ 1 → ⊥) → not (eqb (getD ds 0 0) 48) ≡ isNumber ds
 unfolding isNumber
-number-more ds z h n = rw (le-leb 1 (length ds) (some (length ds) z), le-leb (length ds) 5 (omega arith), ne-eqb (length ds) 1 n)
-  where
-    some : (k : ℕ) → (k ≡ 0 → ⊥) → 1 ≤ k
-    some zero f = absurd (f refl)
-    some (suc k) f = omega arith
+number-more ds z h n = rw (le-leb 1 (length ds) (omega arith), le-leb (length ds) 5 h, ne-eqb (length ds) 1 n)
 
 pub number-snoc : (v : ℕ) (ds : List ℕ) (b : ℕ) → numberFrom v (ds ++ (b ∷ [])) ≡ 10 * numberFrom v ds + digitOf b
 number-snoc v [] b = refl
 number-snoc v (x ∷ ds) b = number-snoc (10 * v + digitOf x) ds b
 
 pub number-next : (ds : List ℕ) (i v : ℕ) {x y : ℕ} → i < length ds → v ≡ numberFrom 0 (take i ds) → y ≡ digitOf (getD ds i 0) → x ≡ y → 10 * v + x ≡ numberFrom 0 (take (i + 1) ds)
-number-next ds i v {x} {y} l e f g =
-    let w = number-snoc 0 (take i ds) (getD ds i 0) in
-    ap₂ (λ (p q : ℕ). 10 * p + q) e (g ∙ f) ∙ sym w ∙ sym (rw (add-one i, take-suc ds i 0 l))
+number-next ds i v l e f g = rw (e, g, f, add-one i, take-suc ds i 0 l) (sym (number-snoc 0 (take i ds) (getD ds i 0)))
 
 pub number-done : (ds : List ℕ) (i v : ℕ) → length ds ≤ i → v ≡ numberFrom 0 (take i ds) → v ≡ numberFrom 0 ds
 number-done ds i v l e = e ∙ ap (numberFrom 0) (take-all i ds l)
@@ -108,12 +74,7 @@ most zero = 29
 most (suc i) = 10 * most i
 
 most-in : (i : ℕ) → i < 5 → most i ≤ 290000
-most-in zero h = omega arith
-most-in (suc zero) h = omega arith
-most-in (suc (suc zero)) h = omega arith
-most-in (suc (suc (suc zero))) h = omega arith
-most-in (suc (suc (suc (suc zero)))) h = omega arith
-most-in (suc (suc (suc (suc (suc i))))) h = absurd (omega arith)
+most-in i h = leb-true (most i) 290000 (every-at (λ i. leb (most i) 290000) {g = i} {xs = upFrom 0 5} (upFrom-mem 0 5 i (omega arith) h) refl)
 
 pub number-fits : (i v k : ℕ) {x : ℕ} → v + 29 ≤ most i → i < k → k ≤ 5 → x < 256 → 10 * v + x < 2 ^ 32
 number-fits i v k h l m n = let w = most-in i (omega arith) in omega arith
@@ -136,7 +97,7 @@ pub after-byte : (s : List ℕ) (end : ℕ) → drop (end + 1) s ≡ drop 1 (dro
 after-byte s end = sym (drop-drop 1 end s)
 
 pub after-past : (s : List ℕ) (end : ℕ) → length s ≤ end → drop end s ≡ drop 1 (drop end s)
-after-past s end l = let e : drop end s ≡ [] = drop-of-length-le s l in e ∙ sym (ap (drop 1) e)
+after-past s end l = rw (drop-of-length-le s l)
 
 -- ---- a field
 
@@ -157,11 +118,7 @@ field-is s at mark {end} {r} {x} {n} {m} {b} e f g h k l =
 -- ---- a field that is laid out
 
 pub first-digit : (b : ℕ) (ds : List ℕ) → digits (b ∷ ds) ≡ b ∷ ds → (isDigit b ≡ true) × (digits ds ≡ ds)
-first-digit b ds e = go (isDigit b) refl e
-  where
-    go : (x : Bool) → isDigit b ≡ x → cond x (b ∷ digits ds) [] ≡ b ∷ ds → (isDigit b ≡ true) × (digits ds ≡ ds)
-    go true p q = (p, ap (drop 1) q)
-    go false p q = absurd (omega (arith, ap length q))
+first-digit b ds e = elim (split (isDigit b)) [ inl p ↦ (p, ap (drop 1) (rw p at e)) | inr p ↦ absurd (omega (arith, ap length (rw p at e))) ]
 
 -- digits before a byte that is none
 pub digits-before : (ds : List ℕ) (m : ℕ) (r : List ℕ) → digits ds ≡ ds → isDigit m ≡ false → digits (ds ++ (m ∷ r)) ≡ ds
@@ -181,14 +138,11 @@ number-short ds e =
 module _ (ds : List ℕ) (m : ℕ) (r : List ℕ) (k : Number ds) (n : isDigit m ≡ false) where
   pub laid-field : isField m (ds ++ (m ∷ r)) ≡ true
   unfolding isField
-  laid-field =
-      and-of (isNumber (digits (ds ++ (m ∷ r)))) (startsWith m (afterDigits (ds ++ (m ∷ r)))) (ap isNumber (digits-before ds m r (k .only-digits) n) ∙ k .shaped)
-      (ap (startsWith m) (after-before ds m r (k .only-digits) n) ∙ eq-eqb m m refl)
+  laid-field = rw (digits-before ds m r (k .only-digits) n, k .shaped, after-before ds m r (k .only-digits) n, eq-eqb m m refl)
 
   pub laid-value : valueIn (ds ++ (m ∷ r)) ≡ numberFrom 0 ds
   unfolding valueIn
-  laid-value =
-      ap (λ (x : List ℕ). numberFrom 0 (take 5 x)) (digits-before ds m r (k .only-digits) n) ∙ ap (numberFrom 0) (take-all 5 ds (number-short ds (k .shaped)))
+  laid-value = rw (digits-before ds m r (k .only-digits) n, take-all 5 ds (number-short ds (k .shaped)))
 
   pub laid-rest : afterField (ds ++ (m ∷ r)) ≡ r
   unfolding afterField
@@ -198,11 +152,7 @@ module _ (ds : List ℕ) (m : ℕ) (r : List ℕ) (k : Number ds) (n : isDigit m
 
 pub digits-again : (s : List ℕ) → digits (digits s) ≡ digits s
 digits-again [] = refl
-digits-again (b ∷ s) = go (isDigit b) refl (digits-again s)
-  where
-    go : (x : Bool) → isDigit b ≡ x → digits (digits s) ≡ digits s → digits (cond x (b ∷ digits s) []) ≡ cond x (b ∷ digits s) []
-    go true p q = rw (p, q)
-    go false p q = refl
+digits-again (b ∷ s) = elim (split (isDigit b)) [ inl p ↦ rw (p, p, digits-again s) | inr p ↦ rw p ]
 
 starts-mark : (m : ℕ) (t : List ℕ) → startsWith m t ≡ true → t ≡ m ∷ drop 1 t
 starts-mark m [] e = absurd (true-or-false e refl)

@@ -1,14 +1,11 @@
 -- What is written in decimal reads back.
-use mathlib.Core.Path.{_≡_, refl, sym, _∙_}
-use mathlib.Core.Bool.{Bool, true, false, not, _&&_, _||_, cond}
+use mathlib.Core.{Path._≡_, Path.refl, Path.sym, Path._∙_, Bool.true, Bool.or-true, Logic.inl, Logic.inr}
 use mathlib.Core.List.{List, [], _∷_, _++_}
-use Prim.Native.Nat.{ℕ, zero, suc, _+_, _*_, _/_, _%_, _^_, _≤_, _<_}
-use native.Mathlib.Nat.{div-add-mod', mod-lt, div-lt-iff-lt-mul, pow-suc}
-use native.Mathlib.Omega.{arith}
-use lib.Dec.{eqb, leb, ltb}
-use lib.ListN.{length, getD, length-append, List·getD-append}
-use borrow.Author.Tests.{le-leb, ltb-true, ltb-false, ne-eqb}
-use Rattle.lists.proofs.Laws.{or-right, and-of}
+use Prim.Native.Nat.{ℕ, zero, suc, _+_, _/_, _%_, _^_, _≤_, _<_}
+use native.Mathlib.{Nat.div-add-mod', Nat.mod-lt, Nat.div-lt-iff-lt-mul, Nat.pow-suc, Omega.arith}
+use lib.{Dec.eqb, Dec.ltb, ListN.length, ListN.getD, ListN.length-append, ListN.List·getD-append}
+use borrow.Author.Tests.{le-leb, lt-ltb, ltb-true, ltb-false, ne-eqb}
+use Rattle.lists.proofs.Laws.{split}
 use Rattle.number_text.specs.Numbers.{isDigit, digits, isNumber, numberFrom, decimalIn, decimal}
 use Rattle.number_text.specs.Statements.{ReadsBack, DecimalIsNumber}
 use Rattle.number_text.proofs.FieldLaws.{number-snoc, first-digit}
@@ -30,23 +27,18 @@ last-below x = mod-lt x (omega arith)
 
 only-digits : (k x : ℕ) → digits (decimalIn k x) ≡ decimalIn k x
 only-digits zero x = refl
-only-digits (suc k) x = go (ltb x 10) refl (only-digits k (x / 10))
-  where
-    go : (b : Bool) → ltb x 10 ≡ b → digits (decimalIn k (x / 10)) ≡ decimalIn k (x / 10) →
-        digits (cond b ((48 + x) ∷ []) (decimalIn k (x / 10) ++ ((48 + x % 10) ∷ []))) ≡ cond b ((48 + x) ∷ []) (decimalIn k (x / 10) ++ ((48 + x % 10) ∷ []))
-    go true e rec = rw (digit-is x (ltb-true x 10 e))
-    go false e rec = digits-snoc (decimalIn k (x / 10)) (48 + x % 10) rec (digit-is (x % 10) (last-below x))
+only-digits (suc k) x = elim (split (ltb x 10)) [
+  | inl e ↦ rw (e, digit-is x (ltb-true x 10 e))
+  | inr e ↦ rw e (digits-snoc (decimalIn k (x / 10)) (48 + x % 10) (only-digits k (x / 10)) (digit-is (x % 10) (last-below x)))
+]
 
 reads-back-in : (k x : ℕ) → x < 10 ^ k → numberFrom 0 (decimalIn k x) ≡ x
 reads-back-in zero x h = omega arith
-reads-back-in (suc k) x h = go (ltb x 10) refl (reads-back-in k (x / 10) (tenth-below k x h))
-  where
-    go : (b : Bool) → ltb x 10 ≡ b → numberFrom 0 (decimalIn k (x / 10)) ≡ x / 10 → numberFrom 0 (cond b ((48 + x) ∷ []) (decimalIn k (x / 10) ++ ((48 + x % 10) ∷ []))) ≡ x
-    go true e rec = omega arith
-    go false e rec =
-        let s = number-snoc 0 (decimalIn k (x / 10)) (48 + x % 10) in
-        let d : x / 10 * 10 + x % 10 ≡ x = div-add-mod' x 10 in
-        omega arith
+reads-back-in (suc k) x h =
+    let r = reads-back-in k (x / 10) (tenth-below k x h) in
+    let s = number-snoc 0 (decimalIn k (x / 10)) (48 + x % 10) in
+    let d = div-add-mod' x 10 in
+    elim (split (ltb x 10)) [ inl e ↦ rw e (omega arith) | inr e ↦ rw e (omega arith) ]
 
 -- no leading zero
 record Leads (ds : List ℕ) : Type 0 where
@@ -55,34 +47,25 @@ record Leads (ds : List ℕ) : Type 0 where
 
 leads : (k x : ℕ) → 1 ≤ x → x < 10 ^ k → Leads (decimalIn k x)
 leads zero x p h = absurd (omega arith)
-leads (suc k) x p h = go (ltb x 10) refl (λ q. leads k (x / 10) q (tenth-below k x h))
-  where
-    d : x / 10 * 10 + x % 10 ≡ x
-    d = div-add-mod' x 10
-
-    go : (b : Bool) → ltb x 10 ≡ b → (1 ≤ x / 10 → Leads (decimalIn k (x / 10))) → Leads (cond b ((48 + x) ∷ []) (decimalIn k (x / 10) ++ ((48 + x % 10) ∷ [])))
-    go true e rec = record { some = omega arith; no-zero = λ z. omega arith }
-    go false e rec =
-        let l = ltb-false x 10 e in
-        let w = rec (omega (arith, d, last-below x)) in
-        record {
-          some = omega (arith, length-append (decimalIn k (x / 10)) ((48 + x % 10) ∷ []));
-          no-zero = λ z. w .no-zero (sym (List·getD-append (decimalIn k (x / 10)) ((48 + x % 10) ∷ []) 0 0 (w .some)) ∙ z);
-        }
+leads (suc k) x p h = elim (split (ltb x 10)) [
+  | inl e ↦ rw e (record { some = omega arith; no-zero = λ z. omega arith })
+  | inr e ↦ let l = ltb-false x 10 e in
+      let w = leads k (x / 10) (omega (arith, div-add-mod' x 10, last-below x)) (tenth-below k x h) in
+      rw e (record {
+        some = omega (arith, length-append (decimalIn k (x / 10)) ((48 + x % 10) ∷ []));
+        no-zero = λ z. w .no-zero (sym (List·getD-append (decimalIn k (x / 10)) ((48 + x % 10) ∷ []) 0 0 (w .some)) ∙ z);
+      })
+]
 
 -- a number below 10^j has at most j digits
 digits-most-in : (k j x : ℕ) → 1 ≤ j → x < 10 ^ j → length (decimalIn k x) ≤ j
 digits-most-in zero j x p h = omega arith
-digits-most-in (suc k) j x p h = go (ltb x 10) refl (λ i q g. digits-most-in k i (x / 10) q g) j p h
-  where
-    go : (b : Bool) → ltb x 10 ≡ b → ((i : ℕ) → 1 ≤ i → x / 10 < 10 ^ i → length (decimalIn k (x / 10)) ≤ i) → (i : ℕ) → 1 ≤ i → x < 10 ^ i → length
-        (cond b ((48 + x) ∷ []) (decimalIn k (x / 10) ++ ((48 + x % 10) ∷ []))) ≤ i
-    go true e rec i q g = omega arith
-    go false e rec zero q g = absurd (omega arith)
-    go false e rec (suc zero) q g = let l = ltb-false x 10 e in absurd (omega arith)
-    go false e rec (suc (suc i)) q g =
-        let r = rec (suc i) (omega arith) (tenth-below (suc i) x g) in
-        omega (arith, length-append (decimalIn k (x / 10)) ((48 + x % 10) ∷ []))
+digits-most-in (suc k) zero x p h = absurd (omega arith)
+digits-most-in (suc k) (suc zero) x p h = rw (lt-ltb x 10 (omega arith)) (omega arith)
+digits-most-in (suc k) (suc (suc i)) x p h =
+    let r = digits-most-in k (suc i) (x / 10) (omega arith) (tenth-below (suc i) x h) in
+    let l = length-append (decimalIn k (x / 10)) ((48 + x % 10) ∷ []) in
+    elim (split (ltb x 10)) [ inl e ↦ rw e (omega arith) | inr e ↦ rw e (omega arith) ]
 
 pub reads-back : ReadsBack
 unfolding decimal
@@ -98,6 +81,4 @@ decimal-is-number x h = record { only-digits = only-digits 10 x; shaped = go x h
         let w = leads 10 (suc y) (omega arith) (omega arith) in
         let m = digits-most-in 10 5 (suc y) (omega arith) l in
         let D = decimalIn 10 (suc y) in
-        and-of (leb 1 (length D) && leb (length D) 5) (eqb (length D) 1 || not (eqb (getD D 0 0) 48))
-        (and-of (leb 1 (length D)) (leb (length D) 5) (le-leb 1 (length D) (w .some)) (le-leb (length D) 5 m))
-        (or-right (eqb (length D) 1) (not (eqb (getD D 0 0) 48)) (rw (ne-eqb (getD D 0 0) 48 (w .no-zero))))
+        rw (le-leb 1 (length D) (w .some), le-leb (length D) 5 m, ne-eqb (getD D 0 0) 48 (w .no-zero)) (or-true (eqb (length D) 1))

@@ -1,12 +1,10 @@
 -- Last good: of a table that a set gives it is the last day that n divides with no day of the set before it or on it; of a
 -- changed table, by its first listed day, a division.
-use mathlib.Core.Path.{_≡_, refl, sym, ap, _∙_}
-use mathlib.Core.Logic.{_⊎_, inl, inr}
-use mathlib.Core.Bool.{Bool, true, false, not, _&&_, _||_, cond}
+use mathlib.Core.{Path._≡_, Path.refl, Path.sym, Path.ap, Path._∙_, Logic.inl, Logic.inr}
+use mathlib.Core.Bool.{Bool, true, false, not, _&&_, _||_, cond, and-false, or-true}
 use mathlib.Core.List.{List, [], _∷_, map, List·Memᴰ·head, List·Memᴰ·tail, List·Memᴰ·cases-cons, Memᴰ·append-right}
-use Prim.Native.Nat.{ℕ, suc, _+_, _-_, _*_, _/_, _%_, _≤_, _<_}
-use native.Mathlib.Nat.{mul-le-mul-right, div-mul-le-self, suc-mul, div-add-mod', mod-lt}
-use native.Mathlib.Decide.{decLt}
+use Prim.Native.Nat.{ℕ, suc, _+_, _-_, _*_, _/_, _≤_, _<_}
+use native.Mathlib.{Nat.mul-le-mul-right, Nat.div-mul-le-self, Nat.suc-mul, Nat.div-add-mod', Nat.mod-lt, Decide.decLt}
 use native.Mathlib.Omega.{arith}
 use lib.Dec.{eqb}
 use Rattle.lists.specs.Lists.{_among_, keep, Ascends, lastOf}
@@ -29,24 +27,15 @@ isBlack g (x ∷ xs) = blackAt g x || isBlack g xs
 
 black-by : (n g : ℕ) (S : List ℕ) (xs : List Name) → blackPasses g xs (map (setOutcome S) (map (coveredDays n) xs)) ≡ isBlack g xs && not (meets S (lastDays g g))
 black-by n g S [] = refl
-black-by n g S (x ∷ xs) = rw (black-by n g S xs) (go (blackAt g x) refl)
+black-by n g S (x ∷ xs) = rw (black-by n g S xs) (elim (split (blackAt g x)) [ inl e ↦ rw (e, black-cover n g x e) (flip (meets S (lastDays g g)) (isBlack g xs)) | inr e ↦ rw e ])
   where
     flip : (m r : Bool) → eqb (cond m 0 1) 1 || (r && not m) ≡ not m
-    flip true true = refl
-    flip true false = refl
+    flip true r = and-false r
     flip false r = refl
-
-    go : (b : Bool) → blackAt g x ≡ b → (b && eqb (setOutcome S (coveredDays n x)) 1) || (isBlack g xs && not (meets S (lastDays g g))) ≡ (b || isBlack g xs) && not (meets S (lastDays g g))
-    go true e = rw (black-cover n g x e) (flip (meets S (lastDays g g)) (isBlack g xs))
-    go false e = refl
 
 is-black : (g : ℕ) {x : Name} {xs : List Name} → x among xs → blackAt g x ≡ true → isBlack g xs ≡ true
 is-black g (List·Memᴰ·head {x = y} {xs = ys} e) h = rw (← e, h)
-is-black g (List·Memᴰ·tail {x = y} {xs = ys} m) h = rw (is-black g m h) (top (blackAt g y))
-  where
-    top : (b : Bool) → b || true ≡ true
-    top true = refl
-    top false = refl
+is-black g (List·Memᴰ·tail {x = y} {xs = ys} m) h = rw (is-black g m h) (or-true (blackAt g y))
 
 namesThrough-black : (s n d g : ℕ) → 1 ≤ s → s ≤ 3 → g among days d → divides n g ≡ true → isBlack g (namesThrough s n d) ≡ true
 namesThrough-black s n d g a b m e =
@@ -58,37 +47,24 @@ namesThrough-black s n d g a b m e =
 pub good-given : (s n d : ℕ) (S t : List ℕ) → 1 ≤ s → s ≤ 3 → Gives (chains s n d) d S t → lastGood s n d t ≡ lastOf 0 (keep (goodDay n S) (days d))
 unfolding lastGood chains tableOf
 good-given s n d S t a b h =
-    ap (lastOf 0) (keep-congr (λ g. divides n g && blackPasses g (namesThrough s n d) t) (goodDay n S) (days d) each)
-  where
-    passes-is : (g : ℕ) → blackPasses g (namesThrough s n d) t ≡ isBlack g (namesThrough s n d) && not (meets S (lastDays g g))
-    passes-is g = ap (blackPasses g (namesThrough s n d)) (sym (h .gives)) ∙ black-by n g S (namesThrough s n d)
-
-    go : (g : ℕ) → g among days d → (c : Bool) → divides n g ≡ c → c && blackPasses g (namesThrough s n d) t ≡ c && not (meets S (lastDays g g))
-    go g m true e = passes-is g ∙ rw (namesThrough-black s n d g a b m e)
-    go g m false e = refl
-
-    each : (g : ℕ) → g among days d → divides n g && blackPasses g (namesThrough s n d) t ≡ goodDay n S g
-    each g m = go g m (divides n g) refl
+    ap (lastOf 0) (keep-congr (λ g. divides n g && blackPasses g (namesThrough s n d) t) (goodDay n S) (days d) (λ g m. elim (split (divides n g)) [
+      | inl e ↦ rw e (ap (blackPasses g (namesThrough s n d)) (sym (h .gives)) ∙ black-by n g S (namesThrough s n d) ∙ rw (namesThrough-black s n d g a b m e))
+      | inr e ↦ rw e
+    ]))
 
 -- ---- by the first listed day
 
 ascends-bound : (i : ℕ) (xs : List ℕ) → Ascends i xs → (x : ℕ) → x among xs → i ≤ x
 ascends-bound i [] a x m = elim m [ ]
-ascends-bound i (y ∷ ys) a x m = go (λ k. ascends-bound (suc y) ys (a .1) x k) (List·Memᴰ·cases-cons m)
-  where
-    go : (x among ys → suc y ≤ x) → (x ≡ y) ⊎ (x among ys) → i ≤ x
-    go rec (inl e) = omega (arith, a .0)
-    go rec (inr k) = omega (arith, a .0, rec k)
+ascends-bound i (y ∷ ys) a x m = elim (List·Memᴰ·cases-cons m) [ inl e ↦ omega (arith, a .0) | inr k ↦ omega (arith, a .0, ascends-bound (suc y) ys (a .1) x k) ]
 
 first-least : (g : ℕ) (gs : List ℕ) → Ascends 1 (g ∷ gs) → (x : ℕ) → x among (g ∷ gs) → g ≤ x
-first-least g gs a x m = go (List·Memᴰ·cases-cons m)
-  where
-    go : (x ≡ g) ⊎ (x among gs) → g ≤ x
-    go (inl e) = omega arith
-    go (inr k) = let b = ascends-bound (suc g) gs (a .1) x k in omega arith
+first-least g gs a x m = elim (List·Memᴰ·cases-cons m) [ inl e ↦ omega arith | inr k ↦ omega (arith, ascends-bound (suc g) gs (a .1) x k) ]
 
 last-first : (n d g : ℕ) (gs : List ℕ) → 1 ≤ n → 1 ≤ g → g ≤ d → Ascends 1 (g ∷ gs) → lastOf 0 (keep (goodDay n (g ∷ gs)) (days d)) ≡ (g - 1) / n * n
-last-first n d g gs p o l a = last-keep (goodDay n L) d z (omega (arith, below)) (start (z-zero (decLt 0 z))) later
+last-first n d g gs p o l a = last-keep (goodDay n L) d z (omega (arith, below))
+    (elim (decLt 0 z) [ yes h ↦ inr (rw (divides-multiple ((g - 1) / n) n p, none)) | no h ↦ inl (omega arith) ])
+    (λ x h k. elim (split (divides n x)) [ inl e ↦ let b = beyond x h e in rw (e, hit x (omega (arith, next))) | inr e ↦ rw e ])
   where
     L : List ℕ
     L = g ∷ gs
@@ -100,53 +76,24 @@ last-first n d g gs p o l a = last-keep (goodDay n L) d z (omega (arith, below))
     below = div-mul-le-self (g - 1) n
 
     next : g - 1 < z + n
-    next = let w : (g - 1) / n * n + (g - 1) % n ≡ g - 1 = div-add-mod' (g - 1) n in let r : (g - 1) % n < n = mod-lt (g - 1) p in omega arith
+    next = let w = div-add-mod' (g - 1) n in let r = mod-lt (g - 1) p in omega arith
 
     none : meets L (lastDays z z) ≡ false
-    none = go (split (meets L (lastDays z z)))
-      where
-        refute : (x : ℕ) × (x among lastDays z z) × (x among L) → ⊥
-        refute r =
-            let u = lastDays-bounds z z (r .0) (omega arith) (r .1) in
-            let v = first-least g gs a (r .0) (r .2) in
-            omega (arith, below, o, u .1)
-
-        go : (meets L (lastDays z z) ≡ true) ⊎ (meets L (lastDays z z) ≡ false) → meets L (lastDays z z) ≡ false
-        go (inl e) = absurd (refute (meets-day L (lastDays z z) e))
-        go (inr e) = e
-
-    z-zero : Dec (0 < z) → (z ≡ 0) ⊎ (0 < z)
-    z-zero (yes h) = inr h
-    z-zero (no h) = inl (omega arith)
-
-    start : (z ≡ 0) ⊎ (0 < z) → (z ≡ 0) ⊎ (goodDay n L z ≡ true)
-    start (inl e) = inl e
-    start (inr e) = inr (rw (divides-multiple ((g - 1) / n) n p, none))
+    none = elim (split (meets L (lastDays z z))) [
+      | inl e ↦ let r = meets-day L (lastDays z z) e in
+          let u = lastDays-bounds z z (r .0) (omega arith) (r .1) in
+          absurd (omega (arith, below, first-least g gs a (r .0) (r .2)))
+      | inr e ↦ e
+    ]
 
     beyond : (x : ℕ) → z < x → divides n x ≡ true → z + n ≤ x
-    beyond x h e =
-        let w : x / n * n ≡ x = div-whole n x e in
-        go w (decLt ((g - 1) / n) (x / n))
-      where
-        go : x / n * n ≡ x → Dec ((g - 1) / n < x / n) → z + n ≤ x
-        go w (yes u) =
-            let v : suc ((g - 1) / n) * n ≤ x / n * n = mul-le-mul-right n u in
-            let s : suc ((g - 1) / n) * n ≡ (g - 1) / n * n + n = suc-mul ((g - 1) / n) n in
-            omega arith
-        go w (no u) =
-            let c : x / n ≤ (g - 1) / n = omega arith in
-            let v : x / n * n ≤ (g - 1) / n * n = mul-le-mul-right n c in
-            absurd (omega arith)
+    beyond x h e = let w = div-whole n x e in elim (decLt ((g - 1) / n) (x / n)) [
+      | yes u ↦ let v = mul-le-mul-right n u in let s = suc-mul ((g - 1) / n) n in omega arith
+      | no u ↦ let c : x / n ≤ (g - 1) / n = omega arith in let v = mul-le-mul-right n c in absurd (omega arith)
+    ]
 
     hit : (x : ℕ) → g ≤ x → meets L (lastDays x x) ≡ true
     hit x h = meets-of L (lastDays x x) g (lastDays-mem x x g (omega arith) (omega (arith, o)) h) (List·Memᴰ·head refl)
-
-    later : (x : ℕ) → z < x → x ≤ d → goodDay n L x ≡ false
-    later x h k = go (divides n x) refl
-      where
-        go : (c : Bool) → divides n x ≡ c → c && not (meets L (lastDays x x)) ≡ false
-        go true e = let b = beyond x h e in rw (hit x (omega (arith, next)))
-        go false e = refl
 
 -- last good of a changed table
 pub good-first : (s n d : ℕ) (S t : List ℕ) (g : ℕ) (gs : List ℕ) → 1 ≤ s → s ≤ 3 → 1 ≤ n → Gives (chains s n d) d S t → listing (chains s n d) d t ≡ g ∷ gs →
@@ -154,5 +101,4 @@ pub good-first : (s n d : ℕ) (S t : List ℕ) (g : ℕ) (gs : List ℕ) → 1 
 good-first s n d S t g gs a b p h e =
     let w = listing-within (chains s n d) d t g (rw e (List·Memᴰ·head refl)) in
     good-given s n d (listing (chains s n d) d t) t a b (gives-listing (chains s n d) d S t h) ∙
-    ap (λ (l : List ℕ). lastOf 0 (keep (goodDay n l) (days d))) e ∙
-    last-first n d g gs p (w .0) (w .1) (rw e at (listing-ascends (chains s n d) d t))
+    rw e (last-first n d g gs p (w .0) (w .1) (rw e at (listing-ascends (chains s n d) d t)))

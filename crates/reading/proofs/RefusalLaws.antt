@@ -1,17 +1,14 @@
 -- The refusal by the tests, and what no refusal leaves.
-use mathlib.Core.Path.{_≡_, refl, sym, ap, _∙_}
+use mathlib.Core.{Path._≡_, Path.refl, Path.sym, Path._∙_, List.List, List.[], List._∷_}
 use mathlib.Core.Bool.{Bool, true, false, not, _&&_, _||_, cond}
-use mathlib.Core.List.{List, [], _∷_}
 use Prim.Native.Nat.{ℕ, _*_, _≤_, _<_}
 use native.Mathlib.Omega.{arith}
-use lib.Dec.{eqb}
-use lib.ListN.{length, take}
-use lib.Seq.{length-take-le}
-use borrow.Author.Tests.{le-leb, lt-leb, leb-true, not-true, not-false}
+use lib.{Dec.eqb, ListN.length, ListN.take, Seq.length-take-le}
+use borrow.Author.Tests.{le-leb, lt-leb, leb-true}
 use Rattle.evidence.specs.Evidence.{meets, tableOf, Gives, accepted}
 use Rattle.evidence.proofs.TableLaws.{given-iff-accepted}
 use Rattle.refusals.specs.Refusals.{firstRefusal}
-use Rattle.refusals.proofs.TestLaws.{Pass, none-fails, all-pass, pass-split, pass-both, refused-before, refused-after}
+use Rattle.refusals.proofs.TestLaws.{passed, failed, Pass, none-fails, all-pass, pass-split, pass-both, refused-before, refused-after}
 use Rattle.layouts.specs.Layouts.{layoutTests, layoutRefusal, chains}
 use Rattle.layouts.proofs.AllowedLaws.{allowed-n-is, allowed-d-is, divides-factor, layout-is}
 use Rattle.layouts.proofs.Coverage.{divisor-le}
@@ -23,28 +20,19 @@ use Rattle.reading.proofs.BitLaws.{bits-at, pass-accepted}
 
 -- ---- tests 13 14
 
-pub given-13 : (s n d : ℕ) (t : List ℕ) {b : Bool} → b ≡ bits t → not b ≡ true → 13 ≡ firstRefusal (givenTests s n d t)
-given-13 s n d t {b} e f = rw (← e, not-true b f)
-
 -- with test 13 passed, the refusal is test 14's
 module _ (s n d : ℕ) (t : List ℕ) {b : Bool} (T : Table s n d t) (e : b ≡ bits t) (f : not b ≡ false) where
-  bits-pass : bits t ≡ true
-  bits-pass = sym e ∙ not-false b f
-
-  given-last : {a : Bool} → accepted (chains s n d) d t ≡ a → cond a 0 14 ≡ firstRefusal (givenTests s n d t)
-  given-last h = rw (bits-pass, h)
-
-  by-rules : {r : Bool} → r ≡ rules s n d t → accepted (chains s n d) d t ≡ r
-  by-rules h = accepted-rules s n d t T (bits-at t bits-pass) ∙ sym h
+  by-rules : {r : Bool} → r ≡ rules s n d t → r ≡ accepted (chains s n d) d t
+  by-rules h = h ∙ sym (accepted-rules s n d t T (bits-at t (passed e f)))
 
   pub given-passes : {m : ℕ} → m ≡ least t → m ≡ 1 → 0 ≡ firstRefusal (givenTests s n d t)
-  given-passes h k = given-last (pass-accepted (chains s n d) d t (T .size) bits-pass (sym h ∙ k))
+  given-passes h k = rw (passed e f, pass-accepted (chains s n d) d t (T .size) (passed e f) (sym h ∙ k))
 
   pub given-14 : {r : Bool} → r ≡ rules s n d t → not r ≡ true → 14 ≡ firstRefusal (givenTests s n d t)
-  given-14 {r} h k = given-last (by-rules h ∙ not-true r k)
+  given-14 h k = rw (passed e f, failed (by-rules h) k)
 
   pub given-0 : {r : Bool} → r ≡ rules s n d t → not r ≡ false → 0 ≡ firstRefusal (givenTests s n d t)
-  given-0 {r} h k = given-last (by-rules h ∙ not-false r k)
+  given-0 h k = rw (passed e f, passed (by-rules h) k)
 
 -- ---- tests 8 12 13 14
 
@@ -62,8 +50,7 @@ module _ (s n d : ℕ) (o : List ℕ) (places : ℕ) where
   pub table-given : {w v x p : ℕ} → w ≡ d → w ≤ places → v ≡ length (chains s n d) → x ≡ v → x ≤ length o → p ≡ firstRefusal (givenTests s n d (take x o)) →
       p ≡ firstRefusal (tableTests s n d o places)
   table-given h l q k m y =
-      rw (le-leb d places (omega arith), le-leb (length (chains s n d)) (length o) (omega arith))
-      (y ∙ ap (λ (i : ℕ). firstRefusal (givenTests s n d (take i o))) (k ∙ q))
+      rw (le-leb d places (omega arith), le-leb (length (chains s n d)) (length o) (omega arith), ← q, ← k) y
 
 pub part-length : (x : ℕ) (o : List ℕ) → x ≤ length o → x ≡ length (take x o)
 part-length x o m = sym (length-take-le x o m)
@@ -121,11 +108,7 @@ module _ (s n f d : ℕ) (o : List ℕ) (places : ℕ) where
 bits-given : (cs : List (List ℕ)) (S : List ℕ) → bits (tableOf cs S) ≡ true
 unfolding tableOf
 bits-given [] S = refl
-bits-given (c ∷ cs) S = rw (bits-given cs S) (go (meets S c))
-  where
-    go : (b : Bool) → (eqb (cond b 0 1) 0 || eqb (cond b 0 1) 1) && true ≡ true
-    go true = refl
-    go false = refl
+bits-given (c ∷ cs) S = rw (bits-given cs S) (elim (meets S c) as (λ b. (eqb (cond b 0 1) 0 || eqb (cond b 0 1) 1) && true ≡ true) [ true ↦ refl | false ↦ refl ])
 
 pub set-read : (s n f d : ℕ) (o : List ℕ) (places : ℕ) (S : List ℕ) → layoutRefusal s n f d ≡ 0 → d ≤ places → length (chains s n d) ≤ length o →
     Gives (chains s n d) d S (tableIn s n d o) → readRefusal s n f d o places ≡ 0
@@ -134,8 +117,5 @@ set-read s n f d o places S e l m h =
     all-pass (readTests s n f d o places)
     (pass-both (layoutTests s n f d) (tableTests s n d o places) (none-fails (layoutTests s n f d) refl e) (
       le-leb d places l,
-      (
-        le-leb (length (chains s n d)) (length o) m,
-        (rw (h .gives) at (bits-given (chains s n d) S), (given-iff-accepted (chains s n d) d (tableIn s n d o) .0 (S, h), tt)),
-      ),
+      (le-leb (length (chains s n d)) (length o) m, (rw (h .gives) at (bits-given (chains s n d) S), (given-iff-accepted (chains s n d) d (tableIn s n d o) .0 (S, h), tt))),
     ))

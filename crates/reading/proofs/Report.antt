@@ -1,10 +1,8 @@
 -- What reading says, and the list after it, from the days written.
-use mathlib.Core.Path.{_≡_, refl, sym, ap, _∙_}
-use mathlib.Core.Bool.{true}
+use mathlib.Core.{Path._≡_, Path.refl, Path.sym, Path.ap, Path._∙_, Bool.true}
 use mathlib.Core.List.{List, [], _∷_, _++_, List·Memᴰ·head}
-use Prim.Native.Nat.{ℕ, _+_, _-_, _*_, _/_, _^_, _≤_, _<_}
-use native.Mathlib.Nat.{div-mul-le-self}
-use native.Mathlib.Omega.{arith}
+use Prim.Native.Nat.{ℕ, _-_, _*_, _/_, _^_, _≤_, _<_}
+use native.Mathlib.{Nat.div-mul-le-self, Omega.arith}
 use lib.ListN.{length, getD, take, drop}
 use Rattle.lists.specs.Lists.{keep}
 use Rattle.lists.proofs.Laws.{length-upFrom}
@@ -15,16 +13,12 @@ use Rattle.layouts.specs.Layouts.{allowedScheme, allowedN, chains}
 use Rattle.layouts.proofs.AllowedLaws.{allowed-n-is, allowed-scheme-is}
 use Rattle.buffers.specs.Private.{Wrote}
 use Rattle.acceptance.specs.Private.{Table, rules, isListed}
-use Rattle.acceptance.proofs.Runs.{keep-length}
-use Rattle.acceptance.proofs.Accepted.{accepted-rules, listing-isListed}
-use Rattle.reading.specs.declared.Numbers.{Numbers}
-use Rattle.reading.specs.declared.Reading.{Reading}
+use Rattle.acceptance.proofs.{Runs.keep-length, Accepted.accepted-rules, Accepted.listing-isListed}
+use Rattle.reading.specs.{declared.Numbers.Numbers, declared.Reading.Reading, Numbers.lowOf, Numbers.lastGood}
 use Rattle.reading.specs.declared.Reading.the-variants.{Clean, Changed, Refused}
-use Rattle.reading.specs.Numbers.{lowOf, lastGood}
 use Rattle.reading.specs.Contract.{refusedReport, reportOf, tableIn, readRefusal, listedIn, found, readout}
 use Rattle.reading.specs.Private.{Given, numbersOf}
-use Rattle.reading.proofs.LastGood.{good-first}
-use Rattle.reading.proofs.BitLaws.{bits-at}
+use Rattle.reading.proofs.{LastGood.good-first, BitLaws.bits-at}
 use Rattle.reading.proofs.RefusalLaws.{layout-facts, read-layout, read-enough, read-given}
 
 -- ---- the numbers of a changed table

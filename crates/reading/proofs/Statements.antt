@@ -1,23 +1,17 @@
 -- The statements of specs/Statements.antt, proved.
-use mathlib.Core.Path.{_≡_, refl, sym, ap, _∙_}
-use mathlib.Core.Logic.{_⊎_, inl, inr}
+use mathlib.Core.{Path._≡_, Path.refl, Path.sym, Path.ap, Path._∙_, Logic.inl, Logic.inr, List.List, List.[], List._∷_, List._++_}
 use mathlib.Core.Bool.{Bool, true, false, cond}
-use mathlib.Core.List.{List, [], _∷_, _++_}
 use Prim.Native.Nat.{ℕ, zero, suc, _≤_}
-use native.Mathlib.Nat.{le-refl}
-use native.Mathlib.Omega.{arith}
-use lib.ListN.{length, take, drop}
-use lib.Seq.{take-at, drop-at, take-take}
+use native.Mathlib.{Nat.le-refl, Omega.arith}
+use lib.{ListN.length, ListN.take, ListN.drop, Seq.take-at, Seq.drop-at, Seq.take-take}
 use Rattle.lists.proofs.Laws.{enough-read, split, true-or-false}
 use Rattle.evidence.specs.Evidence.{accepted, listing}
 use Rattle.evidence.proofs.TableLaws.{given-iff-accepted, listed-iff, listing-ascends}
 use Rattle.refusals.specs.Refusals.{firstRefusal, unlessRefused}
 use Rattle.layouts.specs.Layouts.{chains}
-use Rattle.reading.specs.declared.Reading.{Reading}
+use Rattle.reading.specs.{declared.Reading.Reading, Numbers.lastGood, Private.givenTests}
 use Rattle.reading.specs.declared.Reading.the-variants.{Clean, Changed, Refused}
-use Rattle.reading.specs.Numbers.{lastGood}
 use Rattle.reading.specs.Contract.{Report, reportOf, refusedReport, tableIn, bits, readRefusal, listedIn, found, readout}
-use Rattle.reading.specs.Private.{givenTests}
 use Rattle.reading.specs.Statements.{Supplied, SomeSet, ReadIfGiven, SaysNoSet, ListsDaysOfSets, OutcomesRead, CaseOf, CaseTold, OneAnswer}
 use Rattle.reading.proofs.RefusalLaws.{set-read, table-given, table-refused, read-given}
 use Rattle.reading.proofs.Report.{readout-found}
@@ -84,20 +78,11 @@ read-if-given s n f d o l u = (
 )
 
 pub says-no-set : SaysNoSet
-says-no-set s n f d o l u = (forth, back)
-  where
-    forth : readout s n f d o l .report .refusal ≡ 14 → (bits (tableIn s n d o) ≡ true) × (SomeSet s n d o → ⊥)
-    forth e =
-        let q = failed (bits (tableIn s n d o)) (accepted (chains s n d) d (tableIn s n d o)) (sym (by-given s n f d o l u) ∙ e) in
-        (q .0, λ h. true-or-false (set-accepted s n f d o l u h) (q .1))
-
-    no-set : (SomeSet s n d o → ⊥) → (accepted (chains s n d) d (tableIn s n d o) ≡ true) ⊎ (accepted (chains s n d) d (tableIn s n d o) ≡ false) →
-        accepted (chains s n d) d (tableIn s n d o) ≡ false
-    no-set h (inl e) = absurd (h (accepted-set s n f d o l u e))
-    no-set h (inr e) = e
-
-    back : (bits (tableIn s n d o) ≡ true) × (SomeSet s n d o → ⊥) → readout s n f d o l .report .refusal ≡ 14
-    back h = by-given s n f d o l u ∙ rw (h .0, no-set (h .1) (split (accepted (chains s n d) d (tableIn s n d o))))
+says-no-set s n f d o l u =
+    let a = accepted (chains s n d) d (tableIn s n d o) in (
+      λ e. let q = failed (bits (tableIn s n d o)) a (sym (by-given s n f d o l u) ∙ e) in (q .0, λ h. true-or-false (set-accepted s n f d o l u h) (q .1)),
+      λ h. let no : a ≡ false = elim (split a) [ inl e ↦ absurd (h .1 (accepted-set s n f d o l u e)) | inr e ↦ e ] in by-given s n f d o l u ∙ rw (h .0, no),
+    )
 
 -- ---- the days listed
 

@@ -1,14 +1,20 @@
 -- Laws of the tests of a call: the first that fails, none that fails; and of what a refusal leaves.
-use mathlib.Core.Path.{_≡_, refl, sym, ap, _∙_}
-use mathlib.Core.Bool.{Bool, true, false, not, _&&_, cond}
+use mathlib.Core.{Path._≡_, Path.refl, Path.sym, Path._∙_, Bool.Bool, Bool.true, Bool.false, Bool.not, Bool._&&_}
 use mathlib.Core.List.{List, [], _∷_, _++_}
 use Prim.Native.Nat.{ℕ, zero, suc}
-use native.Mathlib.Omega.{arith}
-use lib.Dec.{eqb}
-use lib.ListN.{length, drop}
+use native.Mathlib.{Decide.ℕ-discrete, Omega.arith}
+use borrow.Author.Tests.{not-true, not-false}
+use lib.{Dec.eqb, ListN.length, ListN.drop}
 use Rattle.lists.proofs.Laws.{true-or-false, and-both}
 use Rattle.refusals.specs.Refusals.{Test, _orRefuse_, firstRefusal, answerOf, unlessRefused, frontWritten}
 use Rattle.refusals.specs.declared.Answer.the-variants.{Done, Refused}
+
+-- a test by the answer that a function gave
+pub passed : {r x : Bool} → r ≡ x → not r ≡ false → x ≡ true
+passed {r} e f = sym e ∙ not-false r f
+
+pub failed : {r x : Bool} → r ≡ x → not r ≡ true → x ≡ false
+failed {r} e f = sym e ∙ not-true r f
 
 -- each test passes
 abbrev pub Pass : List Test → Type 0
@@ -64,24 +70,18 @@ refused-after (false orRefuse number ∷ a) b k e = absurd (number-some number (
 -- ---- a call's last test, with no cause found before it
 
 module _ (tests : List Test) (b : Bool) (number : ℕ) {x : ℕ} (k : numbered tests ≡ true) (e : x ≡ firstRefusal tests) (z : x ≡ 0) where
-  last-decides : cond b 0 number ≡ firstRefusal (tests ++ (b orRefuse number ∷ []))
-  last-decides = sym (refused-after tests (b orRefuse number ∷ []) k (sym e ∙ z))
-
   pub last-fails : b ≡ false → number ≡ firstRefusal (tests ++ (b orRefuse number ∷ []))
-  last-fails t = ap (λ (y : Bool). cond y 0 number) (sym t) ∙ last-decides
+  last-fails t = rw (refused-after tests (b orRefuse number ∷ []) k (sym e ∙ z), t)
 
   pub last-passes : b ≡ true → 0 ≡ firstRefusal (tests ++ (b orRefuse number ∷ []))
-  last-passes t = ap (λ (y : Bool). cond y 0 number) (sym t) ∙ last-decides
+  last-passes t = rw (refused-after tests (b orRefuse number ∷ []) k (sym e ∙ z), t)
 
 -- tests whose parts find the same find the same
 pub same-refusal : (a b c e : List Test) → numbered a ≡ true → numbered b ≡ true → firstRefusal a ≡ firstRefusal b → firstRefusal c ≡ firstRefusal e → firstRefusal (a ++ c) ≡ firstRefusal (b ++ e)
-same-refusal a b c e k l p q = go (firstRefusal a) refl
-  where
-    go : (r : ℕ) → firstRefusal a ≡ r → firstRefusal (a ++ c) ≡ firstRefusal (b ++ e)
-    go zero z = refused-after a c k z ∙ q ∙ sym (refused-after b e l (sym p ∙ z))
-    go (suc r) z =
-        let h : firstRefusal a ≡ 0 → ⊥ = λ y. omega arith in
-        sym (refused-before a c refl h) ∙ refused-before b e p h
+same-refusal a b c e k l p q = elim (ℕ-discrete (firstRefusal a) 0) [
+  | yes z ↦ refused-after a c k z ∙ q ∙ sym (refused-after b e l (sym p ∙ z))
+  | no h ↦ sym (refused-before a c refl h) ∙ refused-before b e p h
+]
 
 -- ---- what a call answers and leaves, by the refusal that it found
 

@@ -1,12 +1,8 @@
 -- Sealing: the refusal by its tests, what stands in the book after i days, what the call gives.
-use mathlib.Core.Path.{_≡_, refl, sym, ap, ap₂, _∙_}
-use mathlib.Core.Bool.{true}
-use mathlib.Core.List.{List, [], _∷_, _++_}
+use mathlib.Core.{Path._≡_, Path.refl, Path.sym, Path.ap, Path.ap₂, Path._∙_, Bool.true, List.List, List.[], List._∷_, List._++_}
 use Prim.Native.Nat.{ℕ, suc, _+_, _-_, _*_, _≤_, _<_}
-use native.Mathlib.Numerals.{add-one}
-use native.Mathlib.Omega.{arith}
-use lib.Dec.{leb, ltb}
-use lib.ListN.{length, drop, length-append, length-drop}
+use native.Mathlib.{Numerals.add-one, Omega.arith}
+use lib.{Dec.leb, Dec.ltb, ListN.length, ListN.drop, ListN.length-append, ListN.length-drop}
 use borrow.Author.Tests.{leb-true, le-leb, lt-leb, lt-ltb}
 use borrow.Rule.Slice.PartMut.{midOf, putMid}
 use Rattle.evidence.specs.Evidence.{values}
@@ -16,16 +12,13 @@ use Rattle.refusals.proofs.TestLaws.{none-fails, all-pass, pass-split, refused-
 use Rattle.buffers.proofs.Lent.{lent-is, lent-put, lent-length}
 use Rattle.sha256.specs.Sha256.{sha256}
 use Rattle.layouts.specs.Layouts.{allowedD, setupTests, layoutTests, setupRefusal, chains, chainsOfDay}
-use Rattle.layouts.proofs.AllowedLaws.{layout-passed, allowed-d-is}
-use Rattle.layouts.proofs.Coverage.{chains-front}
+use Rattle.layouts.proofs.{AllowedLaws.layout-passed, AllowedLaws.allowed-d-is, Coverage.chains-front}
 use Rattle.ledger.specs.Ledger.{dayAt, daysOf, endsTests, endsRefusal, ledgerTests, ledgerRefusal}
 use Rattle.ledger.specs.Private.{EndsHold}
-use Rattle.ledger.proofs.EndLaws.{refusal-none}
-use Rattle.ledger.proofs.DayLaws.{days-none, days-snoc, days-length, day-length}
+use Rattle.ledger.proofs.{EndLaws.refusal-none, DayLaws.days-none, DayLaws.days-snoc, DayLaws.days-length, DayLaws.day-length}
 use Rattle.chains.specs.Book.{start, bookOf}
 use Rattle.chains.proofs.BookLaws.{book-none, book-suc, book-length, values-of-length}
-use Rattle.service.specs.declared.Record.{Record}
-use Rattle.service.specs.declared.Closed.{Closed}
+use Rattle.service.specs.{declared.Record.Record, declared.Closed.Closed}
 use Rattle.service.specs.Contract.{countOf, opened, added, closing}
 use Rattle.journal.specs.Journal.{Journal, adds, closes, refusalOf}
 use Rattle.journal.proofs.RunLaws.{Keeps, keeps-open, taken-add, taken-close, taken-count, taken-part}

@@ -17,7 +17,8 @@ use Rattle.service.specs.declared.Writing.the-variants as writing
 use Rattle.service.specs.declared.Opened.{Opened}
 use Rattle.service.specs.declared.Added.{Added}
 use Rattle.service.specs.declared.Closed.{Closed}
-use Rattle.service.specs.Contract.{fresh, zeros, opened, recordTests, addTests, addRefusal, grown, added, dayCount, closeTests, closeRefusal, dayBytes, nextDay, writingOf, writingNumber, closing}
+use Rattle.service.specs.Contract.{fresh, zeros, opened, recordTests, addTests, addRefusal, grown, added, dayCount, closeTests, closeRefusal}
+use Rattle.service.specs.Contract.{dayBytes, nextDay, writingOf, writingNumber, closing}
 use Rattle.service.specs.Private.{recordRefusal}
 use Rattle.service.proofs.RecordLaws.{record-passes}
 

@@ -3,14 +3,16 @@ use mathlib.Core.Path.{_≡_, refl, sym, _∙_}
 use mathlib.Core.Bool.{Bool, true, false, not, _&&_}
 use Prim.Native.Nat.{ℕ, _≤_, _<_}
 use lib.Dec.{leb}
+use lib.ListN.{length}
 use borrow.Author.Tests.{leb-true, le-leb, ltb-true, lt-ltb, le-ltb, not-true, not-false}
 use Rattle.lists.proofs.Laws.{and-both}
 use Rattle.refusals.specs.Refusals.{bookLimit, dayLimit}
 use Rattle.refusals.proofs.TestLaws.{none-fails, all-pass}
-use Rattle.layouts.specs.Layouts.{allowedScheme, allowedN, allowedF, setupTests, setupRefusal}
+use Rattle.layouts.specs.Layouts.{allowedScheme, allowedN, allowedF, setupTests, setupRefusal, chains}
 use Rattle.layouts.proofs.AllowedLaws.{setup-is}
 use Rattle.service.specs.declared.Record.{Record}
-use Rattle.service.specs.Contract.{allowedRecord, recordTests}
+use Rattle.service.specs.declared.Writing.the-variants.{Wrote, Refused}
+use Rattle.service.specs.Contract.{allowedRecord, recordTests, writtenSoFar}
 use Rattle.service.specs.Private.{recordRefusal}
 
 -- ---- test 6
@@ -75,3 +77,19 @@ unfolding recordRefusal
 record-passes r e z =
     let p = none-fails (recordTests r) refl (sym e ∙ z) in
     (allowed-is r (p .0), ltb-true (r .days) bookLimit (p .1 .0))
+
+-- ---- the values so far: test 6, and what it leaves
+
+module _ (r : Record) {b : Bool} (e : b ≡ allowedRecord r) where
+  pub so-far-6 : not b ≡ true → Refused 6 ≡ writtenSoFar r
+  unfolding writtenSoFar
+  so-far-6 t = rw (← e, not-true b t)
+
+  pub so-far-asks : not b ≡ false → (allowedScheme (r .scheme) ≡ true) × (allowedN (r .n) ≡ true) × (r .days ≤ bookLimit)
+  so-far-asks t =
+      let a = allowed-is r (sym e ∙ not-false b t) in
+      let u = setup-is (r .scheme) (r .n) (r .f) (a .setup) in (u .scheme-ok, u .n-ok, a .days-most)
+
+  pub so-far-0 : not b ≡ false → (k : ℕ) → k ≡ length (chains (r .scheme) (r .n) (r .days)) → Wrote k ≡ writtenSoFar r
+  unfolding writtenSoFar
+  so-far-0 t k q = rw (← e, not-false b t, q)

@@ -9,7 +9,7 @@ use Rattle.refusals.specs.Refusals.{bookLimit, dayLimit, Test, _orRefuse_, firs
 use Rattle.refusals.specs.Refusals.{frontWritten}
 use Rattle.hasher.specs.declared.Hasher.{Hasher}
 use Rattle.hasher.specs.Hasher.{begun, absorbed, finished}
-use Rattle.layouts.specs.Layouts.{allowedScheme, allowedN, allowedF, setupRefusal, chainsOfDay}
+use Rattle.layouts.specs.Layouts.{allowedScheme, allowedN, allowedF, setupRefusal, chainsOfDay, chains}
 use Rattle.chains.specs.declared.Value.{Value}
 use Rattle.chains.specs.Step.{startValue, linked, linkedSlots, restarted, dayValues, valueBytes}
 use Rattle.service.specs.declared.Record.{Record}
@@ -171,3 +171,9 @@ closing r part =
       result = record { answer = writingOf refusal (dayCount r); state = unlessRefused refusal (nextDay r) r };
       part = frontWritten refusal (dayBytes r) part;
     }
+
+-- ---- our own call (SPEC 15.5): the number of values of the days closed; test 6
+
+unfoldable pub writtenSoFar : Record → Writing
+writtenSoFar r =
+    writingOf (firstRefusal (allowedRecord r orRefuse 6 ∷ [])) (length (chains (r .scheme) (r .n) (r .days)))

@@ -7,7 +7,7 @@ use chains::Value;
 use refusals::Answer;
 ghost use mathlib.Core.Path.{_≡_};
 ghost use Rattle.service.specs.Contract.{opened, addRefusal, added, closeRefusal, closing, writingNumber};
-ghost use Rattle.service.specs.Contract.{countOf};
+ghost use Rattle.service.specs.Contract.{countOf, writtenSoFar};
 
 // 01's five numbers, and the running hashes: of the open day (hash, block) and of the chains.
 pub struct Record {
@@ -22,7 +22,7 @@ pub struct Record {
     pub running: [Value; 17],
 }
 
-// The answer of close: the number of values written, or the refusal.
+// The number of values written, by a close or so far; or the refusal.
 pub enum Writing {
     Wrote(u32),
     Refused(u32),
@@ -145,4 +145,14 @@ pub fn close(state: Record, part: &mut [u8]) -> Closed
         answer: Writing::Wrote(k),
         state: day::next(state, step),
     }
+}
+
+// Our own call: the number of values of the days closed. Test 6 (SPEC 15.5).
+pub fn values_so_far(state: Record) -> Writing
+    ensures { λ r. ⌜ r ≡ writtenSoFar state ⌝ }
+{
+    if !records::allowed(state) {
+        return Writing::Refused(6);
+    }
+    Writing::Wrote(layouts::values_through(state.scheme, state.n, state.days))
 }

@@ -43,7 +43,8 @@ pub fn zeros() -> Record
     }
 }
 
-fn allowed(state: Record) -> bool
+// Test 6.
+pub fn allowed(state: Record) -> bool
     ensures { λ r. ⌜ r ≡ allowedRecord state ⌝ }
 {
     if layouts::setup_refusal(state.scheme, state.n, state.f) != 0 {

@@ -1,9 +1,8 @@
 -- A definition of SHA-256 from the values that the code computes one after the other.
 -- Assumes nothing.
 use Prim.Native.Nat.{ℕ, _+_, _%_}
-use mathlib.Core.Path.{_≡_, sym, ap, ap₂, _∙_}
+use mathlib.Core.{Path._≡_, Path.sym, Path.ap, Path.ap₂, Path._∙_, List.List, List.[], List._∷_}
 use native.Mathlib.Nat.{add-zero}
-use mathlib.Core.List.{List, [], _∷_}
 use lib.ListN.{getD, set}
 use Rattle.sha256_words.specs.Words.{add32, ch, maj, bsig0, bsig1, ssig0, ssig1}
 use Rattle.sha256.specs.Sha256.{t1, t2, turned, round, summed}

@@ -1,7 +1,6 @@
 -- The definition computes the standard's first example.
 -- Assumes nothing.
-use mathlib.Core.Path.{_≡_, refl}
-use mathlib.Core.List.{[], _∷_}
+use mathlib.Core.{Path._≡_, Path.refl, List.[], List._∷_}
 use Rattle.sha256_words.specs.Words.{add32, ch, maj, bsig0, bsig1, ssig0, ssig1, kTable, initial, wordAt, words, bytesOf}
 use Rattle.sha256.specs.Sha256.{later, scheduled, grown, schedule, t1, t2, turned, round, rounds, summed, compress, chunks, blocks, wide, padding, hashed, sha256}
 

@@ -1,10 +1,8 @@
 -- Laws of SHA-256: the successive blocks of a list, and the sizes of hash values and digests.
 -- Assumes nothing.
 use Prim.Native.Nat.{ℕ, zero, suc, _+_, _*_, _/_, _≤_, _<_}
-use mathlib.Core.Path.{_≡_, refl, ap, ap₂, _∙_}
-use mathlib.Core.List.{List, _++_}
-use native.Mathlib.Omega.{arith}
-use native.Mathlib.Nat.{suc-mul, zero-add, suc-add}
+use mathlib.Core.{Path._≡_, Path.refl, Path.ap, Path.ap₂, Path._∙_, List.List, List._++_}
+use native.Mathlib.{Omega.arith, Nat.suc-mul, Nat.zero-add, Nat.suc-add}
 use lib.ListN.{length, take, drop, length-append, length-drop}
 use lib.Seq.{take-append-le, drop-append-le, drop-drop, take-all, take-at, drop-at}
 use Rattle.sha256_words.specs.Words.{initial, words}

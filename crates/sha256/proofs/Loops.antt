@@ -1,10 +1,8 @@
 -- The steps of the loops over the blocks of a slice and the words of a hash value.
 -- Assumes nothing.
 use Prim.Native.Nat.{ℕ, _+_, _-_, _*_, _/_}
-use mathlib.Core.Path.{_≡_, refl, ap, _∙_}
-use mathlib.Core.List.{List}
-use native.Mathlib.Omega.{arith}
-use native.Mathlib.Numerals.{add-one}
+use mathlib.Core.{Path._≡_, Path.refl, Path.ap, Path._∙_, List.List}
+use native.Mathlib.{Omega.arith, Numerals.add-one}
 use lib.ListN.{length, take, drop}
 use Rattle.sha256_words.specs.Words.{words}
 use Rattle.sha256.specs.Sha256.{compress, chunks, blocks}

@@ -1,11 +1,8 @@
 -- The schedule's recursion, and the window that slides over it, up to a block's compression.
 -- Assumes nothing.
 use Prim.Native.Nat.{ℕ, zero, suc, _+_, _-_, _%_, _≤_, _<_}
-use mathlib.Core.Path.{_≡_, refl, sym, ap, _∙_}
-use mathlib.Core.List.{List, [], _∷_}
-use native.Mathlib.Omega.{arith}
-use native.Mathlib.Nat.{add-suc, add-zero, eq-or-lt-of-le, le-of-suc-le-suc}
-use mathlib.Core.Logic.{⊎-elim}
+use mathlib.Core.{Path._≡_, Path.refl, Path.sym, Path.ap, Path._∙_, List.List, List.[], List._∷_, Logic.⊎-elim}
+use native.Mathlib.{Omega.arith, Nat.add-suc, Nat.add-zero, Nat.eq-or-lt-of-le, Nat.le-of-suc-le-suc}
 use borrow.Author.Tests.{lt-ltb, le-ltb}
 use lib.ListN.{length, getD, take, drop, length-set, length-append, length-drop}
 use lib.Seq.{take-suc, getD-take, getD-drop, take-all, take-append-le, getD-at, getD-set-same, getD-set-other, ext-getD, length-take-le}

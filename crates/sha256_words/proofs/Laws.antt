@@ -1,9 +1,7 @@
 -- Laws of words as bytes: sizes, bounds, one word more.
 use Prim.Native.Nat.{ℕ, _+_, _*_, _/_, _%_, _^_, _≤_, _<_}
-use mathlib.Core.Path.{_≡_, refl, sym, ap, ap₂, _∙_}
-use mathlib.Core.List.{List, [], _∷_, _++_}
-use native.Mathlib.Omega.{arith}
-use native.Mathlib.Numerals.{add-one, towards-suc}
+use mathlib.Core.{Path._≡_, Path.refl, Path.sym, Path.ap, Path.ap₂, Path._∙_, List.List, List.[], List._∷_, List._++_}
+use native.Mathlib.{Omega.arith, Numerals.add-one, Numerals.towards-suc}
 use lib.ListN.{length, getD, take, drop, set, length-append}
 use lib.Seq.{take-suc, take-all, take-at, sets, sets-eq, length-take-le}
 use Rattle.sha256_words.specs.Words.{initial, wordAt, words, bytesOf}

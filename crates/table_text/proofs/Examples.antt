@@ -1,10 +1,8 @@
 -- 01's example of the program, and a refusal, computed from the definitions.
-use mathlib.Core.Path.{_≡_, refl}
-use mathlib.Core.List.{[], _∷_, flatMap}
+use mathlib.Core.{Path._≡_, Path.refl, List.[], List._∷_, List.flatMap}
 use Rattle.evidence.specs.Evidence.{tableOf, listing, accepted}
 use Rattle.layouts.specs.Layouts.{lg, namesThrough, chainsOfDay, chains}
-use Rattle.reading.specs.Numbers.{lastGood}
-use Rattle.reading.specs.Contract.{listedIn, found}
+use Rattle.reading.specs.{Numbers.lastGood, Contract.listedIn, Contract.found}
 use Rattle.number_text.specs.Numbers.{afterDigits, isNumber, isField, valueIn, afterField, decimal}
 use Rattle.table_text.specs.Text.{isFormed, outcomesIn, textRefusal, line, noLine, refLine, dayLines, tableLines, textOf}
 

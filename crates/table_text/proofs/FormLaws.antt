@@ -1,13 +1,11 @@
 -- A text is formed exactly if it is laid out as 01 says, and then its numbers are those of its fields.
-use mathlib.Core.Path.{_≡_, refl, ap, _∙_}
-use mathlib.Core.Bool.{true, _&&_}
-use mathlib.Core.List.{List, [], _∷_, _++_, map}
+use mathlib.Core.{Path._≡_, Path.refl, Path.ap, Path._∙_, Bool.true, Bool._&&_, List.List, List.[], List._∷_, List._++_, List.map}
 use Prim.Native.Nat.{ℕ}
 use Rattle.lists.specs.Lists.{same}
 use Rattle.lists.proofs.Laws.{and-both, same-eq}
-use Rattle.number_text.specs.Numbers.{digitOf, digits, afterDigits, numberFrom, isField, valueIn, afterField}
+use Rattle.number_text.specs.Numbers.{digitOf, digits, afterDigits, isField, valueIn, afterField}
 use Rattle.number_text.proofs.FieldLaws.{digits-before, after-before, laid-field, laid-value, laid-rest, digits-again, digits-split, field-number, field-text}
-use Rattle.table_text.specs.Text.{fromN, fromF, fromD, lastLine, isFormed, schemeIn, nIn, fIn, dIn, outcomesIn}
+use Rattle.table_text.specs.Text.{fromN, fromF, fromD, lastLine, isFormed, outcomesIn}
 use Rattle.table_text.specs.Statements.{Laid, LaidIsRead, FormedIsLaid}
 
 module _ (s a b c e o : List ℕ) (l : Laid s a b c e o) where
@@ -26,38 +24,24 @@ module _ (s a b c e o : List ℕ) (l : Laid s a b c e o) where
   laid-formed : isFormed s ≡ true
   unfolding isFormed
   laid-formed =
-      let p : isField 44 s ≡ true = ap (isField 44) (l .text) ∙ laid-field a 44 (b ++ (44 ∷ (c ++ (44 ∷ (e ++ (10 ∷ (o ++ (10 ∷ [])))))))) (l .scheme-ok) refl in
-      let q : isField 44 (fromN s) ≡ true = ap (isField 44) from-n ∙ laid-field b 44 (c ++ (44 ∷ (e ++ (10 ∷ (o ++ (10 ∷ [])))))) (l .n-ok) refl in
-      let r : isField 44 (fromF s) ≡ true = ap (isField 44) from-f ∙ laid-field c 44 (e ++ (10 ∷ (o ++ (10 ∷ [])))) (l .f-ok) refl in
-      let t : isField 10 (fromD s) ≡ true = ap (isField 10) from-d ∙ laid-field e 10 (o ++ (10 ∷ [])) (l .d-ok) refl in
-      let u : afterDigits (lastLine s) ≡ 10 ∷ [] = ap afterDigits last-line ∙ after-before o 10 [] (l .outcomes-ok) refl in
-      rw (p, q, r, t, u)
-
-  laid-scheme : schemeIn s ≡ numberFrom 0 a
-  laid-scheme = ap valueIn (l .text) ∙ laid-value a 44 (b ++ (44 ∷ (c ++ (44 ∷ (e ++ (10 ∷ (o ++ (10 ∷ [])))))))) (l .scheme-ok) refl
-
-  laid-n : nIn s ≡ numberFrom 0 b
-  laid-n = ap valueIn from-n ∙ laid-value b 44 (c ++ (44 ∷ (e ++ (10 ∷ (o ++ (10 ∷ [])))))) (l .n-ok) refl
-
-  laid-f : fIn s ≡ numberFrom 0 c
-  laid-f = ap valueIn from-f ∙ laid-value c 44 (e ++ (10 ∷ (o ++ (10 ∷ [])))) (l .f-ok) refl
-
-  laid-d : dIn s ≡ numberFrom 0 e
-  laid-d = ap valueIn from-d ∙ laid-value e 10 (o ++ (10 ∷ [])) (l .d-ok) refl
-
-  laid-outcomes : outcomesIn s ≡ map digitOf o
-  unfolding outcomesIn
-  laid-outcomes = ap (map digitOf) (ap digits last-line ∙ digits-before o 10 [] (l .outcomes-ok) refl)
+      rw (
+        ap (isField 44) (l .text) ∙ laid-field a 44 _ (l .scheme-ok) refl,
+        ap (isField 44) from-n ∙ laid-field b 44 _ (l .n-ok) refl,
+        ap (isField 44) from-f ∙ laid-field c 44 _ (l .f-ok) refl,
+        ap (isField 10) from-d ∙ laid-field e 10 _ (l .d-ok) refl,
+        ap afterDigits last-line ∙ after-before o 10 [] (l .outcomes-ok) refl,
+      )
 
 pub laid-is-read : LaidIsRead
+unfolding outcomesIn
 laid-is-read s a b c e o l =
     record {
       formed = laid-formed s a b c e o l;
-      scheme-is = laid-scheme s a b c e o l;
-      n-is = laid-n s a b c e o l;
-      f-is = laid-f s a b c e o l;
-      d-is = laid-d s a b c e o l;
-      outcomes-are = laid-outcomes s a b c e o l;
+      scheme-is = ap valueIn (l .text) ∙ laid-value a 44 _ (l .scheme-ok) refl;
+      n-is = ap valueIn (from-n s a b c e o l) ∙ laid-value b 44 _ (l .n-ok) refl;
+      f-is = ap valueIn (from-f s a b c e o l) ∙ laid-value c 44 _ (l .f-ok) refl;
+      d-is = ap valueIn (from-d s a b c e o l) ∙ laid-value e 10 _ (l .d-ok) refl;
+      outcomes-are = ap (map digitOf) (ap digits (last-line s a b c e o l) ∙ digits-before o 10 [] (l .outcomes-ok) refl);
     }
 
 -- ---- the other direction
@@ -76,15 +60,11 @@ parts s e =
       d-ok = field-number 10 (fromD s) (k .0);
       outcomes-ok = digits-again (lastLine s);
       text =
-          field-text 44 s (h .0) ∙
-          ap (λ (r : List ℕ). digits s ++ (44 ∷ r))
-          (field-text 44 (fromN s) (i .0) ∙
-          ap (λ (r : List ℕ). digits (fromN s) ++ (44 ∷ r))
-          (field-text 44 (fromF s) (j .0) ∙
-          ap (λ (r : List ℕ). digits (fromF s) ++ (44 ∷ r))
-          (field-text 10 (fromD s) (k .0) ∙
-          ap (λ (r : List ℕ). digits (fromD s) ++ (10 ∷ r))
-          (digits-split (lastLine s) ∙ ap (λ (r : List ℕ). digits (lastLine s) ++ r) (same-eq (afterDigits (lastLine s)) (10 ∷ []) (k .1))))));
+          field-text 44 s (h .0) ∙ ap (λ r. digits s ++ (44 ∷ r))
+          (field-text 44 (fromN s) (i .0) ∙ ap (λ r. digits (fromN s) ++ (44 ∷ r))
+          (field-text 44 (fromF s) (j .0) ∙ ap (λ r. digits (fromF s) ++ (44 ∷ r))
+          (field-text 10 (fromD s) (k .0) ∙ ap (λ r. digits (fromD s) ++ (10 ∷ r))
+          (digits-split (lastLine s) ∙ ap (λ r. digits (lastLine s) ++ r) (same-eq (afterDigits (lastLine s)) (10 ∷ []) (k .1))))));
     }
 
 pub formed-is-laid : FormedIsLaid

@@ -1,63 +1,29 @@
 -- Laws of the two lines: where they end, their numbers, their outcomes.
 use mathlib.Core.Path.{_≡_, refl, sym, ap, ap₂, _∙_}
-use mathlib.Core.Bool.{Bool, true, false, not, _&&_}
+use mathlib.Core.Bool.{Bool, false, _&&_, and-true, and-false}
 use mathlib.Core.List.{List, [], _∷_, _++_, map, append-assoc, map-append}
 use Prim.Native.Nat.{ℕ, suc, _+_, _-_, _≤_, _<_}
-use native.Mathlib.Numerals.{add-one}
-use native.Mathlib.Omega.{arith}
-use lib.Dec.{eqb}
+use native.Mathlib.{Numerals.add-one, Omega.arith}
+use lib.{Dec.eqb, Seq.take-all, Seq.take-suc, Seq.drop-cons, Seq.drop-drop, Seq.length-take-le, Seq.set-at}
 use lib.ListN.{length, getD, set, take, drop, length-drop, length-map, drop-of-length-le}
-use lib.Seq.{take-all, take-suc, drop-cons, drop-drop, length-take-le, set-at}
-use borrow.Author.Tests.{not-true, not-false}
 use Rattle.lists.specs.Lists.{same}
 use Rattle.number_text.specs.Numbers.{digitOf, digits, afterDigits, isField, valueIn, afterField}
-use Rattle.number_text.specs.Private.{FieldAt}
-use Rattle.number_text.specs.declared.Field.{Field}
+use Rattle.number_text.specs.{Private.FieldAt, declared.Field.Field}
 use Rattle.number_text.proofs.FieldLaws.{digits-part, digits-within}
-use Rattle.table_text.specs.Text.{isFormed, lastLine}
-use Rattle.table_text.specs.Private.{TypedIs}
+use Rattle.table_text.specs.{Text.isFormed, Text.lastLine, Private.TypedIs}
 
 -- ---- the end
 
 pub end-not : (s : List ℕ) (at : ℕ) → (length s - at ≡ 1 → ⊥) → false ≡ same (drop at s) (10 ∷ [])
 end-not s at h = go (drop at s) (λ e. h (sym (length-drop at s) ∙ e))
   where
-    none : (b : Bool) → false ≡ b && false
-    none true = refl
-    none false = refl
-
     go : (xs : List ℕ) → (length xs ≡ 1 → ⊥) → false ≡ same xs (10 ∷ [])
     go [] n = refl
     go (x ∷ []) n = absurd (n refl)
-    go (x ∷ y ∷ xs) n = none (eqb x 10)
+    go (x ∷ y ∷ xs) n = sym (and-false (eqb x 10))
 
 pub end-one : (s : List ℕ) (at : ℕ) → length s - at ≡ 1 → eqb (getD s at 0) 10 ≡ same (drop at s) (10 ∷ [])
-end-one s at h =
-    let e : drop at s ≡ getD s at 0 ∷ drop (suc at) s = drop-cons s at 0 (omega arith) in
-    let z : drop (suc at) s ≡ [] = drop-of-length-le s {i = suc at} (omega arith) in
-    sym (rw (e, z) (last (eqb (getD s at 0) 10)))
-  where
-    last : (b : Bool) → b && true ≡ b
-    last true = refl
-    last false = refl
-
--- ---- the form's five parts
-
-module _ (scheme n f d outcomes : Bool) where
-  pub scheme-fails : not scheme ≡ true → false ≡ scheme && (n && (f && (d && outcomes)))
-  scheme-fails e = rw (not-true scheme e)
-
-  pub n-fails : not scheme ≡ false → not n ≡ true → false ≡ scheme && (n && (f && (d && outcomes)))
-  n-fails a e = rw (not-false scheme a, not-true n e)
-
-  pub f-fails : not scheme ≡ false → not n ≡ false → not f ≡ true → false ≡ scheme && (n && (f && (d && outcomes)))
-  f-fails a b e = rw (not-false scheme a, not-false n b, not-true f e)
-
-  pub d-fails : not scheme ≡ false → not n ≡ false → not f ≡ false → not d ≡ true → false ≡ scheme && (n && (f && (d && outcomes)))
-  d-fails a b c e = rw (not-false scheme a, not-false n b, not-false f c, not-true d e)
-
-  pub line-passes : not scheme ≡ false → not n ≡ false → not f ≡ false → not d ≡ false → outcomes ≡ scheme && (n && (f && (d && outcomes)))
-  line-passes a b c e = rw (not-false scheme a, not-false n b, not-false f c, not-false d e)
+end-one s at h = sym (rw (drop-cons s at 0 (omega arith), drop-of-length-le s {i = suc at} (omega arith)) (and-true (eqb (getD s at 0) 10)))
 
 -- ---- the two lines
 
@@ -101,4 +67,4 @@ outcomes-next ds old to i {x} l h e f =
     ap (λ (y : List ℕ). y ++ drop (suc i) old) (sym m))
 
 pub outcomes-done : (ds old to : List ℕ) (i : ℕ) → i ≡ length ds → to ≡ map digitOf (take i ds) ++ drop i old → to ≡ map digitOf ds ++ drop (length ds) old
-outcomes-done ds old to i h e = e ∙ ap₂ (λ (x : List ℕ) (y : ℕ). map digitOf x ++ drop y old) (take-all i ds (omega arith)) h
+outcomes-done ds old to i h e = rw (take-all i ds (omega arith), h) at e

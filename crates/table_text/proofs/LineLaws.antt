@@ -2,14 +2,12 @@
 use mathlib.Core.Path.{_≡_, refl, sym, ap, _∙_}
 use mathlib.Core.List.{List, [], _∷_, _++_, append-assoc, append-nil}
 use Prim.Native.Nat.{ℕ, zero, suc, _+_, _*_, _≤_, _<_}
-use native.Mathlib.Numerals.{add-one}
-use native.Mathlib.Omega.{arith}
-use lib.ListN.{length, getD, set, take, length-append}
-use lib.Seq.{take-all, take-suc}
+use native.Mathlib.{Numerals.add-one, Omega.arith}
+use lib.{ListN.length, ListN.getD, ListN.set, ListN.take, ListN.length-append, Seq.take-all, Seq.take-suc}
 use Rattle.buffers.specs.Private.{Wrote}
-use Rattle.buffers.proofs.Writes.{wrote-none, wrote-as, wrote-join}
+use Rattle.buffers.proofs.Writes.{wrote-none, wrote-as, wrote-byte, wrote-join}
 use Rattle.number_text.specs.Numbers.{commaNumbers}
-use Rattle.number_text.proofs.DecimalLaws.{wrote-byte, numbers-most}
+use Rattle.number_text.proofs.DecimalLaws.{numbers-most}
 use Rattle.table_text.specs.Text.{line, dayLines}
 
 -- DAY
@@ -20,11 +18,7 @@ DAY = 68 ∷ 65 ∷ 89 ∷ []
 
 pub line-most : (word xs : List ℕ) → length (line word xs) ≤ length word + (11 * length xs + 1)
 unfolding line
-line-most word xs =
-    let a = numbers-most xs in
-    let b = length-append word (commaNumbers xs ++ (10 ∷ [])) in
-    let c = length-append (commaNumbers xs) (10 ∷ []) in
-    omega arith
+line-most word xs = let a = numbers-most xs in rw (length-append, length-append) (omega arith)
 
 pub line-room : (at r t n : ℕ) (word xs l m k : List ℕ) → at + (length word + (11 * length xs + 1)) ≤ length l → n ≡ length l → Wrote at word l r m → Wrote r (commaNumbers xs) m t k → t < n
 line-room at r t n word xs l m k h e w v = let f = numbers-most xs in omega (arith, w .count, v .count)
@@ -46,26 +40,20 @@ line-put at r t word xs l m k h a b w v =
 days-append : (xs ys : List ℕ) → dayLines (xs ++ ys) ≡ dayLines xs ++ dayLines ys
 unfolding dayLines
 days-append [] ys = refl
-days-append (x ∷ xs) ys =
-    ap (λ (r : List ℕ). line DAY (x ∷ []) ++ r) (days-append xs ys) ∙ sym (append-assoc (line DAY (x ∷ [])) (dayLines xs) (dayLines ys))
+days-append (x ∷ xs) ys = rw (days-append xs ys, append-assoc)
 
 one-day : (g : ℕ) → dayLines (g ∷ []) ≡ line DAY (g ∷ [])
 unfolding dayLines
 one-day g = append-nil (line DAY (g ∷ []))
 
 days-snoc : (xs : List ℕ) (i : ℕ) → i < length xs → dayLines (take (i + 1) xs) ≡ dayLines (take i xs) ++ line DAY (getD xs i 0 ∷ [])
-days-snoc xs i h =
-    rw (add-one i) (ap dayLines (take-suc xs i 0 h) ∙ days-append (take i xs) (getD xs i 0 ∷ []) ∙ ap (λ (r : List ℕ). dayLines (take i xs) ++ r) (one-day (getD xs i 0)))
+days-snoc xs i h = rw (add-one i, take-suc xs i 0 h, days-append (take i xs) (getD xs i 0 ∷ []), one-day)
 
 days-front : (i : ℕ) (xs : List ℕ) → length (dayLines (take i xs)) ≤ length (dayLines xs)
 unfolding dayLines
 days-front zero xs = omega arith
 days-front (suc i) [] = omega arith
-days-front (suc i) (x ∷ xs) =
-    let w = days-front i xs in
-    let a = length-append (line DAY (x ∷ [])) (dayLines (take i xs)) in
-    let b = length-append (line DAY (x ∷ [])) (dayLines xs) in
-    omega arith
+days-front (suc i) (x ∷ xs) = omega (arith, days-front i xs, length-append (line DAY (x ∷ [])) (dayLines (take i xs)), length-append (line DAY (x ∷ [])) (dayLines xs))
 
 pub days-none : (at : ℕ) (xs l : List ℕ) → Wrote at (dayLines (take 0 xs)) l at l
 unfolding dayLines

@@ -1,46 +1,28 @@
 -- From the tests and from what reading said to the text.
-use mathlib.Core.Path.{_≡_, refl, sym, ap, ap₂, _∙_}
-use mathlib.Core.Bool.{Bool, true, false, not, _&&_, cond}
-use mathlib.Core.List.{List, [], _∷_, _++_, map}
+use mathlib.Core.{Path._≡_, Path.refl, Path.sym, Path.ap, Path.ap₂, Path._∙_, Logic.inl, Logic.inr, Bool.Bool}
+use mathlib.Core.{Bool.true, Bool.not, Bool._&&_, List.List, List.[], List._∷_, List._++_, List.map}
 use Prim.Native.Nat.{ℕ, zero, suc, _+_, _-_, _≤_, _<_}
 use native.Mathlib.Omega.{arith}
-use lib.Dec.{leb}
-use lib.ListN.{length, take, drop, length-append, length-map, length-drop}
+use lib.{Dec.leb, ListN.length, ListN.take, ListN.drop, ListN.length-append, ListN.length-map, ListN.length-drop}
 use lib.Seq.{take-at, length-take-le}
-use borrow.Author.Tests.{le-leb, lt-leb, leb-true, not-true, not-false}
+use borrow.Author.Tests.{le-leb, lt-leb, leb-true}
 use Rattle.lists.specs.Lists.{upFrom, keep}
-use Rattle.lists.proofs.Laws.{and-both, length-upFrom}
+use Rattle.lists.proofs.Laws.{split, and-both, length-upFrom}
 use Rattle.evidence.specs.Evidence.{days, listing, cleared}
 use Rattle.refusals.specs.Refusals.{Test, _orRefuse_, firstRefusal}
-use Rattle.refusals.proofs.TestLaws.{none-fails, all-pass, pass-split, refused-before, refused-after, old-stays, new-stands}
+use Rattle.refusals.proofs.TestLaws.{none-fails, all-pass, pass-split, refused-before, refused-after, last-fails, last-passes, old-stays, new-stands}
 use Rattle.buffers.specs.Private.{Wrote}
 use Rattle.layouts.specs.Layouts.{layoutTests, layoutRefusal, chains}
 use Rattle.acceptance.proofs.Runs.{keep-length}
 use Rattle.reading.specs.Numbers.{lastGood}
-use Rattle.reading.specs.Contract as reading
 use Rattle.reading.specs.Contract.{tableIn, outcomeTests, readRefusal, listedIn, found, readout}
-use Rattle.reading.proofs.RefusalLaws.{table-refused}
-use Rattle.reading.proofs.Report.{readout-found}
-use Rattle.reading.proofs.Statements.{refusal-said, count-found}
+use Rattle.reading.specs.Contract as reading
+use Rattle.reading.proofs.{RefusalLaws.table-refused, Report.readout-found, Statements.refusal-said, Statements.count-found}
 use Rattle.number_text.specs.Numbers.{digitOf, digits, decimal}
-use Rattle.table_text.specs.Text.{lastLine, isFormed, schemeIn, nIn, fIn, dIn, outcomesIn, formTests, digitTests, answerTests, textTests, textRefusal, line, noLine, refLine, dayLines, tableLines, printed, textOf}
-use Rattle.table_text.specs.Private.{TypedIs, ReportIs, numbersIn, answered}
-use Rattle.table_text.specs.declared.Report.{Report}
+use Rattle.table_text.specs.Text.{lastLine, isFormed, schemeIn, nIn, fIn, dIn, outcomesIn, formTests, digitTests, answerTests}
+use Rattle.table_text.specs.Text.{textTests, textRefusal, line, noLine, refLine, dayLines, tableLines, printed, textOf}
+use Rattle.table_text.specs.{Private.TypedIs, Private.ReportIs, Private.numbersIn, Private.answered, declared.Report.Report}
 use Rattle.table_text.specs.declared.Typed.{Typed}
-
--- ---- 15 for form, length and D over 256
-
-pub form-not : (size d : ℕ) (b : Bool) → not b ≡ true → 15 ≡ firstRefusal (formTests b size d)
-form-not size d b e = rw (not-true b e)
-
-pub form-long : (size d : ℕ) (b : Bool) → not b ≡ false → 1024 < size → 15 ≡ firstRefusal (formTests b size d)
-form-long size d b e h = rw (not-false b e, lt-leb size 1024 h)
-
-pub form-days : (size d : ℕ) (b : Bool) → not b ≡ false → size ≤ 1024 → 256 < d → 15 ≡ firstRefusal (formTests b size d)
-form-days size d b e h l = rw (not-false b e, le-leb size 1024 h, lt-leb d 256 l)
-
-pub form-0 : (size d : ℕ) (b : Bool) → not b ≡ false → size ≤ 1024 → d ≤ 256 → 0 ≡ firstRefusal (formTests b size d)
-form-0 size d b e h l = rw (not-false b e, le-leb size 1024 h, le-leb d 256 l)
 
 -- ---- 1 2 3 7, and 15 for extra digits
 
@@ -49,38 +31,33 @@ module _ (s n f d count : ℕ) {r : ℕ} (e : r ≡ layoutRefusal s n f d) where
   unfolding layoutRefusal
   layout-refused h = refused-before (layoutTests s n f d) (leb count (length (chains s n d)) orRefuse 15 ∷ []) e h
 
-  extra-last : r ≡ 0 → {b : Bool} → leb count (length (chains s n d)) ≡ b → cond b 0 15 ≡ firstRefusal (digitTests s n f d count)
-  unfolding layoutRefusal
-  extra-last z h = rw (← h) (sym (refused-after (layoutTests s n f d) (leb count (length (chains s n d)) orRefuse 15 ∷ []) refl (sym e ∙ z)))
-
   pub extra-15 : r ≡ 0 → {v w : ℕ} → v ≡ length (chains s n d) → w ≡ v → w < count → 15 ≡ firstRefusal (digitTests s n f d count)
-  extra-15 z q k h = extra-last z (lt-leb count (length (chains s n d)) (omega arith))
+  unfolding layoutRefusal
+  extra-15 z q k h = last-fails (layoutTests s n f d) (leb count (length (chains s n d))) 15 refl e z (lt-leb count (length (chains s n d)) (omega arith))
 
   pub extra-0 : r ≡ 0 → {v w : ℕ} → v ≡ length (chains s n d) → w ≡ v → count ≤ w → 0 ≡ firstRefusal (digitTests s n f d count)
-  extra-0 z q k h = extra-last z (le-leb count (length (chains s n d)) (omega arith))
+  unfolding layoutRefusal
+  extra-0 z q k h = last-passes (layoutTests s n f d) (leb count (length (chains s n d))) 15 refl e z (le-leb count (length (chains s n d)) (omega arith))
 
 -- ---- room for the day lines
 
 days-kept : (p : ℕ → Bool) (xs : List ℕ) → length (dayLines (keep p xs)) ≤ length (dayLines xs)
 unfolding dayLines
 days-kept p [] = omega arith
-days-kept p (x ∷ xs) = go (p x) (days-kept p xs)
-  where
-    L : List ℕ
-    L = line (68 ∷ 65 ∷ 89 ∷ []) (x ∷ [])
-
-    go : (b : Bool) → length (dayLines (keep p xs)) ≤ length (dayLines xs) → length (dayLines (cond b (x ∷ keep p xs) (keep p xs))) ≤ length (L ++ dayLines xs)
-    go true h = omega (arith, length-append L (dayLines (keep p xs)), length-append L (dayLines xs))
-    go false h = omega (arith, length-append L (dayLines xs))
+days-kept p (x ∷ xs) =
+    let L = line (68 ∷ 65 ∷ 89 ∷ []) (x ∷ []) in
+    let h = days-kept p xs in
+    let a = length-append L (dayLines (keep p xs)) in
+    let b = length-append L (dayLines xs) in
+    elim (split (p x)) [ inl e ↦ rw e (omega arith) | inr e ↦ rw e (omega arith) ]
 
 d-withiner : (i a b : ℕ) → a ≤ b → length (dayLines (upFrom i a)) ≤ length (dayLines (upFrom i b))
 unfolding dayLines
 d-withiner i zero b h = omega arith
 d-withiner i (suc a) zero h = absurd (omega arith)
 d-withiner i (suc a) (suc b) h =
-    let w = d-withiner (suc i) a b (omega arith) in
-    let L : List ℕ = line (68 ∷ 65 ∷ 89 ∷ []) (i ∷ []) in
-    omega (arith, length-append L (dayLines (upFrom (suc i) a)), length-append L (dayLines (upFrom (suc i) b)))
+    let L = line (68 ∷ 65 ∷ 89 ∷ []) (i ∷ []) in
+    omega (arith, d-withiner (suc i) a b (omega arith), length-append L (dayLines (upFrom (suc i) a)), length-append L (dayLines (upFrom (suc i) b)))
 
 all-days : length (dayLines (days 256)) ≡ 1940
 unfolding dayLines line decimal
@@ -88,11 +65,7 @@ all-days = refl
 
 days-most : (s n d : ℕ) (o : List ℕ) → d ≤ 256 → length (dayLines (listedIn s n d o)) ≤ 1940
 unfolding listedIn listing
-days-most s n d o h =
-    let a = days-kept (λ g. not (cleared g (chains s n d) (tableIn s n d o))) (days d) in
-    let b = d-withiner 1 d 256 h in
-    let c = all-days in
-    omega arith
+days-most s n d o h = omega (arith, days-kept (λ g. not (cleared g (chains s n d) (tableIn s n d o))) (days d), d-withiner 1 d 256 h, all-days)
 
 -- ---- a table's answer
 

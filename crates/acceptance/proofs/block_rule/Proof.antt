@@ -1,28 +1,9 @@
 -- `acceptance::block_rule` meets its contract.
-use Rattle.acceptance.proofs.Steps.{third, interval-as, rule-as}
-use Rattle.acceptance.proofs.block_rule.Statement.{statement}
+use Rattle.acceptance.proofs.{Steps.third, block_rule.Statement.statement}
 use Rattle.acceptance.proofs.block_rule.Tie as tie
 
-black-falls-requires : tie.Need-black-falls-requires
-black-falls-requires c κs = interval-as 1 (c .if1 .taken) (c .before .before .pre)
-
-returns : tie.Need-returns
-returns c = rule-as _ _ _ _ 1 (c .before .if1 .taken) (c .black-falls .ensures)
-
-tile-block-requires : tie.Need-tile-block-requires
-tile-block-requires c κs = interval-as 2 (c .if2 .taken) (c .before .before .before .pre)
-
-returns-2 : tie.Need-returns-2
-returns-2 c = rule-as _ _ _ _ 2 (c .before .if2 .taken) (c .tile-block .ensures)
-
-tree-block-requires : tie.Need-tree-block-requires
-tree-block-requires c κs =
-    let pre = c .before .before .before .pre in
-    interval-as 3 (third _ (pre .has .scheme-ok) (c .before .if1 .left) (c .if2 .left)) (pre)
-
-returns-3 : tie.Need-returns-3
-returns-3 c = rule-as _ _ _ _ 3 (third _ (c .before .before .before .before .pre .has .scheme-ok) (c .before .before .if1 .left) (c .before .if2 .left)) (c .tree-block .ensures)
-
 pub block-rule-spec : {M : Type 1} → statement M
-block-rule-spec = tie.close (tie.spec black-falls-requires returns tile-block-requires returns-2 tree-block-requires
-    returns-3)
+block-rule-spec = tie.close (tie.spec (λ c κs. rw (c .if1 .taken) at (c .before .before .pre)) (λ c. rw (c .before .if1 .taken) (c .black-falls .ensures))
+    (λ c κs. rw (c .if2 .taken) at (c .before .before .before .pre)) (λ c. rw (c .before .if2 .taken) (c .tile-block .ensures))
+    (λ c κs. let pre = c .before .before .before .pre in rw (third _ (pre .has .scheme-ok) (c .before .if1 .left) (c .if2 .left)) at pre)
+    (λ c. let b = c .before .before in rw (third _ (b .before .before .pre .has .scheme-ok) (b .if1 .left) (c .before .if2 .left)) (c .tree-block .ensures)))

@@ -1,12 +1,10 @@
 -- `acceptance::level_rules` meets its contract.
-use Rattle.acceptance.proofs.Steps.{every-next, every-stop, every-done, levels-by}
+use Rattle.acceptance.proofs.{Steps.every-next, Steps.every-stop, Steps.every-done, level_rules.Statement.statement}
 use Rattle.lists.specs.Lists.{every, upFrom}
-use Rattle.acceptance.specs.Private.{levelRule}
+use Rattle.acceptance.specs.Private.{levelRule, levelsRule}
 use native.Mathlib.Omega.{arith}
 use Prim.Native.Nat.{_-_, _≤_}
-use mathlib.Core.Bool.{true}
-use mathlib.Core.Path.{_≡_, refl}
-use Rattle.acceptance.proofs.level_rules.Statement.{statement}
+use mathlib.Core.{Bool.true, Path._≡_, Path.refl}
 use Rattle.acceptance.proofs.level_rules.Tie as tie
 
 abbrev Inv-loop : tie.InvT-loop
@@ -15,30 +13,13 @@ Inv-loop n d t l₀ l = (l ≤ 16) × (every (levelRule n d t) (upFrom 0 l) ≡ 
 abbrev μ-loop : tie.MeasureT-loop
 μ-loop n d t l₀ l = 16 - l
 
-loop-holds : tie.Need-loop-holds Inv-loop μ-loop
-loop-holds c = (omega arith, refl)
-
-level-rule-requires : tie.Need-level-rule-requires Inv-loop μ-loop
-level-rule-requires c κs = (c .before .before .before .pre, c .loop-test .taken)
-
-returns : tie.Need-returns Inv-loop μ-loop
-returns c =
-    let args = c .before .before .before .before .before .args in
-    levels-by _ _ _ (every-stop (levelRule (args .n) (args .d) (args .t .now)) 0 16 (c .before .before .before .loop .l) (omega arith) (omega arith) (c .before .level-rule .ensures)
-    (c .if1 .taken))
-
-loop-again : tie.Need-loop-again Inv-loop μ-loop
-loop-again c =
-    let args = c .before .before .before .before .before .args in
-    let loop = c .before .before .before .loop in
-    (omega arith, every-next (levelRule (args .n) (args .d) (args .t .now)) 0 (loop .l) (loop .l) (omega arith) (loop .inv .1) (c .before .level-rule .ensures) (c .if1 .left))
-
-returns-2 : tie.Need-returns-2 Inv-loop μ-loop
-returns-2 c =
-    let args = c .before .before .before .args in
-    let loop = c .before .loop in
-    levels-by _ _ _ (every-done (levelRule (args .n) (args .d) (args .t .now)) 0 (loop .l) 16 (loop .inv .0) (c .loop-test .left) (loop .inv .1))
-
 pub level-rules-spec : {M : Type 1} → statement M
-level-rules-spec = tie.close (tie.spec Inv-loop μ-loop loop-holds level-rule-requires returns (λ c. omega arith)
-    (λ c. omega arith) loop-again returns-2)
+unfolding levelsRule
+level-rules-spec = tie.close (tie.spec
+    Inv-loop μ-loop (λ c. (omega arith, refl)) (λ c κs. (c .before .before .before .pre, c .loop-test .taken))
+    (λ c. let b = c .before .before .before in let a = b .before .before .args in
+    every-stop (levelRule (a .n) (a .d) (a .t .now)) 0 16 (b .loop .l) (omega arith) (omega arith) (c .before .level-rule .ensures) (c .if1 .taken))
+    (λ c. omega arith) (λ c. omega arith)
+    (λ c. let l = c .before .before .before .loop in
+    (omega arith, every-next _ 0 (l .l) (l .l) (omega arith) (l .inv .1) (c .before .level-rule .ensures) (c .if1 .left)))
+    (λ c. let l = c .before .loop in let a = c .before .before .before .args in every-done (levelRule (a .n) (a .d) (a .t .now)) 0 _ 16 (l .inv .0) (c .loop-test .left) (l .inv .1)))

@@ -14,9 +14,6 @@ Inv-loop out₀ at bytes i₀ out i = (i ≤ length bytes) × (length out ≡ le
 abbrev μ-loop : tie.MeasureT-loop
 μ-loop out₀ at bytes i₀ out i = length bytes - i
 
-loop-holds : tie.Need-loop-holds Inv-loop μ-loop
-loop-holds c = (search needs, refl, bytes-none (c .args .at) (c .args .bytes .now) (c .args .out .now))
-
 loop-again : tie.Need-loop-again Inv-loop μ-loop
 loop-again c =
     let a = c .before .before .before .args in let l = c .before .before .loop in
@@ -28,6 +25,7 @@ returns c =
     bytes-all (a .at) (l .i) (a .bytes .now) (a .out .now) (l .out) (search needs) (l .inv .2)
 
 pub put-spec : {M : Type 1} → statement M
-put-spec = tie.close (tie.spec Inv-loop μ-loop loop-holds (λ c. search needs) (λ c. search needs)
-    (λ c. search needs) (λ c. search needs) (λ c. search needs) loop-again (λ c. search needs) (λ c. search needs)
-    returns)
+put-spec = tie.close (tie.spec Inv-loop μ-loop
+    (λ c. (search needs, refl, bytes-none (c .args .at) (c .args .bytes .now) (c .args .out .now)))
+    (λ c. search needs) (λ c. search needs) (λ c. search needs) (λ c. search needs) (λ c. search needs) loop-again
+    (λ c. search needs) (λ c. search needs) returns)

@@ -26,5 +26,5 @@ returns-2 c = let a = c .before .before .args in let p = c .before .before .pre 
     (sym (c .before .stores-black .ensures) ∙ c .if1 .left) (p .4) refl
 
 pub day-values-spec : {M : Type 1} → statement M
-day-values-spec = tie.close
-    (tie.spec (λ c. λ κs. search needs) sub-at (λ c. search needs) (λ c. search needs) array-set-from-r returns returns-2)
+day-values-spec = tie.close (tie.spec (λ c. λ κs. search needs) sub-at (λ c. search needs) (λ c. search needs)
+    array-set-from-r returns returns-2)

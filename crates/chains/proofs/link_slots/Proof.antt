@@ -14,9 +14,6 @@ Inv-loop scheme n g h r₀ i₀ r i = (i ≤ 17) × (length r ≡ 17) × (r ≡ 
 abbrev μ-loop : tie.MeasureT-loop
 μ-loop scheme n g h r₀ i₀ r i = 17 - i
 
-loop-holds : tie.Need-loop-holds Inv-loop μ-loop
-loop-holds c = (search needs, search needs, refl)
-
 loop-again : tie.Need-loop-again Inv-loop μ-loop
 loop-again c = (search needs, search needs, upto-next _ _ _ _ _ _ (c .before .before .before .loop .inv .2) (c .slot-linked .ensures) (search needs))
 
@@ -26,6 +23,6 @@ returns c =
     linked-done (a .scheme) (a .n) (a .g) (a .h) (l .i) (a .slots) (l .inv .2) (search needs) (search needs)
 
 pub link-slots-spec : {M : Type 1} → statement M
-link-slots-spec = tie.close (tie.spec Inv-loop μ-loop loop-holds (λ c. search needs) (λ c. search needs)
-    (λ c. λ κs. search needs) (λ c. search needs) (λ c. search needs) (λ c. search needs) (λ c. search needs) loop-again
-    returns)
+link-slots-spec = tie.close (tie.spec Inv-loop μ-loop (λ c. (search needs, search needs, refl)) (λ c. search needs)
+    (λ c. search needs) (λ c. λ κs. search needs) (λ c. search needs) (λ c. search needs) (λ c. search needs)
+    (λ c. search needs) loop-again returns)

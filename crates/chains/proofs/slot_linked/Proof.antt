@@ -4,12 +4,7 @@ use borrow.Author.Needs.{needs}
 use Rattle.chains.proofs.slot_linked.Statement.{statement}
 use Rattle.chains.proofs.slot_linked.Tie as tie
 
-returns : tie.Need-returns
-returns c = rw (sym (c .before .before .links-slot .ensures) ∙ c .before .if1 .taken) (c .link-value .ensures)
-
-returns-2 : tie.Need-returns-2
-returns-2 c = rw (sym (c .before .links-slot .ensures) ∙ c .if1 .left)
-
 pub slot-linked-spec : {M : Type 1} → statement M
-slot-linked-spec = tie.close
-    (tie.spec (λ c. search needs) (λ c. λ κs. search needs) (λ c. λ κs. search needs) returns returns-2)
+slot-linked-spec = tie.close (tie.spec (λ c. search needs) (λ c. λ κs. search needs) (λ c. λ κs. search needs)
+    (λ c. rw (sym (c .before .before .links-slot .ensures) ∙ c .before .if1 .taken) (c .link-value .ensures))
+    (λ c. rw (sym (c .before .links-slot .ensures) ∙ c .if1 .left)))

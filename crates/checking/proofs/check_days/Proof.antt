@@ -43,9 +43,6 @@ start-of-requires c κs = omega (arith, turn c, c .before .before .before .befor
 end-of-requires : tie.Need-end-of-requires Inv-loop μ-loop
 end-of-requires c κs = omega (arith, turn (c .before), c .before .before .before .before .before .before .before .before .before .before .pre .ends-hold .enough)
 
-mul-from : tie.Need-mul-from Inv-loop μ-loop
-mul-from c = omega (arith, begin (c .before .before) .0)
-
 mul-done : tie.Need-mul-done Inv-loop μ-loop
 mul-done c = omega (arith, begin (c .before .before) .1, turn (c .before .before), c .before .before .before .before .before .before .before .before .before .before .before .pre .days-most)
 
@@ -61,9 +58,6 @@ sub-check-day c = omega (
       (turn (c .before .before .before)),
 )
 
-part-check-day-start : tie.Need-part-check-day-start Inv-loop μ-loop
-part-check-day-start c = sub-check-day c
-
 part-check-day-end : tie.Need-part-check-day-end Inv-loop μ-loop
 part-check-day-end c = omega (
   arith,
@@ -72,24 +66,6 @@ part-check-day-end c = omega (
       (c .before .before .before .before .loop .i) (turn (c .before .before .before)),
 )
 
-sub-check-day-2 : tie.Need-sub-check-day-2 Inv-loop μ-loop
-sub-check-day-2 c = begin (c .before .before .before .before) .0
-
-part-check-day-start-2 : tie.Need-part-check-day-start-2 Inv-loop μ-loop
-part-check-day-start-2 c = begin (c .before .before .before .before) .0
-
-sub-check-day-3 : tie.Need-sub-check-day-3 Inv-loop μ-loop
-sub-check-day-3 c = begin (c .before .before .before .before .before) .1
-
-part-check-day-start-3 : tie.Need-part-check-day-start-3 Inv-loop μ-loop
-part-check-day-start-3 c = begin (c .before .before .before .before .before) .1
-
-sub-check-day-4 : tie.Need-sub-check-day-4 Inv-loop μ-loop
-sub-check-day-4 c = begin (c .before .before .before .before .before .before) .2
-
-part-check-day-start-4 : tie.Need-part-check-day-start-4 Inv-loop μ-loop
-part-check-day-start-4 c = begin (c .before .before .before .before .before .before) .2
-
 check-day-requires : tie.Need-check-day-requires Inv-loop μ-loop
 check-day-requires c κs = day-needs (c .before .before .before .before .before .before .before .before .before .before .before .before .before .before .before .before .pre)
     (c .before .before .before .before .before .before .before .before .loop .inv .3) (turn (c .before .before .before .before .before .before .before))
@@ -97,24 +73,38 @@ check-day-requires c κs = day-needs (c .before .before .before .before .before 
 
 -- the day's bytes are those between its start and its end
 is-day : (c : tie.After-wide2 Inv-loop μ-loop) →
-    take (c .before .before .before .before .before .before .before .before .before .before .before .before .before .end-of .result -
-    c .before .before .before .before .before .before .before .before .before .before .before .before .before .before .start-of .result)
-    (drop (c .before .before .before .before .before .before .before .before .before .before .before .before .before .before .start-of .result)
-    (c .before .before .before .before .before .before .before .before .before .before .before .before .before .before .before .before .before .before .before .before .before .before .before .before .args .ledger .now)) ≡
-    dayAt (c .before .before .before .before .before .before .before .before .before .before .before .before .before .before .before .before .before .before .before .before .before .before .before .before .args .ledger .now) (c .before .before .before .before .before .before .before .before .before .before .before .before .before .before .before .before .before .before .before .before .before .before .before .before .args .ends .now) (c .before .before .before .before .before .before .before .before .before .before .before .before .before .before .before .before .loop .i)
-is-day c = ap₂ (λ (x y : ℕ). take (y - x) (drop x (c .before .before .before .before .before .before .before .before .before .before .before .before .before .before .before .before .before .before .before .before .before .before .before .before .args .ledger .now))) (c .before .before .before .before .before .before .before .before .before .before .before .before .before .before .start-of .ensures) (c .before .before .before .before .before .before .before .before .before .before .before .before .before .end-of .ensures)
+    let loop = c .before .before .before .before .before .before .before .before .before .before .before .before .before .before .before .before in
+    let args = loop .before .before .before .before .before .before .before .before .args in
+    let start = c .before .before .before .before .before .before .before .before .before .before .before .before .before .before .start-of .result in
+    let end = c .before .before .before .before .before .before .before .before .before .before .before .before .before .end-of .result in
+    take (end - start) (drop start (args .ledger .now)) ≡ dayAt (args .ledger .now) (args .ends .now) (loop .loop .i)
+is-day c =
+    let loop = c .before .before .before .before .before .before .before .before .before .before .before .before .before .before .before .before in
+    ap₂ (λ (x y : ℕ). take (y - x) (drop x (loop .before .before .before .before .before .before .before .before .args .ledger .now)))
+    (c .before .before .before .before .before .before .before .before .before .before .before .before .before .before .start-of .ensures)
+    (c .before .before .before .before .before .before .before .before .before .before .before .before .before .end-of .ensures)
 
 add-at : tie.Need-add-at Inv-loop μ-loop
 add-at c =
-    let q = outcomes-fit (c .before .before .before .before .before .before .before .before .before .before .before .before .before .before .before .before .before .before .before .before .before .before .before .before .pre) (c .before .before .before .before .before .before .before .before .before .before .before .before .before .before .before .before .loop .inv .3) (turn (c .before .before .before .before .before .before .before .before .before .before .before .before .before .before .before)) (is-day c) (c .before .before .before .before .before .before .before .before .before .before .before .before .day-number .ensures) (c .before .before .before .before .before .before .before .before .before .before .before .before .before .before .before .before .loop .inv .2) (c .before .before .before .before .before .before .before .check-day .ensures .0) (c .before .before .before .before .before .before .before .check-day .ensures .1 .0) (c .before .before .before .before .before .before .before .check-day .ensures .1 .1) in
-    omega (arith, q, c .wide2 .ensures, c .before .before .before .before .before .before .before .before .before .before .before .before .before .before .before .before .before .before .before .before .before .before .before .before .good .1 .1 .1 .1 .1 .1 .1 .0 .0)
+    let loop = c .before .before .before .before .before .before .before .before .before .before .before .before .before .before .before .before in
+    let day = c .before .before .before .before .before .before .before .check-day .ensures in
+    let start = loop .before .before .before .before .before .before .before .before in
+    let q = outcomes-fit (start .pre) (loop .loop .inv .3) (turn (c .before .before .before .before .before .before .before .before .before .before .before .before .before .before .before))
+    (is-day c) (c .before .before .before .before .before .before .before .before .before .before .before .before .day-number .ensures)
+    (loop .loop .inv .2) (day .0) (day .1 .0) (day .1 .1) in
+    omega (arith, q, c .wide2 .ensures, start .good .1 .1 .1 .1 .1 .1 .1 .0 .0)
 
 loop-again : tie.Need-loop-again Inv-loop μ-loop
 loop-again c = (
   search needs,
   search needs,
   c .before .before .before .before .before .before .before .before .before .before .before .before .before .before .before .before .loop .inv .2,
-  rw (c .wide2 .ensures) (through-next (c .before .before .before .before .before .before .before .before .before .before .before .before .before .before .before .before .before .before .before .before .before .before .before .before .pre) (c .before .before .before .before .before .before .before .before .before .before .before .before .before .before .before .before .loop .inv .3) (turn (c .before .before .before .before .before .before .before .before .before .before .before .before .before .before .before)) (is-day c) (c .before .before .before .before .before .before .before .before .before .before .before .before .day-number .ensures) (c .before .before .before .before .before .before .before .before .before .before .before .before .before .before .before .before .loop .inv .2) (c .before .before .before .before .before .before .before .check-day .ensures .0) (c .before .before .before .before .before .before .before .check-day .ensures .1 .0) (c .before .before .before .before .before .before .before .check-day .ensures .1 .1)),
+  let loop = c .before .before .before .before .before .before .before .before .before .before .before .before .before .before .before .before in
+      let day = c .before .before .before .before .before .before .before .check-day .ensures in
+      rw (c .wide2 .ensures)
+      (through-next (loop .before .before .before .before .before .before .before .before .pre) (loop .loop .inv .3)
+      (turn (c .before .before .before .before .before .before .before .before .before .before .before .before .before .before .before)) (is-day c)
+      (c .before .before .before .before .before .before .before .before .before .before .before .before .day-number .ensures) (loop .loop .inv .2) (day .0) (day .1 .0) (day .1 .1)),
 )
 
 returns : tie.Need-returns Inv-loop μ-loop
@@ -124,8 +114,12 @@ returns c =
 
 pub check-days-spec : {M : Type 1} → statement M
 check-days-spec = tie.close (tie.spec Inv-loop μ-loop (λ c. λ κs. search needs) (λ c. λ κs. search needs) loop-holds
-    start-of-requires end-of-requires mul-from mul-done day-number-requires sub-check-day part-check-day-start
-    part-check-day-end sub-check-day-2 part-check-day-start-2 (λ c. search needs) sub-check-day-3 part-check-day-start-3
-    (λ c. search needs) sub-check-day-4 part-check-day-start-4 (λ c. search needs) check-day-requires
+    start-of-requires end-of-requires (λ c. omega (arith, begin (c .before .before) .0)) mul-done day-number-requires
+    sub-check-day (λ c. sub-check-day c) part-check-day-end (λ c. begin (c .before .before .before .before) .0)
+    (λ c. begin (c .before .before .before .before) .0) (λ c. search needs)
+    (λ c. begin (c .before .before .before .before .before) .1)
+    (λ c. begin (c .before .before .before .before .before) .1) (λ c. search needs)
+    (λ c. begin (c .before .before .before .before .before .before) .2)
+    (λ c. begin (c .before .before .before .before .before .before) .2) (λ c. search needs) check-day-requires
     (λ c. λ κs. search needs) add-at (λ c. search needs) (λ c. search needs) loop-again (λ c. search needs)
     (λ c. search needs) returns)

@@ -6,12 +6,6 @@ use Rattle.checking.proofs.RefusalLaws.{ledger-refused, room-refused, r
 use Rattle.checking.proofs.check_refusal.Statement.{statement}
 use Rattle.checking.proofs.check_refusal.Tie as tie
 
-returns : tie.Need-returns
-returns c = ledger-refused _ _ _ _ _ _ _ _ _ (c .before .ledger-refusal .ensures) (c .if1 .taken)
-
-values-through-requires : tie.Need-values-through-requires
-values-through-requires c κs = ledger-asks _ _ _ _ _ _ (c .before .ledger-refusal .ensures) (c .if1 .left)
-
 returns-2 : tie.Need-returns-2
 returns-2 c =
     let k = c .before .wide .ensures ∙ c .before .before .values-through .ensures in
@@ -36,5 +30,7 @@ returns-5 c =
     (room-0 _ _ _ _ _ _ k (c .before .before .wide2 .ensures) (c .before .before .before .if2 .left) (c .before .if3 .left) (c .if4 .left))
 
 pub check-refusal-spec : {M : Type 1} → statement M
-check-refusal-spec = tie.close (tie.spec (λ c κs. search needs) returns values-through-requires (λ c κs. search needs)
+check-refusal-spec = tie.close (tie.spec (λ c κs. search needs)
+    (λ c. ledger-refused _ _ _ _ _ _ _ _ _ (c .before .ledger-refusal .ensures) (c .if1 .taken))
+    (λ c κs. ledger-asks _ _ _ _ _ _ (c .before .ledger-refusal .ensures) (c .if1 .left)) (λ c κs. search needs)
     (λ c. search needs) returns-2 (λ c κs. search needs) (λ c. search needs) returns-3 returns-4 returns-5)

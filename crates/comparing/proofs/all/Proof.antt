@@ -13,9 +13,6 @@ Inv-loop book k outcomes₀ values count j₀ outcomes j = (j ≤ k) × (count �
 abbrev μ-loop : tie.MeasureT-loop
 μ-loop book k outcomes₀ values count j₀ outcomes j = k - j
 
-loop-holds : tie.Need-loop-holds Inv-loop μ-loop
-loop-holds c = (search needs, c .wide .ensures, refl, written-none _ _ _)
-
 loop-again : tie.Need-loop-again Inv-loop μ-loop
 loop-again c = let l = c .before .before .before .before .loop in let a = c .before .before .before .before .before .before .before .before .args in (
   search needs,
@@ -29,7 +26,7 @@ returns : tie.Need-returns Inv-loop μ-loop
 returns c = let a = c .before .before .before .before .before .args in written-done (a .t2) (a .book .now) (a .outcomes .now) _ (c .before .loop .j) (a .k) (c .before .loop .inv .3) (search needs)
 
 pub all-spec : {M : Type 1} → statement M
-all-spec = tie.close (tie.spec Inv-loop μ-loop (λ c. λ κs. search needs) loop-holds (λ c. search needs)
-    (λ c. search needs) (λ c. search needs) (λ c. search needs) (λ c. search needs) (λ c. search needs)
-    (λ c. λ κs. search needs) (λ c. search needs) (λ c. search needs) (λ c. search needs) loop-again (λ c. search needs)
-    returns)
+all-spec = tie.close (tie.spec Inv-loop μ-loop (λ c. λ κs. search needs)
+    (λ c. (search needs, c .wide .ensures, refl, written-none _ _ _)) (λ c. search needs) (λ c. search needs)
+    (λ c. search needs) (λ c. search needs) (λ c. search needs) (λ c. search needs) (λ c. λ κs. search needs)
+    (λ c. search needs) (λ c. search needs) (λ c. search needs) loop-again (λ c. search needs) returns)

@@ -3,11 +3,7 @@ use borrow.Author.Needs.{needs}
 use Rattle.comparing.proofs.outcome.Statement.{statement}
 use Rattle.comparing.proofs.outcome.Tie as tie
 
-returns : tie.Need-returns
-returns c = rw (← (c .before .before .bytes .ensures), ← (c .before .same .ensures), c .if1 .taken)
-
-returns-2 : tie.Need-returns-2
-returns-2 c = rw (← (c .before .before .bytes .ensures), ← (c .before .same .ensures), c .if1 .left)
-
 pub outcome-spec : {M : Type 1} → statement M
-outcome-spec = tie.close (tie.spec (λ c. λ κs. search needs) (λ c. λ κs. search needs) returns returns-2)
+outcome-spec = tie.close (tie.spec (λ c. λ κs. search needs) (λ c. λ κs. search needs)
+    (λ c. rw (← (c .before .before .bytes .ensures), ← (c .before .same .ensures), c .if1 .taken))
+    (λ c. rw (← (c .before .before .bytes .ensures), ← (c .before .same .ensures), c .if1 .left)))

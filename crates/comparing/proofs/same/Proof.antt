@@ -15,20 +15,15 @@ Inv-loop book b j₀ j = (j ≤ 32) × ((i : ℕ) → i < j → getD book i 0 �
 abbrev μ-loop : tie.MeasureT-loop
 μ-loop book b j₀ j = 32 - j
 
-loop-holds : tie.Need-loop-holds Inv-loop μ-loop
-loop-holds c = (omega arith, below-none _)
-
 returns : tie.Need-returns Inv-loop μ-loop
 returns c =
     let a = c .before .before .before .before .args in
     differs (a .book .now) (a .t2) (c .before .before .before .loop .j) (search needs) (search needs) (search needs) (c .if1 .taken)
 
-loop-again : tie.Need-loop-again Inv-loop μ-loop
-loop-again c = (search needs, below-more _ _ (c .before .before .before .loop .inv .1) (c .if1 .left))
-
 returns-2 : tie.Need-returns-2 Inv-loop μ-loop
 returns-2 c = agrees (c .before .before .args .book .now) (c .before .before .args .t2) (c .before .loop .j) (search needs) (search needs) (search needs) (c .before .loop .inv .1)
 
 pub same-spec : {M : Type 1} → statement M
-same-spec = tie.close (tie.spec Inv-loop μ-loop loop-holds (λ c. search needs) (λ c. search needs) returns
-    (λ c. search needs) (λ c. search needs) loop-again returns-2)
+same-spec = tie.close (tie.spec Inv-loop μ-loop (λ c. (omega arith, below-none _)) (λ c. search needs)
+    (λ c. search needs) returns (λ c. search needs) (λ c. search needs)
+    (λ c. (search needs, below-more _ _ (c .before .before .before .loop .inv .1) (c .if1 .left))) returns-2)

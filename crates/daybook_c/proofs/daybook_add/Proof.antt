@@ -26,5 +26,5 @@ returns-2 c =
     )
 
 pub daybook-add-spec : {M : Type 1} → statement M
-daybook-add-spec = tie.close
-    (tie.spec (λ c. λ κs. search needs) (λ c. λ κs. search needs) (λ c. λ κs. search needs) (λ c. λ κs. search needs) returns returns-2)
+daybook-add-spec = tie.close (tie.spec (λ c. λ κs. search needs) (λ c. λ κs. search needs) (λ c. λ κs. search needs)
+    (λ c. λ κs. search needs) returns returns-2)

@@ -9,5 +9,5 @@ returns : tie.Need-returns
 returns c = let call = c .before .before .before .before .before .check .ensures in (c .number-of .ensures ∙ ap numberOf (call .0), call .1)
 
 pub daybook-check-spec : {M : Type 1} → statement M
-daybook-check-spec = tie.close
-    (tie.spec (λ c. λ κs. search needs) (λ c. λ κs. search needs) (λ c. search needs) (λ c. search needs) returns)
+daybook-check-spec = tie.close (tie.spec (λ c. λ κs. search needs) (λ c. λ κs. search needs) (λ c. search needs)
+    (λ c. search needs) returns)

@@ -39,6 +39,5 @@ returns-2 c =
     )
 
 pub daybook-close-spec : {M : Type 1} → statement M
-daybook-close-spec = tie.close
-    (tie.spec (λ c. λ κs. search needs) (λ c. λ κs. search needs) (λ c. λ κs. search needs) (λ c. λ κs. search needs) (λ c. λ κs. search needs) (λ c. search needs) returns (λ c. search needs)
-    returns-2)
+daybook-close-spec = tie.close (tie.spec (λ c. λ κs. search needs) (λ c. λ κs. search needs) (λ c. λ κs. search needs)
+    (λ c. λ κs. search needs) (λ c. λ κs. search needs) (λ c. search needs) returns (λ c. search needs) returns-2)

@@ -15,5 +15,5 @@ returns c =
     )
 
 pub daybook-open-spec : {M : Type 1} → statement M
-daybook-open-spec = tie.close
-    (tie.spec (λ c. λ κs. search needs) (λ c. λ κs. search needs) (λ c. λ κs. search needs) returns)
+daybook-open-spec = tie.close (tie.spec (λ c. λ κs. search needs) (λ c. λ κs. search needs) (λ c. λ κs. search needs)
+    returns)

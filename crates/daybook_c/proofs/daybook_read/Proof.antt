@@ -29,5 +29,5 @@ returns-2 c =
     )
 
 pub daybook-read-spec : {M : Type 1} → statement M
-daybook-read-spec = tie.close
-    (tie.spec (λ c. λ κs. search needs) (λ c. λ κs. search needs) (λ c. λ κs. search needs) (λ c. search needs) returns (λ c. search needs) returns-2)
+daybook-read-spec = tie.close (tie.spec (λ c. λ κs. search needs) (λ c. λ κs. search needs) (λ c. λ κs. search needs)
+    (λ c. search needs) returns (λ c. search needs) returns-2)

@@ -9,4 +9,5 @@ returns : tie.Need-returns
 returns c = let call = c .before .before .before .seal .ensures in (c .number-of .ensures ∙ ap numberOf (call .0), call .1)
 
 pub daybook-seal-spec : {M : Type 1} → statement M
-daybook-seal-spec = tie.close (tie.spec (λ c. λ κs. search needs) (λ c. λ κs. search needs) (λ c. search needs) returns)
+daybook-seal-spec = tie.close (tie.spec (λ c. λ κs. search needs) (λ c. λ κs. search needs) (λ c. search needs)
+    returns)

@@ -5,9 +5,6 @@ use borrow.Author.Needs.{needs}
 use Rattle.daybook_c.proofs.daybook_values.Statement.{statement}
 use Rattle.daybook_c.proofs.daybook_values.Tie as tie
 
-values-through-requires : tie.Need-values-through-requires
-values-through-requires c κs = layout-asks _ _ _ _ (c .before .layout-refusal .ensures) (c .if1 .taken)
-
 returns : tie.Need-returns
 returns c =
     let args = c .before .before .before .args in
@@ -21,4 +18,5 @@ returns-2 c =
     (number, values-kept (args .scheme) (args .n) (args .f) (args .d) _ (args .values .now) number (c .if1 .left))
 
 pub daybook-values-spec : {M : Type 1} → statement M
-daybook-values-spec = tie.close (tie.spec (λ c. λ κs. search needs) values-through-requires returns returns-2)
+daybook-values-spec = tie.close (tie.spec (λ c. λ κs. search needs)
+    (λ c κs. layout-asks _ _ _ _ (c .before .layout-refusal .ensures) (c .if1 .taken)) returns returns-2)

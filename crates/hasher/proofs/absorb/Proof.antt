@@ -8,9 +8,6 @@ use borrow.Author.Needs.{needs}
 use Rattle.hasher.proofs.absorb.Statement.{statement}
 use Rattle.hasher.proofs.absorb.Tie as tie
 
-returns : tie.Need-returns
-returns c = absorb-none _ _ (c .before .before .before .before .before .args .count) _ (c .onward .ensures) (omega arith)
-
 returns-2 : tie.Need-returns-2
 returns-2 c =
     let a = c .before .before .before .before .before .before .args in
@@ -32,6 +29,8 @@ returns-3 c =
     absorb-long (a .st) _ (a .s .now) _ _ (a .count) (c .before .before .before .before .fill2 .ensures) (c .before .before .blocks2 .ensures) (c .onward2 .ensures) (search needs) (omega arith)
 
 pub absorb-spec : {M : Type 1} → statement M
-absorb-spec = tie.close (tie.spec (λ c. λ κs. search needs) returns (λ c. search needs) (λ c. λ κs. search needs)
-    returns-2 slice-aggregate-fill fill-requires-2 (λ c. search needs) (λ c. λ κs. search needs) (λ c. search needs)
-    (λ c. search needs) (λ c. search needs) (λ c. λ κs. search needs) returns-3)
+absorb-spec = tie.close (tie.spec (λ c. λ κs. search needs)
+    (λ c. absorb-none _ _ (c .before .before .before .before .before .args .count) _ (c .onward .ensures) (omega arith))
+    (λ c. search needs) (λ c. λ κs. search needs) returns-2 slice-aggregate-fill fill-requires-2 (λ c. search needs)
+    (λ c. λ κs. search needs) (λ c. search needs) (λ c. search needs) (λ c. search needs) (λ c. λ κs. search needs)
+    returns-3)

@@ -4,8 +4,6 @@ use borrow.Author.Needs.{needs}
 use Rattle.hasher.proofs.begin.Statement.{statement}
 use Rattle.hasher.proofs.begin.Tie as tie
 
-returns : tie.Need-returns
-returns c = begin-of _ _ (c .initial .ensures)
-
 pub begin-spec : {M : Type 1} → statement M
-begin-spec = tie.close (tie.spec (λ c. λ κs. search needs) (λ c. search needs) returns)
+begin-spec = tie.close (tie.spec (λ c. λ κs. search needs) (λ c. search needs)
+    (λ c. begin-of _ _ (c .initial .ensures)))

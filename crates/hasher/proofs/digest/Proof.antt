@@ -4,9 +4,7 @@ use borrow.Author.Needs.{needs}
 use Rattle.hasher.proofs.digest.Statement.{statement}
 use Rattle.hasher.proofs.digest.Tie as tie
 
-returns : tie.Need-returns
-returns c = digest-of _ _ _ _ _ (c .before .before .begin .ensures) (c .before .absorb .ensures) (c .finish .ensures)
-
 pub digest-spec : {M : Type 1} → statement M
-digest-spec = tie.close
-    (tie.spec (λ c. λ κs. search needs) (λ c. λ κs. search needs) (λ c. search needs) (λ c. λ κs. search needs) returns)
+digest-spec = tie.close (tie.spec (λ c. λ κs. search needs) (λ c. λ κs. search needs) (λ c. search needs)
+    (λ c. λ κs. search needs)
+    (λ c. digest-of _ _ _ _ _ (c .before .before .begin .ensures) (c .before .absorb .ensures) (c .finish .ensures)))

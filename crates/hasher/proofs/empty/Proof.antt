@@ -4,8 +4,5 @@ use borrow.Author.Needs.{needs}
 use Rattle.hasher.proofs.empty.Statement.{statement}
 use Rattle.hasher.proofs.empty.Tie as tie
 
-returns : tie.Need-returns
-returns c = empty-of _ (c .initial .ensures)
-
 pub empty-spec : {M : Type 1} → statement M
-empty-spec = tie.close (tie.spec (λ c. λ κs. search needs) returns)
+empty-spec = tie.close (tie.spec (λ c. λ κs. search needs) (λ c. empty-of _ (c .initial .ensures)))

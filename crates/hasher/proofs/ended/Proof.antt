@@ -4,11 +4,9 @@ use borrow.Author.Needs.{needs}
 use Rattle.hasher.proofs.ended.Statement.{statement}
 use Rattle.hasher.proofs.ended.Tie as tie
 
-returns : tie.Need-returns
-returns c = ended-of (c .args .b) (c .args .count) (search needs)
-
 pub ended-spec : {M : Type 1} → statement M
 ended-spec = tie.close (tie.spec (λ c. search needs) (λ c. search needs) (λ c. search needs) (λ c. search needs)
     (λ c. search needs) (λ c. search needs) (λ c. search needs) (λ c. search needs) (λ c. search needs)
     (λ c. search needs) (λ c. search needs) (λ c. search needs) (λ c. search needs) (λ c. search needs)
-    (λ c. search needs) (λ c. search needs) (λ c. search needs) returns)
+    (λ c. search needs) (λ c. search needs) (λ c. search needs)
+    (λ c. ended-of (c .args .b) (c .args .count) (search needs)))

@@ -14,9 +14,6 @@ kept-length c =
     let a = c .before .before .before .args in let l : length (a .t1) ≡ 64 = search needs in
     sym (length-take-le (a .at) (a .t1) (omega arith))
 
-put-requires : tie.Need-put-requires
-put-requires c κs = omega (arith, kept-length c)
-
 put-requires-2 : tie.Need-put-requires-2
 put-requires-2 c κs =
     omega (arith, c .before .before .put .ensures .count, c .before .before .put .kept .0, kept-length (c .before .before .before))
@@ -28,5 +25,5 @@ returns c =
     (c .before .before .before .before .put .ensures) (c .before .put2 .ensures)
 
 pub fill-spec : {M : Type 1} → statement M
-fill-spec = tie.close (tie.spec (λ c. search needs) (λ c. search needs) kept-length put-requires (λ c. search needs)
-    put-requires-2 returns)
+fill-spec = tie.close (tie.spec (λ c. search needs) (λ c. search needs) kept-length
+    (λ c κs. omega (arith, kept-length c)) (λ c. search needs) put-requires-2 returns)

@@ -1,23 +1,17 @@
 -- `layouts::setup_refusal` meets its contract.
-use Rattle.layouts.proofs.AllowedLaws.{setup-1, setup-2, setup-3, setup-0}
+use Rattle.refusals.proofs.TestLaws.{passed, failed}
+use Rattle.layouts.specs.Layouts.{setupRefusal}
 use borrow.Author.Needs.{needs}
 use Rattle.layouts.proofs.setup_refusal.Statement.{statement}
 use Rattle.layouts.proofs.setup_refusal.Tie as tie
 
-returns : tie.Need-returns
-returns c = setup-1 _ _ _ (c .before .allowed-scheme .ensures) (c .if1 .taken)
-
-returns-2 : tie.Need-returns-2
-returns-2 c = setup-2 _ _ _ (c .before .before .before .allowed-scheme .ensures) (c .before .before .if1 .left) (c .before .allowed-n .ensures) (c .if2 .taken)
-
-returns-3 : tie.Need-returns-3
-returns-3 c = setup-3 _ _ _ (c .before .before .before .before .before .allowed-scheme .ensures) (c .before .before .before .before .if1 .left) (c .before .before .before .allowed-n .ensures)
-    (c .before .before .if2 .left) (c .before .allowed-f .ensures) (c .if3 .taken)
-
-returns-4 : tie.Need-returns-4
-returns-4 c = setup-0 _ _ _ (c .before .before .before .before .before .allowed-scheme .ensures) (c .before .before .before .before .if1 .left) (c .before .before .before .allowed-n .ensures)
-    (c .before .before .if2 .left) (c .before .allowed-f .ensures) (c .if3 .left)
-
 pub setup-refusal-spec : {M : Type 1} → statement M
-setup-refusal-spec = tie.close (tie.spec (λ c. λ κs. search needs) returns (λ c. λ κs. search needs) returns-2
-    (λ c. λ κs. search needs) returns-3 returns-4)
+unfolding setupRefusal
+setup-refusal-spec = tie.close (tie.spec (λ c κs. search needs) (λ c. rw (failed (c .before .allowed-scheme .ensures) (c .if1 .taken)))
+    (λ c κs. search needs)
+    (λ c. let b = c .before .before in rw (passed (b .before .allowed-scheme .ensures) (b .if1 .left), failed (c .before .allowed-n .ensures) (c .if2 .taken)))
+    (λ c κs. search needs)
+    (λ c. let b = c .before .before in let a = b .before .before in
+    rw (passed (a .before .allowed-scheme .ensures) (a .if1 .left), passed (b .before .allowed-n .ensures) (b .if2 .left), failed (c .before .allowed-f .ensures) (c .if3 .taken)))
+    (λ c. let b = c .before .before in let a = b .before .before in
+    rw (passed (a .before .allowed-scheme .ensures) (a .if1 .left), passed (b .before .allowed-n .ensures) (b .if2 .left), passed (c .before .allowed-f .ensures) (c .if3 .left))))

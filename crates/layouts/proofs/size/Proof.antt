@@ -1,7 +1,6 @@
 -- `layouts::size` meets its contract.
 use lib.Pow.{pow-mono}
-use native.Mathlib.Omega.{arith}
-use native.Mathlib.Nat.{mod-eq-of-lt}
+use native.Mathlib.{Omega.arith, Nat.mod-eq-of-lt}
 use Prim.Native.Nat.{ℕ, _*_, _%_, _^_, _≤_}
 use mathlib.Core.Path.{_≡_}
 use borrow.Author.Needs.{needs}
@@ -11,8 +10,5 @@ use Rattle.layouts.proofs.size.Tie as tie
 fits : (l : ℕ) → l ≤ 16 → 1 * 2 ^ l % 4294967296 ≡ 2 ^ l
 fits l h = let p : 2 ^ l ≤ 2 ^ 16 = pow-mono h in let e : 1 * 2 ^ l ≡ 2 ^ l = omega arith in rw e (mod-eq-of-lt (omega arith))
 
-returns : tie.Need-returns
-returns c = fits _ (c .pre)
-
 pub size-spec : {M : Type 1} → statement M
-size-spec = tie.close (tie.spec (λ c. search needs) returns)
+size-spec = tie.close (tie.spec (λ c. search needs) (λ c. fits _ (c .pre)))

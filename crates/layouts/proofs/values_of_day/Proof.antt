@@ -1,15 +1,9 @@
 -- `layouts::values_of_day` meets its contract.
-use Rattle.layouts.proofs.AllowedLaws.{day-values}
+use Rattle.layouts.proofs.{AllowedLaws.day-values, values_of_day.Statement.statement}
 use borrow.Author.Needs.{needs}
-use Rattle.layouts.proofs.values_of_day.Statement.{statement}
 use Rattle.layouts.proofs.values_of_day.Tie as tie
 
-sub-result : tie.Need-sub-result
-sub-result c = day-values _ _ _ (c .before .before .pre .2) (c .before .values-through .ensures) (c .values-through2 .ensures) .0
-
-returns : tie.Need-returns
-returns c = day-values _ _ _ (c .before .before .pre .2) (c .before .values-through .ensures) (c .values-through2 .ensures) .1
-
 pub values-of-day-spec : {M : Type 1} → statement M
-values-of-day-spec = tie.close (tie.spec (λ c. λ κs. search needs) (λ c. search needs) (λ c. λ κs. search needs)
-    sub-result returns)
+values-of-day-spec = tie.close (tie.spec (λ c κs. search needs) (λ c. search needs) (λ c κs. search needs)
+    (λ c. day-values _ _ _ (c .before .before .pre .2) (c .before .values-through .ensures) (c .values-through2 .ensures) .0)
+    (λ c. day-values _ _ _ (c .before .before .pre .2) (c .before .values-through .ensures) (c .values-through2 .ensures) .1))

@@ -1,10 +1,8 @@
 -- The loop's invariant: the first i ends are good. The measure is what is left of the days.
 use Prim.Native.Nat.{_≤_, _-_}
-use mathlib.Core.Path.{_≡_, sym, refl}
-use mathlib.Core.Bool.{true}
+use mathlib.Core.{Path._≡_, Path.sym, Path.refl, Bool.true}
 use native.Mathlib.Omega.{arith}
-use borrow.Author.Needs.{needs}
-use borrow.Author.Tests.{not-true, not-false}
+use borrow.{Author.Needs.needs, Author.Tests.not-true, Author.Tests.not-false}
 use Rattle.ledger.specs.Ledger.{goodEnds}
 use Rattle.ledger.proofs.EndLaws.{refusal-9, refusal-0, test-good, test-bad}
 use Rattle.ledger.proofs.ends_refusal.Statement.{statement}
@@ -16,28 +14,13 @@ Inv-loop d ends size days i₀ i = (i ≤ days) × (goodEnds i ends size ≡ tru
 abbrev μ-loop : tie.MeasureT-loop
 μ-loop d ends size days i₀ i = days - i
 
-returns : tie.Need-returns Inv-loop μ-loop
-returns c = sym (refusal-9 _ _ _ (omega arith))
-
-loop-holds : tie.Need-loop-holds Inv-loop μ-loop
-loop-holds c = (search needs, refl)
-
-returns-2 : tie.Need-returns-2 Inv-loop μ-loop
-returns-2 c = sym (test-bad _ _ _ _ _ _ (c .before .before .before .start-of .ensures) (c .before .before .end-of .ensures) (c .before .good-end .ensures) (not-true _ (c .if2 .taken)) _
-    (omega arith) (omega arith))
-
-loop-again : tie.Need-loop-again Inv-loop μ-loop
-loop-again c =
-    let l = c .before .before .before .before .before .loop in (
-      search needs,
-      test-good (c .before .before .before .before .before .before .before .before .before .args .ends .now) _ (l .i) _ _ _ (c .before .before .before .start-of .ensures)
-          (c .before .before .end-of .ensures) (c .before .good-end .ensures) (not-false _ (c .if2 .left)) (l .inv .1),
-    )
-
-returns-3 : tie.Need-returns-3 Inv-loop μ-loop
-returns-3 c = sym (refusal-0 _ _ _ (c .before .loop .i) (c .before .loop .inv .1) (omega arith) (omega arith))
-
 pub ends-refusal-spec : {M : Type 1} → statement M
-ends-refusal-spec = tie.close (tie.spec Inv-loop μ-loop (λ c. λ κs. search needs) returns loop-holds
-    (λ c. λ κs. search needs) (λ c. λ κs. search needs) (λ c. λ κs. search needs) returns-2 (λ c. search needs)
-    (λ c. search needs) loop-again returns-3)
+ends-refusal-spec = tie.close (tie.spec
+    Inv-loop μ-loop (λ c κs. search needs) (λ c. sym (refusal-9 _ _ _ (omega arith))) (λ c. (search needs, refl))
+    (λ c κs. search needs) (λ c κs. search needs) (λ c κs. search needs)
+    (λ c. let b = c .before in
+    sym (test-bad _ _ _ _ _ _ (b .before .before .start-of .ensures) (b .before .end-of .ensures) (b .good-end .ensures) (not-true _ (c .if2 .taken)) _ (omega arith) (omega arith)))
+    (λ c. search needs) (λ c. search needs)
+    (λ c. let b = c .before in let l = b .before .before .before .before .loop in
+    (search needs, test-good _ _ (l .i) _ _ _ (b .before .before .start-of .ensures) (b .before .end-of .ensures) (b .good-end .ensures) (not-false _ (c .if2 .left)) (l .inv .1)))
+    (λ c. sym (refusal-0 _ _ _ (c .before .loop .i) (c .before .loop .inv .1) (omega arith) (omega arith))))

@@ -1,14 +1,10 @@
 -- `ledger::ledger_refusal` meets its contract.
 use borrow.Author.Needs.{needs}
-use Rattle.ledger.proofs.LedgerLaws.{layout-refused, ends-refused}
-use Rattle.ledger.proofs.ledger_refusal.Statement.{statement}
+use Rattle.ledger.proofs.{LedgerLaws.layout-refused, LedgerLaws.ends-refused, ledger_refusal.Statement.statement}
 use Rattle.ledger.proofs.ledger_refusal.Tie as tie
 
-returns : tie.Need-returns
-returns c = layout-refused _ _ _ _ _ _ (c .before .layout-refusal .ensures) (c .if1 .taken)
-
-returns-2 : tie.Need-returns-2
-returns-2 c = ends-refused _ _ _ _ _ _ (c .before .before .layout-refusal .ensures) (c .before .if1 .left) (c .ends-refusal .ensures)
-
 pub ledger-refusal-spec : {M : Type 1} → statement M
-ledger-refusal-spec = tie.close (tie.spec (λ c κs. search needs) returns (λ c κs. search needs) returns-2)
+ledger-refusal-spec = tie.close (tie.spec
+    (λ c κs. search needs) (λ c. layout-refused _ _ _ _ _ _ (c .before .layout-refusal .ensures) (c .if1 .taken))
+    (λ c κs. search needs)
+    (λ c. ends-refused _ _ _ _ _ _ (c .before .before .layout-refusal .ensures) (c .before .if1 .left) (c .ends-refusal .ensures)))

@@ -2,13 +2,10 @@
 use mathlib.Core.Path.{sym, _∙_}
 use native.Mathlib.Omega.{arith}
 use borrow.Author.Needs.{needs}
-use Rattle.ledger.proofs.EndLaws.{start-later}
-use Rattle.ledger.proofs.start_of.Statement.{statement}
+use Rattle.ledger.proofs.{EndLaws.start-later, start_of.Statement.statement}
 use Rattle.ledger.proofs.start_of.Tie as tie
 
-returns-2 : tie.Need-returns-2
-returns-2 c = c .wide .ensures ∙ sym (start-later _ (c .before .before .before .before .args .i) (omega arith))
-
 pub start-of-spec : {M : Type 1} → statement M
-start-of-spec = tie.close
-    (tie.spec (λ c. search needs) (λ c. search needs) (λ c. search needs) (λ c. search needs) (λ c. λ κs. search needs) returns-2)
+start-of-spec = tie.close (tie.spec
+    (λ c. search needs) (λ c. search needs) (λ c. search needs) (λ c. search needs) (λ c κs. search needs)
+    (λ c. c .wide .ensures ∙ sym (start-later _ (c .before .before .before .before .args .i) (omega arith))))

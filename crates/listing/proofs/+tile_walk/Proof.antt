@@ -1,20 +1,18 @@
 -- `listing::tile_walk` meets its contract.
 use Rattle.buffers.proofs.Writes.{wrote-one, wrote-as}
-use Rattle.listing.proofs.Writes.{tile-day, tile-upper, level-less, level-some, place-one, left-place, lower-tile, upper-tile, tile-sum, tile-small, tile-level, tile-right-place, tile-join}
-use Rattle.acceptance.specs.Private.{tileBit}
-use borrow.Author.Needs.{needs}
+use Rattle.listing.proofs.Writes.{tile-day, tile-upper, level-less, place-one, left-place, lower-tile, upper-tile}
+use Rattle.listing.proofs.Writes.{tile-sum, tile-small, tile-level, tile-right-place, tile-join}
+use Rattle.listing.proofs.{+tile_walk.statement, +tile_walk.Tie.close}
+use borrow.{Author.Needs.needs, Fn.Kinds.In, Fn.PlainCycle.Measures, Fn.PlainCycle.is, Fn.PlainCycle.falls, Fn.PlainCycle.and}
 use lib.ListN.{length-set}
+use native.Mathlib.Omega.{arith}
 use Prim.Native.Nat.{ℕ, _<_}
 use mathlib.Core.Path.{_∙_}
-use borrow.Fn.Kinds.{In}
-use borrow.Fn.PlainCycle.{Measures, is, falls, and}
 use Rattle.listing.proofs.tile_walk.Reads as tile-walk
 use Rattle.listing.proofs.tile_walk.Kinds as tile-walk-kinds
 use Rattle.listing.proofs.+tile_walk.Lts-tile_walk as tile-walk-lts
 use Rattle.layouts.proofs.size.Reads as size-reads
 use Rattle.acceptance.proofs.values.tile_bit.Reads as tile-bit-reads
-use Rattle.listing.proofs.+tile_walk.{statement}
-use Rattle.listing.proofs.+tile_walk.Tie.{close}
 
 abbrev μ-tile-walk : Measures 2 tile-walk-kinds.ps ℕ
 μ-tile-walk κs a = a .1 .1 .0
@@ -26,242 +24,36 @@ abbrev tile-walk-below : ℕ → In 2 tile-walk-kinds.ps
 tile-walk-below t =
     and 2 tile-walk-kinds.ps (falls 2 tile-walk-kinds.ps _<_ μ-tile-walk t) tile-walk.Pre
 
-tile-walk-mul-list : (t : ℕ) → tile-walk-lts.Need-mul-list (
-  size-reads.Asked,
-  size-reads.Learnt,
-  tile-bit-reads.Asked,
-  tile-bit-reads.Learnt,
-  tile-walk-below t,
-  tile-walk.Post,
-) (tile-walk-at t) tile-walk.Post
-tile-walk-mul-list t c = search needs
-
-tile-walk-slice-write-list : (t : ℕ) → tile-walk-lts.Need-slice-write-list (
-  size-reads.Asked,
-  size-reads.Learnt,
-  tile-bit-reads.Asked,
-  tile-bit-reads.Learnt,
-  tile-walk-below t,
-  tile-walk.Post,
-) (tile-walk-at t) tile-walk.Post
-tile-walk-slice-write-list t c = place-one _ _ _ (c .before .before .before .pre .1 .1)
-
-tile-walk-add-result : (t : ℕ) → tile-walk-lts.Need-add-result (
-  size-reads.Asked,
-  size-reads.Learnt,
-  tile-bit-reads.Asked,
-  tile-bit-reads.Learnt,
-  tile-walk-below t,
-  tile-walk.Post,
-) (tile-walk-at t) tile-walk.Post
-tile-walk-add-result t c = search needs
-
-tile-walk-same-length : (t : ℕ) → tile-walk-lts.Need-same-length (
-  size-reads.Asked,
-  size-reads.Learnt,
-  tile-bit-reads.Asked,
-  tile-bit-reads.Learnt,
-  tile-walk-below t,
-  tile-walk.Post,
-) (tile-walk-at t) tile-walk.Post
-tile-walk-same-length t c = length-set (c .before .before .before .args .list .now) (c .before .before .before .args .at) (c .before .before .before .args .day)
-
-tile-walk-returns : (t : ℕ) → tile-walk-lts.Need-returns (
-  size-reads.Asked,
-  size-reads.Learnt,
-  tile-bit-reads.Asked,
-  tile-bit-reads.Learnt,
-  tile-walk-below t,
-  tile-walk.Post,
-) (tile-walk-at t) tile-walk.Post
-tile-walk-returns t c = wrote-one _ _ _ _ (tile-day _ _ _ (c .if1 .taken)) (place-one _ _ _ (c .before .before .before .pre .1 .1))
-
-tile-walk-sub-l : (t : ℕ) → tile-walk-lts.Need-sub-l (
-  size-reads.Asked,
-  size-reads.Learnt,
-  tile-bit-reads.Asked,
-  tile-bit-reads.Learnt,
-  tile-walk-below t,
-  tile-walk.Post,
-) (tile-walk-at t) tile-walk.Post
-tile-walk-sub-l t c = level-some _ (c .if1 .left)
-
-tile-walk-size-requires : (t : ℕ) → tile-walk-lts.Need-size-requires (
-  size-reads.Asked,
-  size-reads.Learnt,
-  tile-bit-reads.Asked,
-  tile-bit-reads.Learnt,
-  tile-walk-below t,
-  tile-walk.Post,
-) (tile-walk-at t) tile-walk.Post
-tile-walk-size-requires t c κs = tile-small (c .before .before .before .pre .1 .0)
-
-tile-walk-tile-bit-requires : (t : ℕ) → tile-walk-lts.Need-tile-bit-requires (
-  size-reads.Asked,
-  size-reads.Learnt,
-  tile-bit-reads.Asked,
-  tile-bit-reads.Learnt,
-  tile-walk-below t,
-  tile-walk.Post,
-) (tile-walk-at t) tile-walk.Post
-tile-walk-tile-bit-requires t c κs = (c .before .before .before .before .pre .1 .0 .at, tile-level (c .before .before .before .before .pre .1 .0))
-
-tile-walk-add-tile-walk : (t : ℕ) → tile-walk-lts.Need-add-tile-walk (
-  size-reads.Asked,
-  size-reads.Learnt,
-  tile-bit-reads.Asked,
-  tile-bit-reads.Learnt,
-  tile-walk-below t,
-  tile-walk.Post,
-) (tile-walk-at t) tile-walk.Post
-tile-walk-add-tile-walk t c = record { fits = tile-sum (c .before .before .before .before .before .before .pre .1 .0) (c .before .before .before .if1 .left) (c .before .before .size .ensures) }
-
-tile-walk-tile-walk-requires : (t : ℕ) → tile-walk-lts.Need-tile-walk-requires (
-  size-reads.Asked,
-  size-reads.Learnt,
-  tile-bit-reads.Asked,
-  tile-bit-reads.Learnt,
-  tile-walk-below t,
-  tile-walk.Post,
-) (tile-walk-at t) tile-walk.Post
-tile-walk-tile-walk-requires t c κs =
-    let pre = c .before .before .before .before .before .before .before .pre in (
-      level-less _ _ (pre .0) (c .before .before .before .before .if1 .left),
-      (
-        upper-tile (pre .1 .0) (c .before .before .before .before .if1 .left) (c .before .before .before .size .ensures),
-        left-place _ _ _ (c .before .before .before .before .if1 .left)
-            (pre .1 .1),
-      ),
-    )
-
-tile-walk-same-length-2 : (t : ℕ) → tile-walk-lts.Need-same-length-2 (
-  size-reads.Asked,
-  size-reads.Learnt,
-  tile-bit-reads.Asked,
-  tile-bit-reads.Learnt,
-  tile-walk-below t,
-  tile-walk.Post,
-) (tile-walk-at t) tile-walk.Post
-tile-walk-same-length-2 t c = c .before .before .tile-walk .kept .1 .1 .1 .1 .1 .0
-
-tile-walk-returns-2 : (t : ℕ) → tile-walk-lts.Need-returns-2 (
-  size-reads.Asked,
-  size-reads.Learnt,
-  tile-bit-reads.Asked,
-  tile-bit-reads.Learnt,
-  tile-walk-below t,
-  tile-walk.Post,
-) (tile-walk-at t) tile-walk.Post
-tile-walk-returns-2 t c =
-    let args = c .before .before .before .before .before .before .before .before .before .before .args in
-    wrote-as _ (tile-upper (tileBit (args .n) (args .t .now) (args .g)) (args .level) (args .day) (c .before .before .before .before .before .before .size .result)
-    (c .before .before .before .before .before .tile-bit .ensures) (c .before .before .before .before .if2 .taken) (c .before .before .before .before .before .before .before .if1 .left)
-    (c .before .before .before .before .before .before .size .ensures)) (c .before .before .tile-walk .ensures)
-
-tile-walk-tile-walk-requires-2 : (t : ℕ) → tile-walk-lts.Need-tile-walk-requires-2 (
-  size-reads.Asked,
-  size-reads.Learnt,
-  tile-bit-reads.Asked,
-  tile-bit-reads.Learnt,
-  tile-walk-below t,
-  tile-walk.Post,
-) (tile-walk-at t) tile-walk.Post
-tile-walk-tile-walk-requires-2 t c κs =
-    let pre = c .before .before .before .before .before .before .before .pre in (
-      level-less _ _ (pre .0) (c .before .before .before .before .if1 .left),
-      (
-        lower-tile (pre .1 .0) (c .before .before .before .before .if1 .left) (c .before .before .before .size .ensures),
-        left-place _ _ _ (c .before .before .before .before .if1 .left)
-            (pre .1 .1),
-      ),
-    )
-
-tile-walk-add-tile-walk-2 : (t : ℕ) → tile-walk-lts.Need-add-tile-walk-2 (
-  size-reads.Asked,
-  size-reads.Learnt,
-  tile-bit-reads.Asked,
-  tile-bit-reads.Learnt,
-  tile-walk-below t,
-  tile-walk.Post,
-) (tile-walk-at t) tile-walk.Post
-tile-walk-add-tile-walk-2 t c = record {
-  fits = tile-sum (c .before .before .before .before .before .before .before .before .before .before .pre .1 .0)
-      (c .before .before .before .before .before .before .before .if1 .left) (c .before .before .before .before .before .before .size .ensures);
-}
-
-tile-walk-tile-walk-requires-3 : (t : ℕ) → tile-walk-lts.Need-tile-walk-requires-3 (
-  size-reads.Asked,
-  size-reads.Learnt,
-  tile-bit-reads.Asked,
-  tile-bit-reads.Learnt,
-  tile-walk-below t,
-  tile-walk.Post,
-) (tile-walk-at t) tile-walk.Post
-tile-walk-tile-walk-requires-3 t c κs =
-    let args = c .before .before .before .before .before .before .before .before .before .before .before .args in
-    let pre = c .before .before .before .before .before .before .before .before .before .before .before .pre in (
-      level-less _ _ (pre .0) (c .before .before .before .before .before .before .before .before .if1 .left),
-      (
-        upper-tile (pre .1 .0) (c .before .before .before .before .before .before .before .before .if1 .left) (c .before .before .before .before .before .before .before .size .ensures),
-        tile-right-place (tileBit (args .n) (args .t .now) (args .g)) (args .level) (args .day) (args .at) (c .before .before .before .tile-walk2 .result) _ (args .list .now) _
-            (c .before .before .before .before .before .before .before .before .if1 .left) (pre .1 .1) (c .before .before .before .tile-walk2 .ensures)
-            (c .before .before .before .tile-walk2 .kept .1 .1 .1 .1 .1 .0),
-      ),
-    )
-
-tile-walk-same-length-3 : (t : ℕ) → tile-walk-lts.Need-same-length-3 (
-  size-reads.Asked,
-  size-reads.Learnt,
-  tile-bit-reads.Asked,
-  tile-bit-reads.Learnt,
-  tile-walk-below t,
-  tile-walk.Post,
-) (tile-walk-at t) tile-walk.Post
-tile-walk-same-length-3 t c = c .before .before .tile-walk3 .kept .1 .1 .1 .1 .1 .0 ∙ c .before .before .before .before .before .before .tile-walk2 .kept .1 .1 .1 .1 .1 .0
-
-tile-walk-returns-3 : (t : ℕ) → tile-walk-lts.Need-returns-3 (
-  size-reads.Asked,
-  size-reads.Learnt,
-  tile-bit-reads.Asked,
-  tile-bit-reads.Learnt,
-  tile-walk-below t,
-  tile-walk.Post,
-) (tile-walk-at t) tile-walk.Post
-tile-walk-returns-3 t c =
-    let args = c .before .before .before .before .before .before .before .before .before .before .before .before .before .before .args in
-    tile-join (tileBit (args .n) (args .t .now) (args .g)) (args .level) (args .day) (c .before .before .before .before .before .before .before .before .before .before .size .result) (args .at)
-    (c .before .before .before .before .before .before .tile-walk2 .result) (c .before .before .tile-walk3 .result) (args .list .now) _ _
-    (c .before .before .before .before .before .before .before .before .before .tile-bit .ensures) (c .before .before .before .before .before .before .before .before .if2 .left)
-    (c .before .before .before .before .before .before .before .before .before .before .before .if1 .left)
-    (c .before .before .before .before .before .before .before .before .before .before .size .ensures)
-    (c .before .before .before .before .before .before .before .before .before .before .before .before .before .before .pre .1 .1)
-    (c .before .before .before .before .before .before .tile-walk2 .ensures) (c .before .before .tile-walk3 .ensures)
-
 pub +tile-walk-spec : {M : Type 1} → statement M
-+tile-walk-spec = close μ-tile-walk λ t. tile-walk-lts.spec (
-  size-reads.Asked,
-  size-reads.Learnt,
-  tile-bit-reads.Asked,
-  tile-bit-reads.Learnt,
-  tile-walk-below t,
-  tile-walk.Post,
-)
-    (tile-walk-at t)
-    tile-walk.Post
-    (tile-walk-mul-list t)
-    (tile-walk-slice-write-list t)
-    (tile-walk-add-result t)
-    (tile-walk-same-length t)
-    (tile-walk-returns t)
-    (tile-walk-sub-l t)
-    (tile-walk-size-requires t)
-    (tile-walk-tile-bit-requires t)
-    (tile-walk-add-tile-walk t)
-    (tile-walk-tile-walk-requires t)
-    (tile-walk-same-length-2 t)
-    (tile-walk-returns-2 t)
-    (tile-walk-tile-walk-requires-2 t)
-    (tile-walk-add-tile-walk-2 t)
-    (tile-walk-tile-walk-requires-3 t)
-    (tile-walk-same-length-3 t)
-    (tile-walk-returns-3 t)
++tile-walk-spec = close μ-tile-walk λ t. tile-walk-lts.spec
+    (size-reads.Asked, size-reads.Learnt, tile-bit-reads.Asked, tile-bit-reads.Learnt, tile-walk-below t, tile-walk.Post)
+    (tile-walk-at t) tile-walk.Post (λ c. search needs) (λ c. place-one _ _ _ (c .before .before .before .pre .1 .1))
+    (λ c. search needs) (λ c. let a = c .before .before .before .args in length-set (a .list .now) (a .at) (a .day))
+    (λ c. wrote-one _ _ _ _ (tile-day _ _ _ (c .if1 .taken)) (place-one _ _ _ (c .before .before .before .pre .1 .1)))
+    (λ c. omega (arith, c .if1 .left)) (λ c κs. tile-small (c .before .before .before .pre .1 .0))
+    (λ c κs. let pre = c .before .before .before .before .pre in (pre .1 .0 .at, tile-level (pre .1 .0)))
+    (λ c. let b = c .before .before .before in record { fits = tile-sum (b .before .before .before .pre .1 .0) (b .if1 .left) (c .before .before .size .ensures) })
+    (λ c κs. let b = c .before .before .before .before in let pre = b .before .before .before .pre in
+    (level-less _ _ (pre .0) (b .if1 .left), (upper-tile (pre .1 .0) (b .if1 .left) (c .before .before .before .size .ensures), left-place _ _ _ (b .if1 .left) (pre .1 .1))))
+    (λ c. c .before .before .tile-walk .kept .1 .1 .1 .1 .1 .0)
+    (λ c. let b = c .before .before .before .before in
+    wrote-as _ (tile-upper _ _ _ _ (b .before .tile-bit .ensures) (b .if2 .taken) (b .before .before .before .if1 .left) (b .before .before .size .ensures)) (c .before .before .tile-walk .ensures))
+    (λ c κs. let b = c .before .before .before .before in let pre = b .before .before .before .pre in
+    (level-less _ _ (pre .0) (b .if1 .left), (lower-tile (pre .1 .0) (b .if1 .left) (c .before .before .before .size .ensures), left-place _ _ _ (b .if1 .left) (pre .1 .1))))
+    (λ c. let b = c .before .before .before .before .before .before in
+    record { fits = tile-sum (b .before .before .before .before .pre .1 .0) (b .before .if1 .left) (b .size .ensures) })
+    (λ c κs. let w = c .before .before .before .tile-walk2 in
+    let b = c .before .before .before .before .before .before .before .before in
+    let pre = b .before .before .before .pre in (
+      level-less _ _ (pre .0) (b .if1 .left),
+      (
+        upper-tile (pre .1 .0) (b .if1 .left) (c .before .before .before .before .before .before .before .size .ensures),
+        tile-right-place _ _ _ _ _ _ _ _ (b .if1 .left) (pre .1 .1) (w .ensures) (w .kept .1 .1 .1 .1 .1 .0),
+      ),
+    ))
+    (λ c. c .before .before .tile-walk3 .kept .1 .1 .1 .1 .1 .0 ∙ c .before .before .before .before .before .before .tile-walk2 .kept .1 .1 .1 .1 .1 .0)
+    (λ c. let b = c .before .before .before .before .before .before in
+    let d = b .before .before in
+    let e = d .before .before .before in
+    tile-join _ _ _ _ _ _ _ _ _ _ (d .before .tile-bit .ensures) (d .if2 .left) (e .if1 .left) (d .before .before .size .ensures) (e .before .before .before .pre .1 .1)
+    (b .tile-walk2 .ensures) (c .before .before .tile-walk3 .ensures))

@@ -1,15 +1,14 @@
 -- `listing::interval_walk` meets its contract.
 use Rattle.listing.proofs.Lists.{none-yet, so-far-length, next-place, next-interval, all-intervals}
+use Rattle.listing.proofs.interval_walk.Statement.{statement}
 use Rattle.acceptance.proofs.Steps.{interval-of, interval-end, count-fits, product-fits}
 use Rattle.acceptance.specs.Private.{isListed}
 use Rattle.buffers.specs.Private.{Wrote}
 use Rattle.layouts.proofs.AllowedLaws.{allowed-n-is}
 use Rattle.evidence.specs.Evidence.{days}
 use Rattle.lists.specs.Lists.{keep}
-use native.Mathlib.Omega.{arith}
-use native.Mathlib.Nat.{zero-mul}
-use Prim.Native.Nat.{_+_, _-_, _*_, _≤_}
-use Rattle.listing.proofs.interval_walk.Statement.{statement}
+use native.Mathlib.{Omega.arith, Nat.zero-mul}
+use Prim.Native.Nat.{_-_, _*_, _≤_}
 use Rattle.listing.proofs.interval_walk.Tie as tie
 
 abbrev Inv-loop : tie.InvT-loop
@@ -18,59 +17,17 @@ Inv-loop scheme n d t list₀ m k₀ at₀ list k at = (k ≤ m) × Wrote 0 (kee
 abbrev μ-loop : tie.MeasureT-loop
 μ-loop scheme n d t list₀ m k₀ at₀ list k at = m - k
 
-div-m : tie.Need-div-m Inv-loop μ-loop
-div-m c = allowed-n-is _ (c .before .before .pre .0 .n-ok) .some
-
-loop-holds : tie.Need-loop-holds Inv-loop μ-loop
-loop-holds c =
-    let args = c .before .before .args in
-    (omega arith, none-yet (isListed (args .scheme) (args .n) (args .t .now)) _ _ (zero-mul (args .n)))
-
-add-k : tie.Need-add-k Inv-loop μ-loop
-add-k c =
-    let args = c .before .before .before .before .args in
-    record { fits = count-fits (args .n) (args .d) (c .before .loop .k) (c .loop-test .taken) (c .before .before .before .before .pre .0 .most) }
-
-mul-interval-days : tie.Need-mul-interval-days Inv-loop μ-loop
-mul-interval-days c =
-    let args = c .before .before .before .before .args in
-    record { fits = product-fits (args .n) (args .d) (c .before .loop .k + 1) (omega arith) (c .before .before .before .before .pre .0 .most) }
-
-interval-days-requires : tie.Need-interval-days-requires Inv-loop μ-loop
-interval-days-requires c κs =
-    let args = c .before .before .before .before .before .args in
-    let loop = c .before .before .loop in
-    let pre = c .before .before .before .before .before .pre in (
-      interval-of _ (pre .0) (omega arith) (omega arith),
-      next-place (isListed (args .scheme) (args .n) (args .t .now)) (args .n) (args .d) (loop .k) (loop .at) (args .list .now) (loop .list)
-          (c .before .loop-test .taken) (pre .1) (loop .inv .1),
-      pre .2,
-    )
-
-loop-again : tie.Need-loop-again Inv-loop μ-loop
-loop-again c =
-    let args = c .before .before .before .before .before .before .before .before .args in
-    let loop = c .before .before .before .before .before .loop in (
-      omega arith,
-      next-interval (isListed (args .scheme) (args .n) (args .t .now)) (args .n) (args .d) (loop .k) (loop .at) (c .before .before .interval-days .result) (args .list .now)
-          (loop .list) _ (c .before .before .before .before .loop-test .taken) (c .before .before .before .before .before .before .before .before .pre .1) (loop .inv .1)
-          (c .before .before .interval-days .ensures),
-    )
-
-same-length : tie.Need-same-length Inv-loop μ-loop
-same-length c =
-    let args = c .before .before .before .before .args in
-    let loop = c .before .loop in
-    so-far-length (isListed (args .scheme) (args .n) (args .t .now)) (loop .k * args .n) (args .d) (loop .at) (args .list .now) (loop .list)
-    (interval-end (args .n) (args .d) (loop .k) (loop .inv .0)) (c .before .before .before .before .pre .1) (loop .inv .1)
-
-returns : tie.Need-returns Inv-loop μ-loop
-returns c =
-    let args = c .before .before .before .before .args in
-    let loop = c .before .loop in
-    all-intervals (isListed (args .scheme) (args .n) (args .t .now)) (args .n) (args .d) (loop .k) (loop .at) (args .list .now) (loop .list) (c .before .before .before .before .pre .0 .whole)
-    (loop .inv .0) (c .loop-test .left) (loop .inv .1)
-
 pub interval-walk-spec : {M : Type 1} → statement M
-interval-walk-spec = tie.close (tie.spec Inv-loop μ-loop div-m loop-holds add-k mul-interval-days interval-days-requires
-    (λ c. omega arith) loop-again same-length returns)
+interval-walk-spec = tie.close (tie.spec Inv-loop μ-loop (λ c. allowed-n-is _ (c .before .before .pre .0 .n-ok) .some)
+    (λ c. (omega arith, none-yet _ _ _ (zero-mul (c .before .before .args .n))))
+    (λ c. let b = c .before .before .before .before in record { fits = count-fits (b .args .n) (b .args .d) _ (c .loop-test .taken) (b .pre .0 .most) })
+    (λ c. let b = c .before .before .before .before in record { fits = product-fits (b .args .n) (b .args .d) _ (omega arith) (b .pre .0 .most) })
+    (λ c κs. let l = c .before .before .loop in
+    let pre = c .before .before .before .before .before .pre in
+    (interval-of _ (pre .0) (omega arith) (omega arith), next-place _ _ _ _ _ _ _ (c .before .loop-test .taken) (pre .1) (l .inv .1), pre .2))
+    (λ c. omega arith)
+    (λ c. let b = c .before .before .before .before in
+    (omega arith, next-interval _ _ _ _ _ _ _ _ _ (b .loop-test .taken) (b .before .before .before .before .pre .1) (b .before .loop .inv .1) (c .before .before .interval-days .ensures)))
+    (λ c. let l = c .before .loop in
+    so-far-length _ _ _ _ _ _ (interval-end _ _ (l .k) (l .inv .0)) (c .before .before .before .before .pre .1) (l .inv .1))
+    (λ c. let l = c .before .loop in all-intervals _ _ _ _ _ _ _ (c .before .before .before .before .pre .0 .whole) (l .inv .0) (c .loop-test .left) (l .inv .1)))

@@ -1,27 +1,12 @@
 -- `listing::listed` meets its contract.
-use Rattle.listing.proofs.Lists.{isListed-as, below-third, rules-levels}
-use Rattle.buffers.proofs.Writes.{wrote-as}
-use Rattle.acceptance.proofs.Steps.{table-as}
-use Rattle.evidence.specs.Evidence.{days}
+use Rattle.listing.proofs.{Lists.below-third, Lists.rules-levels, listed.Statement.statement}
 use borrow.Author.Needs.{needs}
-use Rattle.listing.proofs.listed.Statement.{statement}
 use Rattle.listing.proofs.listed.Tie as tie
 
-tree-walk-requires : tie.Need-tree-walk-requires
-tree-walk-requires c κs =
-    let pre = c .before .before .before .before .pre in
-    (table-as 3 (c .before .if1 .taken) (pre .0), pre .1, rules-levels _ _ _ _ (c .before .if1 .taken) (pre .2))
-
-returns : tie.Need-returns
-returns c =
-    let args = c .before .before .before .before .before .before .before .args in
-    wrote-as _ (isListed-as _ (args .n) (args .t .now) (days (args .d)) 3 (c .before .before .before .before .if1 .taken)) (c .before .before .tree-walk .ensures)
-
-interval-walk-requires : tie.Need-interval-walk-requires
-interval-walk-requires c κs =
-    let pre = c .before .before .before .before .pre in
-    (pre .0, pre .1, below-third _ (pre .0 .scheme-ok) (c .before .if1 .left))
-
 pub listed-spec : {M : Type 1} → statement M
-listed-spec = tie.close (tie.spec tree-walk-requires (λ c. search needs) returns interval-walk-requires
+listed-spec = tie.close (tie.spec (λ c κs. let pre = c .before .before .before .before .pre in
+    (rw (c .before .if1 .taken) at (pre .0), pre .1, rules-levels _ _ _ _ (c .before .if1 .taken) (pre .2)))
+    (λ c. search needs) (λ c. rw (c .before .before .before .before .if1 .taken) (c .before .before .tree-walk .ensures))
+    (λ c κs. let pre = c .before .before .before .before .pre in
+    (pre .0, pre .1, below-third _ (pre .0 .scheme-ok) (c .before .if1 .left)))
     (λ c. search needs) (λ c. search needs))

@@ -4,7 +4,9 @@ use Rattle.buffers.specs.Private.{Wrote}
 use Rattle.lists.specs.Lists.{upFrom}
 use borrow.Author.Needs.{needs}
 use native.Mathlib.Omega.{arith}
-use Prim.Native.Nat.{_-_, _≤_}
+use Prim.Native.Nat.{_-_, _≤_, _<_}
+use mathlib.Core.Path.{_≡_}
+use lib.ListN.{length}
 use Rattle.listing.proofs.run.Statement.{statement}
 use Rattle.listing.proofs.run.Tie as tie
 
@@ -14,51 +16,16 @@ Inv-loop first end list₀ at day₀ p₀ list day p = (first ≤ day) × (day �
 abbrev μ-loop : tie.MeasureT-loop
 μ-loop first end list₀ at day₀ p₀ list day p = end - day
 
-loop-holds : tie.Need-loop-holds Inv-loop μ-loop
-loop-holds c = (omega arith, c .pre .0, run-start (c .args .first) (c .args .at) (c .args .list .now))
-
-mul-list : tie.Need-mul-list Inv-loop μ-loop
-mul-list c =
-    let args = c .before .before .args in
-    let loop = c .before .loop in
-    let q = run-place (args .first) (loop .day) (args .end) (args .at) (loop .p) (args .list .now) (loop .list) (loop .inv .0) (c .loop-test .taken) (c .before .before .pre .1) (loop .inv .2) in
-    omega (arith, q .0, q .1, c .before .before .good .1 .1 .0 .1)
-
-slice-write-list : tie.Need-slice-write-list Inv-loop μ-loop
-slice-write-list c =
-    let args = c .before .before .args in
-    let loop = c .before .loop in
-    run-place (args .first) (loop .day) (args .end) (args .at) (loop .p) (args .list .now) (loop .list) (loop .inv .0) (c .loop-test .taken) (c .before .before .pre .1) (loop .inv .2) .0
-
-add-p : tie.Need-add-p Inv-loop μ-loop
-add-p c =
-    let args = c .before .before .args in
-    let loop = c .before .loop in
-    let q = run-place (args .first) (loop .day) (args .end) (args .at) (loop .p) (args .list .now) (loop .list) (loop .inv .0) (c .loop-test .taken) (c .before .before .pre .1) (loop .inv .2) in
-    omega (arith, q .0, q .1, c .before .before .good .1 .1 .0 .1)
-
-loop-again : tie.Need-loop-again Inv-loop μ-loop
-loop-again c =
-    let args = c .before .before .args in
-    let loop = c .before .loop in (
-      omega arith,
-      omega arith,
-      run-next (args .first) (loop .day) (args .end) (args .at) (loop .p) (args .list .now) (loop .list) (loop .inv .0) (c .loop-test .taken) (c .before .before .pre .1)
-          (loop .inv .2),
-    )
-
-same-length : tie.Need-same-length Inv-loop μ-loop
-same-length c =
-    let args = c .before .before .args in
-    let loop = c .before .loop in
-    run-length (args .first) (loop .day) (args .end) (args .at) (loop .p) (args .list .now) (loop .list) (loop .inv .0) (loop .inv .1) (c .before .before .pre .1) (loop .inv .2)
-
-returns : tie.Need-returns Inv-loop μ-loop
-returns c =
-    let args = c .before .before .args in
-    let loop = c .before .loop in
-    run-end (args .first) (loop .day) (args .end) (args .at) (loop .p) (args .list .now) (loop .list) (loop .inv .1) (c .loop-test .left) (loop .inv .2)
+-- a turn's place stands in the list, whose length is as before
+place : (c : tie.In-loop Inv-loop μ-loop) → (c .before .loop .p < length (c .before .loop .list)) × (length (c .before .loop .list) ≡ length (c .before .before .args .list .now))
+place c = let l = c .before .loop in run-place _ _ _ _ _ _ _ (l .inv .0) (c .loop-test .taken) (c .before .before .pre .1) (l .inv .2)
 
 pub run-spec : {M : Type 1} → statement M
-run-spec = tie.close (tie.spec Inv-loop μ-loop loop-holds mul-list slice-write-list add-p (λ c. search needs)
-    (λ c. omega arith) loop-again same-length returns)
+run-spec = tie.close (tie.spec
+    Inv-loop μ-loop (λ c. (omega arith, c .pre .0, run-start (c .args .first) (c .args .at) (c .args .list .now)))
+    (λ c. omega (arith, place c .0, place c .1, c .before .before .good .1 .1 .0 .1)) (λ c. place c .0)
+    (λ c. omega (arith, place c .0, place c .1, c .before .before .good .1 .1 .0 .1)) (λ c. search needs) (λ c. omega arith)
+    (λ c. let l = c .before .loop in
+    (omega arith, omega arith, run-next _ _ _ _ _ _ _ (l .inv .0) (c .loop-test .taken) (c .before .before .pre .1) (l .inv .2)))
+    (λ c. let l = c .before .loop in run-length _ _ _ _ _ _ _ (l .inv .0) (l .inv .1) (c .before .before .pre .1) (l .inv .2))
+    (λ c. let l = c .before .loop in run-end _ _ _ _ _ _ _ (l .inv .1) (c .loop-test .left) (l .inv .2)))

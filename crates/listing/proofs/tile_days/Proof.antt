@@ -6,25 +6,16 @@ use borrow.Author.Needs.{needs}
 use Rattle.listing.proofs.tile_days.Statement.{statement}
 use Rattle.listing.proofs.tile_days.Tie as tie
 
-returns : tie.Need-returns
-returns c = wrote-none _ _ _ (tile-whole _ _ _ (c .before .before .before .before .pre .0) (c .before .tile-passes .ensures) (c .if1 .taken))
-
-lg-requires : tie.Need-lg-requires
-lg-requires c κs = allowed-n-is _ (c .before .before .before .before .pre .0 .has .n-ok) .some
-
-sub-tile-walk : tie.Need-sub-tile-walk
-sub-tile-walk c = interval-room (c .before .before .before .before .before .pre .0)
-
-tile-walk-requires : tie.Need-tile-walk-requires
-tile-walk-requires c κs =
-    let pre = c .before .before .before .before .before .before .pre in
-    tile-start _ _ _ _ _ (pre .0) (pre .1) (c .before .lg .ensures)
-
-returns-2 : tie.Need-returns-2
-returns-2 c = wrote-as _ (tile-failed _ _ _ (c .before .before .before .before .before .before .before .before .before .pre .0)
-    (c .before .before .before .before .before .before .tile-passes .ensures) (c .before .before .before .before .before .if1 .left) (c .before .before .before .before .lg .ensures))
-    (c .before .before .tile-walk .ensures)
-
 pub tile-days-spec : {M : Type 1} → statement M
-tile-days-spec = tie.close (tie.spec (λ c. λ κs. search needs) returns lg-requires sub-tile-walk (λ c. search needs)
-    tile-walk-requires (λ c. search needs) returns-2)
+tile-days-spec = tie.close (tie.spec (λ c κs. search needs)
+    (λ c. wrote-none _ _ _ (tile-whole _ _ _ (c .before .before .before .before .pre .0) (c .before .tile-passes .ensures)
+    (c .if1 .taken)))
+    (λ c κs. allowed-n-is _ (c .before .before .before .before .pre .0 .has .n-ok) .some)
+    (λ c. interval-room (c .before .before .before .before .before .pre .0)) (λ c. search needs)
+    (λ c κs. let pre = c .before .before .before .before .before .before .pre in
+    tile-start _ _ _ _ _ (pre .0) (pre .1) (c .before .lg .ensures))
+    (λ c. search needs)
+    (λ c. wrote-as _ (tile-failed _ _ _ (c .before .before .before .before .before .before .before .before .before .pre .0)
+    (c .before .before .before .before .before .before .tile-passes .ensures)
+    (c .before .before .before .before .before .if1 .left) (c .before .before .before .before .lg .ensures))
+    (c .before .before .tile-walk .ensures)))

@@ -15,43 +15,16 @@ Inv-loop n d t list₀ level₀ at₀ list level at = (level ≤ 17) × Wrote 0 
 abbrev μ-loop : tie.MeasureT-loop
 μ-loop n d t list₀ level₀ at₀ list level at = level
 
-loop-holds : tie.Need-loop-holds Inv-loop μ-loop
-loop-holds c = (omega arith, none-yet _ _ _ (no-level _ (c .before .before .pre .0 .most)))
-
-top-days-requires : tie.Need-top-days-requires Inv-loop μ-loop
-top-days-requires c κs =
-    let args = c .before .before .before .before .before .args in
-    let loop = c .before .before .loop in
-    let pre = c .before .before .before .before .before .pre in (
-      pre .0,
-      level-place (isListed 3 (args .n) (args .t .now)) (args .d) (loop .level) (loop .at) (args .list .now) (loop .list) (c .before .loop-test .taken) (pre .1) (loop .inv .1) .0,
-      omega
-          arith,
-      level-place (isListed 3 (args .n) (args .t .now)) (args .d) (loop .level) (loop .at) (args .list .now) (loop .list) (c .before .loop-test .taken) (pre .1) (loop .inv .1) .1,
-    )
-
-loop-again : tie.Need-loop-again Inv-loop μ-loop
-loop-again c =
-    let args = c .before .before .before .before .before .before .before .before .args in
-    let loop = c .before .before .before .before .before .loop in
-    let pre = c .before .before .before .before .before .before .before .before .pre in (
-      omega arith,
-      next-level (args .n) (args .d) (args .t .now) (pre .0 .most) (pre .2) (loop .level) (loop .at) (c .before .before .top-days .result) (args .list .now) (loop .list) _
-          (c .before .before .before .before .loop-test .taken) (pre .1) (loop .inv .1) (c .before .before .top-days .ensures),
-    )
-
-same-length : tie.Need-same-length Inv-loop μ-loop
-same-length c =
-    let args = c .before .before .before .before .args in
-    let loop = c .before .loop in
-    level-length (isListed 3 (args .n) (args .t .now)) (args .d) (loop .level) (loop .at) (args .list .now) (loop .list) (c .before .before .before .before .pre .1) (loop .inv .1)
-
-returns : tie.Need-returns Inv-loop μ-loop
-returns c =
-    let args = c .before .before .before .before .args in
-    let loop = c .before .loop in
-    all-levels (isListed 3 (args .n) (args .t .now)) (args .d) (loop .level) (loop .at) (args .list .now) (loop .list) (c .loop-test .left) (loop .inv .1)
-
 pub tree-walk-spec : {M : Type 1} → statement M
-tree-walk-spec = tie.close (tie.spec Inv-loop μ-loop loop-holds (λ c. omega arith) top-days-requires (λ c. omega arith)
-    loop-again same-length returns)
+tree-walk-spec = tie.close (tie.spec
+    Inv-loop μ-loop (λ c. (omega arith, none-yet _ _ _ (no-level _ (c .before .before .pre .0 .most)))) (λ c. omega arith)
+    (λ c κs. let l = c .before .before .loop in
+    let pre = c .before .before .before .before .before .pre in
+    let p = level-place _ _ _ _ _ _ (c .before .loop-test .taken) (pre .1) (l .inv .1) in
+    (pre .0, p .0, omega arith, p .1))
+    (λ c. omega arith)
+    (λ c. let b = c .before .before .before .before in
+    let pre = b .before .before .before .before .pre in
+    (omega arith, next-level _ _ _ (pre .0 .most) (pre .2) _ _ _ _ _ _ (b .loop-test .taken) (pre .1) (b .before .loop .inv .1) (c .before .before .top-days .ensures)))
+    (λ c. level-length _ _ _ _ _ _ (c .before .before .before .before .pre .1) (c .before .loop .inv .1))
+    (λ c. all-levels _ _ _ _ _ _ (c .loop-test .left) (c .before .loop .inv .1)))

@@ -14,19 +14,15 @@ Inv-loop s at i₀ i = (at ≤ i) × (i ≤ length s) × (at + length (digits (d
 abbrev μ-loop : tie.MeasureT-loop
 μ-loop s at i₀ i = length s - i
 
-returns : tie.Need-returns Inv-loop μ-loop
-returns c =
-    let a = c .before .before .before .before .before .before .args in let l = c .before .before .before .before .loop in
-    digits-found (a .s .now) (a .at) (l .i) (c .before .before .before .loop-test .taken) (c .before .is-digit .ensures) (c .if1 .taken) (l .inv .2)
-
-loop-again : tie.Need-loop-again Inv-loop μ-loop
-loop-again c =
-    let a = c .before .before .before .before .before .before .args in let l = c .before .before .before .before .loop in
-    (search needs, search needs, digits-next (a .s .now) (a .at) (l .i) (c .before .before .before .loop-test .taken) (c .before .is-digit .ensures) (c .if1 .left) (l .inv .2))
-
-returns-2 : tie.Need-returns-2 Inv-loop μ-loop
-returns-2 c = digits-all (c .before .before .before .args .s .now) (c .before .before .before .args .at) (c .before .loop .i) (c .loop-test .left) (c .before .loop .inv .2)
-
 pub digits-end-spec : {M : Type 1} → statement M
-digits-end-spec = tie.close (tie.spec Inv-loop μ-loop (λ c. search needs) (λ c. search needs) (λ c. λ κs. search needs)
-    returns (λ c. search needs) (λ c. search needs) loop-again returns-2)
+digits-end-spec = tie.close (tie.spec
+    Inv-loop μ-loop (λ c. search needs) (λ c. search needs) (λ c κs. search needs)
+    (λ c. let b = c .before .before .before in let a = b .before .before .before .args in
+    digits-found (a .s .now) (a .at) (b .before .loop .i) (b .loop-test .taken) (c .before .is-digit .ensures) (c .if1 .taken) (b .before .loop .inv .2))
+    (λ c. search needs) (λ c. search needs)
+    (λ c. let b = c .before .before .before in let a = b .before .before .before .args in (
+      search needs,
+      search needs,
+      digits-next (a .s .now) (a .at) (b .before .loop .i) (b .loop-test .taken) (c .before .is-digit .ensures) (c .if1 .left) (b .before .loop .inv .2),
+    ))
+    (λ c. let a = c .before .before .before .args in digits-all (a .s .now) (a .at) (c .before .loop .i) (c .loop-test .left) (c .before .loop .inv .2)))

@@ -1,13 +1,7 @@
 -- `number_text::is_digit` meets its contract.
-use Rattle.number_text.proofs.FieldLaws.{digit-low, digit-high}
+use borrow.Author.Tests.{le-leb, lt-leb}
 use Rattle.number_text.proofs.is_digit.Statement.{statement}
 use Rattle.number_text.proofs.is_digit.Tie as tie
 
-returns : tie.Need-returns
-returns c = digit-low (c .before .args .b) (c .if1 .taken)
-
-returns-2 : tie.Need-returns-2
-returns-2 c = digit-high (c .before .args .b) (c .if1 .left)
-
 pub is-digit-spec : {M : Type 1} → statement M
-is-digit-spec = tie.close (tie.spec returns returns-2)
+is-digit-spec = tie.close (tie.spec (λ c. rw (lt-leb 48 _ (c .if1 .taken))) (λ c. rw (le-leb 48 _ (c .if1 .left))))

@@ -5,7 +5,7 @@ use Rattle.number_text.specs.Numbers.{numberFrom}
 use borrow.Author.Needs.{needs}
 use lib.ListN.{length, take}
 use mathlib.Core.Path.{_≡_, refl}
-use Prim.Native.Nat.{_+_, _-_, _≤_}
+use Prim.Native.Nat.{_+_, _-_, _*_, _^_, _≤_, _<_}
 use Rattle.number_text.proofs.number.Statement.{statement}
 use Rattle.number_text.proofs.number.Tie as tie
 
@@ -15,40 +15,19 @@ Inv-loop ds v₀ i₀ v i = (i ≤ length ds) × (v + 29 ≤ most i) × (v ≡ n
 abbrev μ-loop : tie.MeasureT-loop
 μ-loop ds v₀ i₀ v i = length ds - i
 
-loop-holds : tie.Need-loop-holds Inv-loop μ-loop
-loop-holds c = (search needs, search needs, refl)
-
-mul-v : tie.Need-mul-v Inv-loop μ-loop
-mul-v c =
-    let l = c .before .before .before .before .loop in
-    record {
-      fits = omega (
-        arith,
-        number-fits (l .i) (l .v) (length (c .before .before .before .before .before .before .args .ds .now)) (l .inv .1) (c .before .before .before .loop-test .taken)
-            (c .before .before .before .before .before .before .pre) (c .byte .ensures .1),
-      );
-    }
-
-add-v : tie.Need-add-v Inv-loop μ-loop
-add-v c =
-    let l = c .before .before .before .before .loop in
-    record {
-      fits = number-fits (l .i) (l .v) (length (c .before .before .before .before .before .before .args .ds .now)) (l .inv .1) (c .before .before .before .loop-test .taken)
-          (c .before .before .before .before .before .before .pre) (c .byte .ensures .1);
-    }
-
-loop-again : tie.Need-loop-again Inv-loop μ-loop
-loop-again c =
-    let l = c .before .before .before .before .loop in (
-      search needs,
-      number-stays (l .i) (l .v) (l .inv .1) (c .byte .ensures .1),
-      number-next (c .before .before .before .before .before .before .args .ds .now) (l .i) (l .v)
-          (c .before .before .before .loop-test .taken) (l .inv .2) (c .before .digit .ensures) (c .byte .ensures .0),
-    )
-
-returns : tie.Need-returns Inv-loop μ-loop
-returns c = number-done (c .before .before .before .args .ds .now) (c .before .loop .i) (c .before .loop .v) (c .loop-test .left) (c .before .loop .inv .2)
+-- the next number fits
+fits : (c : tie.After-byte Inv-loop μ-loop) → 10 * c .before .before .before .before .loop .v + c .byte .result < 2 ^ 32
+fits c = let l = c .before .before .before in
+    number-fits (l .before .loop .i) (l .before .loop .v) (length (l .before .before .before .args .ds .now)) (l .before .loop .inv .1) (l .loop-test .taken) (l .before .before .before .pre)
+    (c .byte .ensures .1)
 
 pub number-spec : {M : Type 1} → statement M
-number-spec = tie.close (tie.spec Inv-loop μ-loop loop-holds (λ c. search needs) (λ c. λ κs. search needs)
-    (λ c. λ κs. search needs) mul-v add-v (λ c. search needs) (λ c. search needs) loop-again returns)
+number-spec = tie.close (tie.spec
+    Inv-loop μ-loop (λ c. (search needs, search needs, refl)) (λ c. search needs) (λ c κs. search needs) (λ c κs. search needs)
+    (λ c. record { fits = omega (arith, fits c) }) (λ c. record { fits = fits c }) (λ c. search needs) (λ c. search needs)
+    (λ c. let b = c .before .before .before in let l = b .before .loop in (
+      search needs,
+      number-stays (l .i) (l .v) (l .inv .1) (c .byte .ensures .1),
+      number-next (b .before .before .before .args .ds .now) (l .i) (l .v) (b .loop-test .taken) (l .inv .2) (c .before .digit .ensures) (c .byte .ensures .0),
+    ))
+    (λ c. let l = c .before .loop in number-done (c .before .before .before .args .ds .now) (l .i) (l .v) (c .loop-test .left) (l .inv .2)))

@@ -1,21 +1,14 @@
 -- `number_text::value` meets its contract.
-use Rattle.number_text.proofs.FieldLaws.{value-short}
+use Rattle.number_text.proofs.{FieldLaws.value-short, value.Statement.statement}
 use native.Mathlib.Omega.{arith}
 use lib.Seq.{length-take-le}
 use mathlib.Core.Path.{sym}
 use borrow.Author.Needs.{needs}
-use Rattle.number_text.proofs.value.Statement.{statement}
 use Rattle.number_text.proofs.value.Tie as tie
 
-returns : tie.Need-returns
-returns c = value-short (c .before .before .before .args .ds .now) (c .before .if1 .taken) (c .number .ensures)
-
-slice-aggregate-number : tie.Need-slice-aggregate-number
-slice-aggregate-number c = sym (length-take-le 5 (c .before .before .before .args .ds .now) (search needs))
-
-number-requires-2 : tie.Need-number-requires-2
-number-requires-2 c κs = omega (arith, length-take-le 5 (c .before .before .before .args .ds .now) (search needs))
-
 pub value-spec : {M : Type 1} → statement M
-value-spec = tie.close
-    (tie.spec (λ c. λ κs. search needs) returns slice-aggregate-number number-requires-2 (λ c. search needs))
+value-spec = tie.close (tie.spec (λ c κs. search needs)
+    (λ c. value-short (c .before .before .before .args .ds .now) (c .before .if1 .taken) (c .number .ensures))
+    (λ c. sym (length-take-le 5 (c .before .before .before .args .ds .now) (search needs)))
+    (λ c κs. omega (arith, length-take-le 5 (c .before .before .before .args .ds .now) (search needs)))
+    (λ c. search needs))

@@ -1,14 +1,8 @@
 -- `reading::bits` meets its contract.
-use Prim.Native.Nat.{ℕ}
-use mathlib.Core.Path.{ap, _∙_}
-use lib.Dec.{leb}
-use Rattle.reading.proofs.BitLaws.{bits-by}
+use Rattle.reading.proofs.{BitLaws.bits-by, bits.Statement.statement}
 use borrow.Author.Needs.{needs}
-use Rattle.reading.proofs.bits.Statement.{statement}
 use Rattle.reading.proofs.bits.Tie as tie
 
-returns : tie.Need-returns
-returns c = ap (λ (x : ℕ). leb x 1) (c .greatest .ensures) ∙ bits-by (c .before .before .args .t .now)
-
 pub bits-spec : {M : Type 1} → statement M
-bits-spec = tie.close (tie.spec (λ c. λ κs. search needs) returns)
+bits-spec = tie.close (tie.spec (λ c κs. search needs)
+    (λ c. rw (c .greatest .ensures) (bits-by (c .before .before .args .t .now))))

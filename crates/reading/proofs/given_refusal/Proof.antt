@@ -1,26 +1,17 @@
 -- `reading::given_refusal` meets its contract.
-use Rattle.reading.proofs.RefusalLaws.{given-13, given-passes, given-14, given-0}
+use Rattle.reading.proofs.RefusalLaws.{given-passes, given-14, given-0}
+use Rattle.refusals.proofs.TestLaws.{failed}
 use borrow.Author.Needs.{needs}
 use Rattle.reading.proofs.given_refusal.Statement.{statement}
 use Rattle.reading.proofs.given_refusal.Tie as tie
 
-returns : tie.Need-returns
-returns c =
-    let args = c .before .before .before .args in
-    given-13 (args .scheme) (args .n) (args .d) (args .t .now) (c .before .bits .ensures) (c .if1 .taken)
-
-returns-2 : tie.Need-returns-2
-returns-2 c = given-passes _ _ _ _ (c .before .before .before .before .before .pre) (c .before .before .before .bits .ensures) (c .before .before .if1 .left) (c .before .least .ensures)
-    (c .if2 .taken)
-
-returns-3 : tie.Need-returns-3
-returns-3 c = given-14 _ _ _ _ (c .before .before .before .before .before .before .before .pre) (c .before .before .before .before .before .bits .ensures)
-    (c .before .before .before .before .if1 .left) (c .before .accepts .ensures) (c .if3 .taken)
-
-returns-4 : tie.Need-returns-4
-returns-4 c = given-0 _ _ _ _ (c .before .before .before .before .before .before .before .pre) (c .before .before .before .before .before .bits .ensures)
-    (c .before .before .before .before .if1 .left) (c .before .accepts .ensures) (c .if3 .left)
-
 pub given-refusal-spec : {M : Type 1} → statement M
-given-refusal-spec = tie.close
-    (tie.spec (λ c. λ κs. search needs) returns (λ c. λ κs. search needs) returns-2 (λ c. λ κs. search needs) returns-3 returns-4)
+given-refusal-spec = tie.close (tie.spec (λ c κs. search needs) (λ c. rw (failed (c .before .bits .ensures) (c .if1 .taken)))
+    (λ c κs. search needs)
+    (λ c. let b = c .before .before in
+    given-passes _ _ _ _ (b .before .before .before .pre) (b .before .bits .ensures) (b .if1 .left) (c .before .least .ensures) (c .if2 .taken))
+    (λ c κs. search needs)
+    (λ c. let b = c .before .before .before .before in
+    given-14 _ _ _ _ (b .before .before .before .pre) (b .before .bits .ensures) (b .if1 .left) (c .before .accepts .ensures) (c .if3 .taken))
+    (λ c. let b = c .before .before .before .before in
+    given-0 _ _ _ _ (b .before .before .before .pre) (b .before .bits .ensures) (b .if1 .left) (c .before .accepts .ensures) (c .if3 .left)))

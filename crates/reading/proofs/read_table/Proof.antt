@@ -4,32 +4,17 @@ use borrow.Author.Needs.{needs}
 use Rattle.reading.proofs.read_table.Statement.{statement}
 use Rattle.reading.proofs.read_table.Tie as tie
 
-listed-requires : tie.Need-listed-requires
-listed-requires c κs = listed-needs _ _ _ _ _ (c .before .before .before .args .list .now) (c .before .before .before .pre)
-
-returns : tie.Need-returns
-returns c =
-    let G = c .before .before .before .before .before .before .before .pre in
-    let w = c .before .before .before .listed .ensures in
-    (report-clean _ _ _ _ _ _ G _ _ w (c .if1 .taken), list-read _ _ _ _ _ _ G _ _ w)
-
-slice-read-first : tie.Need-slice-read-first
-slice-read-first c = first-place _ _ _ _ _ _ (c .before .before .before .before .before .before .before .before .pre) _ _ (c .before .before .before .before .listed .ensures)
-    (c .before .before .before .before .listed .kept .1 .1 .1 .1 .0)
-
-narrow-requires : tie.Need-narrow-requires
-narrow-requires c κs = listed-most _ _ _ _ _ _ (c .before .before .before .before .before .before .before .before .pre) _ _ (c .before .before .before .before .listed .ensures)
-
-changed-requires : tie.Need-changed-requires
-changed-requires c κs = numbers-need _ _ _ _ _ _ (c .before .before .before .before .before .before .before .before .before .pre) _ _ (c .before .before .before .before .before .listed .ensures)
-    (c .before .before .if1 .left)
-
-returns-2 : tie.Need-returns-2
-returns-2 c =
-    let G = c .before .before .before .before .before .before .before .before .before .before .pre in
-    let w = c .before .before .before .before .before .before .listed .ensures in
-    (report-changed _ _ _ _ _ _ G _ _ w (c .before .before .before .if1 .left) (c .before .narrow .ensures) (c .changed .ensures), list-read _ _ _ _ _ _ G _ _ w)
-
 pub read-table-spec : {M : Type 1} → statement M
-read-table-spec = tie.close (tie.spec listed-requires (λ c. search needs) returns slice-read-first narrow-requires
-    changed-requires (λ c. search needs) returns-2)
+read-table-spec = tie.close (tie.spec
+    (λ c κs. listed-needs _ _ _ _ _ (c .before .before .before .args .list .now) (c .before .before .before .pre))
+    (λ c. search needs)
+    (λ c. let b = c .before .before .before in let G = b .before .before .before .before .pre in let w = b .listed .ensures in
+    (report-clean _ _ _ _ _ _ G _ _ w (c .if1 .taken), list-read _ _ _ _ _ _ G _ _ w))
+    (λ c. let b = c .before .before .before .before in
+    first-place _ _ _ _ _ _ (b .before .before .before .before .pre) _ _ (b .listed .ensures) (b .listed .kept .1 .1 .1 .1 .0))
+    (λ c κs. let b = c .before .before .before .before in listed-most _ _ _ _ _ _ (b .before .before .before .before .pre) _ _ (b .listed .ensures))
+    (λ c κs. let b = c .before .before .before .before .before in
+    numbers-need _ _ _ _ _ _ (b .before .before .before .before .pre) _ _ (b .listed .ensures) (c .before .before .if1 .left))
+    (λ c. search needs)
+    (λ c. let b = c .before .before .before .before .before .before in let G = b .before .before .before .before .pre in let w = b .listed .ensures in
+    (report-changed _ _ _ _ _ _ G _ _ w (c .before .before .before .if1 .left) (c .before .narrow .ensures) (c .changed .ensures), list-read _ _ _ _ _ _ G _ _ w)))

@@ -4,14 +4,9 @@ use borrow.Author.Needs.{needs}
 use Rattle.reading.proofs.refusal.Statement.{statement}
 use Rattle.reading.proofs.refusal.Tie as tie
 
-returns : tie.Need-returns
-returns c = layout-refused _ _ _ _ _ _ (c .before .layout-refusal .ensures) (c .if1 .taken)
-
-table-refusal-requires : tie.Need-table-refusal-requires
-table-refusal-requires c κs = layout-facts _ _ _ _ (c .before .layout-refusal .ensures) (c .if1 .left)
-
-returns-2 : tie.Need-returns-2
-returns-2 c = table-refused _ _ _ _ _ _ (c .before .before .layout-refusal .ensures) (c .before .if1 .left) (c .table-refusal .ensures)
-
 pub refusal-spec : {M : Type 1} → statement M
-refusal-spec = tie.close (tie.spec (λ c. λ κs. search needs) returns table-refusal-requires returns-2)
+refusal-spec = tie.close (tie.spec
+    (λ c κs. search needs) (λ c. layout-refused _ _ _ _ _ _ (c .before .layout-refusal .ensures) (c .if1 .taken))
+    (λ c κs. layout-facts _ _ _ _ (c .before .layout-refusal .ensures) (c .if1 .left))
+    (λ c. table-refused _ _ _ _ _ _ (c .before .before .layout-refusal .ensures) (c .before .if1 .left)
+    (c .table-refusal .ensures)))

@@ -4,13 +4,9 @@ use borrow.Author.Needs.{needs}
 use Rattle.readtable.proofs.main.Statement.{statement}
 use Rattle.readtable.proofs.main.Tie as tie
 
-array-share-prefix-out : tie.Need-array-share-prefix-out
-array-share-prefix-out c = text-fits _ _ (c .text .ensures .0) (c .text .ensures .1)
-
-slice-aggregate-write-all : tie.Need-slice-aggregate-write-all
-slice-aggregate-write-all c = text-part _ _ (c .before .text .ensures .0) (c .before .text .ensures .1)
-
 pub main-spec : {M : Type 1} → statement M
-main-spec = tie.close (tie.spec (λ c. search needs) (λ c. λ κs. search needs) (λ c. search needs) (λ c. search needs)
-    (λ c. λ κs. search needs) array-share-prefix-out slice-aggregate-write-all (λ c. λ κs. search needs)
+main-spec = tie.close (tie.spec
+    (λ c. search needs) (λ c κs. search needs) (λ c. search needs) (λ c. search needs) (λ c κs. search needs)
+    (λ c. text-fits _ _ (c .text .ensures .0) (c .text .ensures .1))
+    (λ c. text-part _ _ (c .before .text .ensures .0) (c .before .text .ensures .1)) (λ c κs. search needs)
     (λ c. search needs))

@@ -7,9 +7,6 @@ use Rattle.buffers.proofs.Writes.{wrote-end}
 use Rattle.record_bytes.proofs.block_at.Statement.{statement}
 use Rattle.record_bytes.proofs.block_at.Tie as tie
 
-returns : tie.Need-returns
-returns c = wrote-end (c .before .put .ensures) (search needs)
-
 pub block-at-spec : {M : Type 1} → statement M
 block-at-spec = tie.close (tie.spec (λ c. search needs) (λ c. search needs) (λ c. search needs) (λ c. search needs)
-    (λ c κs. search needs) returns)
+    (λ c κs. search needs) (λ c. wrote-end (c .before .put .ensures) (search needs)))

@@ -6,19 +6,9 @@ use borrow.Author.Needs.{needs}
 use Rattle.record_bytes.proofs.put_number.Statement.{statement}
 use Rattle.record_bytes.proofs.put_number.Tie as tie
 
-slice-write-b-2 : tie.Need-slice-write-b-2
-slice-write-b-2 c = lt-length-set (c .args .b .now) (c .args .i) (c .args .x % 256) (search needs)
-
-slice-write-b-3 : tie.Need-slice-write-b-3
-slice-write-b-3 c = lt-twice (c .args .b .now) (c .args .i) (c .args .x) (search needs)
-
-slice-write-b-4 : tie.Need-slice-write-b-4
-slice-write-b-4 c = lt-thrice (c .args .b .now) (c .args .i) (c .args .x) (search needs)
-
-returns : tie.Need-returns
-returns c = put-four (c .args .b .now) (c .args .i) (c .args .x) (search needs)
-
 pub put-number-spec : {M : Type 1} → statement M
 put-number-spec = tie.close (tie.spec (λ c. search needs) (λ c. search needs) (λ c. search needs) (λ c. search needs)
-    slice-write-b-2 (λ c. search needs) (λ c. search needs) slice-write-b-3 (λ c. search needs) (λ c. search needs)
-    slice-write-b-4 (λ c. search needs) returns)
+    (λ c. lt-length-set (c .args .b .now) (c .args .i) (c .args .x % 256) (search needs)) (λ c. search needs)
+    (λ c. search needs) (λ c. lt-twice (c .args .b .now) (c .args .i) (c .args .x) (search needs)) (λ c. search needs)
+    (λ c. search needs) (λ c. lt-thrice (c .args .b .now) (c .args .i) (c .args .x) (search needs))
+    (λ c. search needs) (λ c. put-four (c .args .b .now) (c .args .i) (c .args .x) (search needs)))

@@ -16,9 +16,6 @@ Inv-loop b₀ slots k₀ b k = (k ≤ 17) × (length b ≡ length b₀) × (take
 abbrev μ-loop : tie.MeasureT-loop
 μ-loop b₀ slots k₀ b k = 17 - k
 
-loop-holds : tie.Need-loop-holds Inv-loop μ-loop
-loop-holds c = (search needs, refl, slots-none (c .before .args .b .now))
-
 loop-again : tie.Need-loop-again Inv-loop μ-loop
 loop-again c =
     let loop = c .before .before .before .before .before .before .before .loop in
@@ -36,6 +33,6 @@ returns c =
     slots-filled (take runningAt (a .b .now)) (l .b) (a .t2) (l .k) (search needs) (omega arith) (search needs) (l .inv .2)
 
 pub put-slots-spec : {M : Type 1} → statement M
-put-slots-spec = tie.close (tie.spec Inv-loop μ-loop loop-holds (λ c. search needs) (λ c. search needs)
-    (λ c. search needs) (λ c. search needs) (λ c κs. search needs) (λ c. search needs) (λ c. search needs) loop-again
-    (λ c. search needs) returns)
+put-slots-spec = tie.close (tie.spec Inv-loop μ-loop (λ c. (search needs, refl, slots-none (c .before .args .b .now)))
+    (λ c. search needs) (λ c. search needs) (λ c. search needs) (λ c. search needs) (λ c κs. search needs)
+    (λ c. search needs) (λ c. search needs) loop-again (λ c. search needs) returns)

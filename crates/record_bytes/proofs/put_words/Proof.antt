@@ -16,9 +16,6 @@ Inv-loop b₀ i words k₀ b k = (k ≤ 8) × (length b ≡ length b₀) × (tak
 abbrev μ-loop : tie.MeasureT-loop
 μ-loop b₀ i words k₀ b k = 8 - k
 
-loop-holds : tie.Need-loop-holds Inv-loop μ-loop
-loop-holds c = (search needs, refl, words-none (c .before .args .b .now) (c .before .args .i))
-
 loop-again : tie.Need-loop-again Inv-loop μ-loop
 loop-again c =
     let args = c .before .before .before .before .before .before .before .args in
@@ -36,6 +33,7 @@ returns c =
     words-filled (take (a .i) (a .b .now)) (l .b) (a .t3) (a .i) (l .k) (search needs) (omega arith) (search needs) (l .inv .2)
 
 pub put-words-spec : {M : Type 1} → statement M
-put-words-spec = tie.close (tie.spec Inv-loop μ-loop loop-holds (λ c. search needs) (λ c. search needs)
-    (λ c. search needs) (λ c. search needs) (λ c κs. search needs) (λ c. search needs) (λ c. search needs) loop-again
-    (λ c. search needs) returns)
+put-words-spec = tie.close (tie.spec Inv-loop μ-loop
+    (λ c. (search needs, refl, words-none (c .before .args .b .now) (c .before .args .i))) (λ c. search needs)
+    (λ c. search needs) (λ c. search needs) (λ c. search needs) (λ c κs. search needs) (λ c. search needs)
+    (λ c. search needs) loop-again (λ c. search needs) returns)

@@ -4,14 +4,11 @@ use Rattle.service.proofs.CallLaws.{add-fits, added-refused, added-done
 use Rattle.service.proofs.add.Statement.{statement}
 use Rattle.service.proofs.add.Tie as tie
 
-returns : tie.Need-returns
-returns c = added-refused (c .before .before .before .args .state) _ (c .before .add-refusal .ensures) (c .if1 .taken)
-
-grow-requires : tie.Need-grow-requires
-grow-requires c κs = add-fits (c .before .before .before .args .state) _ (c .before .add-refusal .ensures) (c .if1 .left)
-
 returns-2 : tie.Need-returns-2
 returns-2 c = added-done (c .before .before .before .before .args .state) _ (c .before .before .add-refusal .ensures) (c .before .if1 .left) (c .grow .ensures)
 
 pub add-spec : {M : Type 1} → statement M
-add-spec = tie.close (tie.spec (λ c κs. search needs) returns grow-requires returns-2)
+add-spec = tie.close (tie.spec (λ c κs. search needs)
+    (λ c. added-refused (c .before .before .before .args .state) _ (c .before .add-refusal .ensures) (c .if1 .taken))
+    (λ c κs. add-fits (c .before .before .before .args .state) _ (c .before .add-refusal .ensures) (c .if1 .left))
+    returns-2)

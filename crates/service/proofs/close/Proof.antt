@@ -7,12 +7,6 @@ use Rattle.service.proofs.DayLaws.{step-count, step-bytes, step-fits}
 use Rattle.service.proofs.close.Statement.{statement}
 use Rattle.service.proofs.close.Tie as tie
 
-returns : tie.Need-returns
-returns c = closing-refused (c .before .before .before .args .state) _ (c .before .close-refusal .ensures) (c .if1 .taken)
-
-step-requires : tie.Need-step-requires
-step-requires c κs = close-passes (c .before .before .before .args .state) _ (c .before .close-refusal .ensures) (c .if1 .left) .0
-
 write-requires : tie.Need-write-requires
 write-requires c κs =
     let r = c .before .before .before .before .before .before .args .state in
@@ -35,5 +29,7 @@ returns-2 c =
     (wrote-as (dayBytes r) (step-bytes r (s .result) (s .ensures)) (c .before .before .before .write .ensures))
 
 pub close-spec : {M : Type 1} → statement M
-close-spec = tie.close
-    (tie.spec (λ c κs. search needs) returns step-requires write-requires next-requires (λ c. search needs) returns-2)
+close-spec = tie.close (tie.spec (λ c κs. search needs)
+    (λ c. closing-refused (c .before .before .before .args .state) _ (c .before .close-refusal .ensures) (c .if1 .taken))
+    (λ c κs. close-passes (c .before .before .before .args .state) _ (c .before .close-refusal .ensures) (c .if1 .left) .0)
+    write-requires next-requires (λ c. search needs) returns-2)

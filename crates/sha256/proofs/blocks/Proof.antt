@@ -4,8 +4,7 @@ use mathlib.Core.Path.{_≡_}
 use borrow.Author.Needs.{needs}
 use native.Mathlib.Omega.{arith}
 use Rattle.sha256.specs.Sha256 as spec
-use Rattle.sha256.proofs.Loops.{blocks-none, blocks-step, blocks-whole}
-use Rattle.sha256.proofs.blocks.Statement.{statement}
+use Rattle.sha256.proofs.{Loops.blocks-none, Loops.blocks-step, Loops.blocks-whole, blocks.Statement.statement}
 use Rattle.sha256.proofs.blocks.Tie as tie
 
 abbrev Inv-loop : tie.InvT-loop
@@ -14,16 +13,14 @@ Inv-loop s v₀ n i₀ v i = (i ≤ n) × (v ≡ spec.chunks i v₀ s)
 abbrev μ-loop : tie.MeasureT-loop
 μ-loop s v₀ n i₀ v i = n - i
 
-loop-holds : tie.Need-loop-holds Inv-loop μ-loop
-loop-holds c = (search needs, blocks-none _ _)
-
-loop-again : tie.Need-loop-again Inv-loop μ-loop
-loop-again c = (search needs, blocks-step _ _ _ _ _ _ (c .before .before .before .before .loop .inv .1) (c .before .words .ensures) (c .compress .ensures))
-
-returns : tie.Need-returns Inv-loop μ-loop
-returns c = blocks-whole _ _ _ _ (omega arith) (c .before .loop .inv .1)
-
 pub blocks-spec : {M : Type 1} → statement M
-blocks-spec = tie.close (tie.spec Inv-loop μ-loop loop-holds (λ c. search needs) (λ c. search needs) (λ c. search needs)
-    (λ c. search needs) (λ c. search needs) (λ c. λ κs. search needs) (λ c. λ κs. search needs) (λ c. search needs)
-    (λ c. search needs) loop-again returns)
+blocks-spec = tie.close (tie.spec
+    Inv-loop μ-loop (λ c. (search needs, blocks-none _ _)) (λ c. search needs) (λ c. search needs) (λ c. search needs)
+    (λ c. search needs) (λ c. search needs) (λ c κs. search needs) (λ c κs. search needs) (λ c. search needs)
+    (λ c. search needs)
+    (λ c. (
+      search needs,
+      blocks-step _ _ _ _ _ _ (c .before .before .before .before .loop .inv .1) (c .before .words .ensures)
+          (c .compress .ensures),
+    ))
+    (λ c. blocks-whole _ _ _ _ (omega arith) (c .before .loop .inv .1)))

@@ -1,11 +1,10 @@
 -- `sha256::compress` meets its contract.
 use Prim.Native.Nat.{_-_}
-use mathlib.Core.Path.{_∙_}
-use mathlib.Core.Logic.{⊎-elim}
+use mathlib.Core.{Path._∙_, Logic.⊎-elim}
 use native.Mathlib.Omega.{arith}
 use Rattle.sha256.proofs.Steps.{Before, before-first, before-next, compressed}
-use borrow.Author.Needs.{needs}
 use Rattle.sha256.proofs.compress.Statement.{statement}
+use borrow.Author.Needs.{needs}
 use Rattle.sha256.proofs.compress.Tie as tie
 
 abbrev Inv-loop : tie.InvT-loop
@@ -14,20 +13,11 @@ Inv-loop h k v₀ w₀ t₀ v w t = Before h w₀ t v w
 abbrev μ-loop : tie.MeasureT-loop
 μ-loop h k v₀ w₀ t₀ v w t = 64 - t
 
-loop-holds : tie.Need-loop-holds Inv-loop μ-loop
-loop-holds c = before-first _ _ (search needs)
-
-rounds-requires : tie.Need-rounds-requires Inv-loop μ-loop
-rounds-requires c κs = let s = c .before .before .loop .inv .sixteens in omega arith
-
-loop-again : tie.Need-loop-again Inv-loop μ-loop
-loop-again c =
-    before-next _ _ _ (c .before .before .before .before .loop .inv) (search needs) (c .before .before .before .before .before .table .ensures) (c .before .rounds .ensures) (c .if1 .w)
-    (λ q. ⊎-elim (λ a. a .2 ∙ a .1 .ensures) (λ a. absurd (let l = a .0 .left in omega arith)) (c .if1 .came))
-
-returns : tie.Need-returns Inv-loop μ-loop
-returns c = compressed _ _ _ (c .before .before .loop .inv) (omega arith) (c .summed .ensures)
-
 pub compress-spec : {M : Type 1} → statement M
-compress-spec = tie.close (tie.spec Inv-loop μ-loop (λ c. λ κs. search needs) loop-holds rounds-requires
-    (λ c. λ κs. search needs) (λ c. search needs) (λ c. search needs) loop-again (λ c. λ κs. search needs) returns)
+compress-spec = tie.close (tie.spec Inv-loop μ-loop (λ c κs. search needs) (λ c. before-first _ _ (search needs))
+    (λ c κs. let s = c .before .before .loop .inv .sixteens in omega arith) (λ c κs. search needs)
+    (λ c. search needs) (λ c. search needs)
+    (λ c. before-next _ _ _ (c .before .before .before .before .loop .inv) (search needs)
+    (c .before .before .before .before .before .table .ensures) (c .before .rounds .ensures) (c .if1 .w) (λ q. ⊎-elim (λ a. a .2
+    ∙ a .1 .ensures) (λ a. absurd (let l = a .0 .left in omega arith)) (c .if1 .came)))
+    (λ c κs. search needs) (λ c. compressed _ _ _ (c .before .before .loop .inv) (omega arith) (c .summed .ensures)))

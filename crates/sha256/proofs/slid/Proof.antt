@@ -1,13 +1,11 @@
 -- `sha256::slid` meets its contract.
-use Rattle.sha256.proofs.Compose.{slid-of}
+use Rattle.sha256.proofs.{Compose.slid-of, slid.Statement.statement}
 use borrow.Author.Needs.{needs}
-use Rattle.sha256.proofs.slid.Statement.{statement}
 use Rattle.sha256.proofs.slid.Tie as tie
 
-returns : tie.Need-returns
-returns c = slid-of _ _ (c .mixed .ensures)
-
 pub slid-spec : {M : Type 1} → statement M
-slid-spec = tie.close (tie.spec (λ c. search needs) (λ c. search needs) (λ c. search needs) (λ c. search needs)
+slid-spec = tie.close (tie.spec
     (λ c. search needs) (λ c. search needs) (λ c. search needs) (λ c. search needs) (λ c. search needs)
-    (λ c. search needs) (λ c. search needs) (λ c. λ κs. search needs) (λ c. search needs) (λ c. search needs) returns)
+    (λ c. search needs) (λ c. search needs) (λ c. search needs) (λ c. search needs) (λ c. search needs)
+    (λ c. search needs) (λ c κs. search needs) (λ c. search needs) (λ c. search needs)
+    (λ c. slid-of _ _ (c .mixed .ensures)))

@@ -9,4 +9,4 @@ unfolding add32
 returns c = search needs
 
 pub add32-spec : {M : Type 1} → statement M
-add32-spec = tie.close (tie.spec (λ c. λ κs. search needs) returns)
+add32-spec = tie.close (tie.spec (λ c κs. search needs) returns)

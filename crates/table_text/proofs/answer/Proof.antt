@@ -8,50 +8,29 @@ use borrow.Author.Needs.{needs}
 use Rattle.table_text.proofs.answer.Statement.{statement}
 use Rattle.table_text.proofs.answer.Tie as tie
 
-returns : tie.Need-returns
-returns c = wrote-as _ (answer-early _ _ _ _ (c .before .before .before .before .before .before .before .before .args .outcomes .now)
-    (c .before .before .before .before .before .digit-refusal .ensures) (c .before .before .before .before .if1 .taken)) (c .before .before .refuse .ensures)
-
-returns-2 : tie.Need-returns-2
-returns-2 c = wrote-as _ (answer-late _ _ _ _ (c .before .before .before .before .before .before .before .before .before .before .before .before .before .args .outcomes .now)
-    (c .before .before .before .before .before .before .before .before .before .before .digit-refusal .ensures)
-    (c .before .before .before .before .before .before .before .before .before .if1 .left) (replicate 256 0) refl
-    (c .before .before .before .before .before .before .before .before .before .before .before .before .before .pre .0)
-    (c .before .before .before .before .before .before .before .read .ensures .0) (c .before .before .before .before .before .report-by .ensures) (c .before .before .before .before .if2 .taken))
-    (c .before .before .refuse2 .ensures)
-
-array-share-prefix-list : tie.Need-array-share-prefix-list
-array-share-prefix-list c = let k = part-fits _ _ _ _ (c .before .before .before .before .before .before .before .before .before .before .before .args .outcomes .now)
-    (c .before .before .before .before .before .before .before .before .digit-refusal .ensures) (c .before .before .before .before .before .before .before .if1 .left) (replicate 256 0) refl
-    (c .before .before .before .before .before .before .before .before .before .before .before .pre .0) (c .before .before .before .before .before .read .ensures .0)
-    (c .before .before .before .report-by .ensures) (c .before .before .if2 .left) (c .before .before .before .before .before .read .ensures .1) (c .before .wide .ensures) in omega arith
-
-slice-aggregate-put-report : tie.Need-slice-aggregate-put-report
-slice-aggregate-put-report c = part-length _ _ _ _ (c .before .before .before .before .before .before .before .before .before .before .before .before .args .outcomes .now)
-    (c .before .before .before .before .before .before .before .before .before .digit-refusal .ensures) (c .before .before .before .before .before .before .before .before .if1 .left)
-    (replicate 256 0) refl (c .before .before .before .before .before .before .before .before .before .before .before .before .pre .0)
-    (c .before .before .before .before .before .before .read .ensures .0) (c .before .before .before .before .report-by .ensures) (c .before .before .before .if2 .left)
-    (c .before .before .before .before .before .before .read .ensures .1) (c .before .before .wide .ensures)
-
-put-report-requires : tie.Need-put-report-requires
-put-report-requires c κs = part-room _ _ _ _ (c .before .before .before .before .before .before .before .before .before .before .before .before .args .outcomes .now)
-    (c .before .before .before .before .before .before .before .before .before .digit-refusal .ensures) (c .before .before .before .before .before .before .before .before .if1 .left)
-    (replicate 256 0) refl (c .before .before .before .before .before .before .before .before .before .before .before .before .pre .0)
-    (c .before .before .before .before .before .before .read .ensures .0) (c .before .before .before .before .report-by .ensures) (c .before .before .before .if2 .left)
-    (c .before .before .before .before .before .before .read .ensures .1) (c .before .before .wide .ensures) _
-    (c .before .before .before .before .before .before .before .before .before .before .before .before .pre .1)
-
-returns-3 : tie.Need-returns-3
-returns-3 c = wrote-as _ (answer-read _ _ _ _ (c .before .before .before .before .before .before .before .before .before .before .before .before .before .before .before .args .outcomes .now)
-    (c .before .before .before .before .before .before .before .before .before .before .before .before .digit-refusal .ensures)
-    (c .before .before .before .before .before .before .before .before .before .before .before .if1 .left) (replicate 256 0) refl
-    (c .before .before .before .before .before .before .before .before .before .before .before .before .before .before .before .pre .0)
-    (c .before .before .before .before .before .before .before .before .before .read .ensures .0) (c .before .before .before .before .before .before .before .report-by .ensures)
-    (c .before .before .before .before .before .before .if2 .left) (c .before .before .before .before .before .before .before .before .before .read .ensures .1)
-    (c .before .before .before .before .before .wide .ensures)) (c .before .before .put-report .ensures)
-
 pub answer-spec : {M : Type 1} → statement M
-answer-spec = tie.close (tie.spec (λ c. λ κs. search needs) (λ c. λ κs. search needs) (λ c. search needs) returns
-    (λ c. search needs) (λ c. λ κs. search needs) (λ c. λ κs. search needs) (λ c. λ κs. search needs)
-    (λ c. search needs) returns-2 (λ c. λ κs. search needs) array-share-prefix-list slice-aggregate-put-report
-    put-report-requires (λ c. search needs) returns-3)
+answer-spec = tie.close (tie.spec (λ c κs. search needs) (λ c κs. search needs) (λ c. search needs)
+    (λ c. let b = c .before .before .before .before in
+    wrote-as _ (answer-early _ _ _ _ (b .before .before .before .before .args .outcomes .now) (b .before .digit-refusal .ensures) (b .if1 .taken)) (c .before .before .refuse .ensures))
+    (λ c. search needs) (λ c κs. search needs) (λ c κs. search needs) (λ c κs. search needs) (λ c. search needs)
+    (λ c. let p = c .before .before .before .before .before in let r = p .before .before in let b = r .before .before in let a = b .before .before .before .before in
+    wrote-as _ (answer-late _ _ _ _ (a .args .outcomes .now) (b .before .digit-refusal .ensures) (b .if1 .left) (replicate 256 0) refl (a .pre .0) (r .read .ensures .0) (p .report-by .ensures)
+    (c .before .before .before .before .if2 .taken)) (c .before .before .refuse2 .ensures))
+    (λ c κs. search needs)
+    (λ c. let p = c .before .before .before in let r = p .before .before in let b = r .before .before in let a = b .before .before .before .before in
+    omega (
+      arith,
+      part-fits _ _ _ _ (a .args .outcomes .now) (b .before .digit-refusal .ensures) (b .if1 .left) (replicate 256 0) refl (a .pre .0) (r .read .ensures .0) (p .report-by .ensures)
+          (c .before .before .if2 .left) (r .read .ensures .1) (c .before .wide .ensures),
+    ))
+    (λ c. let p = c .before .before .before .before in let r = p .before .before in let b = r .before .before in let a = b .before .before .before .before in
+    part-length _ _ _ _ (a .args .outcomes .now) (b .before .digit-refusal .ensures) (b .if1 .left) (replicate 256 0) refl (a .pre .0) (r .read .ensures .0) (p .report-by .ensures)
+    (c .before .before .before .if2 .left) (r .read .ensures .1) (c .before .before .wide .ensures))
+    (λ c κs. let p = c .before .before .before .before in let r = p .before .before in let b = r .before .before in let a = b .before .before .before .before in
+    part-room _ _ _ _ (a .args .outcomes .now) (b .before .digit-refusal .ensures) (b .if1 .left) (replicate 256 0) refl (a .pre .0) (r .read .ensures .0) (p .report-by .ensures)
+    (c .before .before .before .if2 .left) (r .read .ensures .1) (c .before .before .wide .ensures) _ (a .pre .1))
+    (λ c. search needs)
+    (λ c. let w = c .before .before .before .before .before in let p = w .before .before in let r = p .before .before in let b = r .before .before in
+    let a = b .before .before .before .before in
+    wrote-as _ (answer-read _ _ _ _ (a .args .outcomes .now) (b .before .digit-refusal .ensures) (b .if1 .left) (replicate 256 0) refl (a .pre .0) (r .read .ensures .0) (p .report-by .ensures)
+    (w .before .if2 .left) (r .read .ensures .1) (w .wide .ensures)) (c .before .before .put-report .ensures)))

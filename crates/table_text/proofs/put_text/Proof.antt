@@ -6,37 +6,19 @@ use borrow.Author.Needs.{needs}
 use Rattle.table_text.proofs.put_text.Statement.{statement}
 use Rattle.table_text.proofs.put_text.Tie as tie
 
-returns : tie.Need-returns
-returns c = wrote-as _ (text-early _ (c .before .before .before .before .before .before .read-lines .ensures) (c .before .before .before .before .before .form-refusal .ensures)
-    (c .before .before .before .before .if1 .taken)) (c .before .before .refuse .ensures)
-
-outcomes-requires : tie.Need-outcomes-requires
-outcomes-requires c κs = digits-fit _ (c .before .before .before .before .read-lines .ensures) (c .before .before .before .form-refusal .ensures) (c .before .before .if1 .left)
-
-array-share-prefix-table : tie.Need-array-share-prefix-table
-array-share-prefix-table c = let k = count-fits _ (c .before .before .before .before .before .before .read-lines .ensures) (c .before .before .before .before .before .form-refusal .ensures)
-    (c .before .before .before .before .if1 .left) in omega arith
-
-slice-aggregate-answer : tie.Need-slice-aggregate-answer
-slice-aggregate-answer c = outcomes-length _ (c .before .before .before .before .before .before .before .read-lines .ensures)
-    (c .before .before .before .before .before .before .form-refusal .ensures) (c .before .before .before .before .before .if1 .left) _ _ (c .before .before .outcomes .ensures)
-
-answer-requires : tie.Need-answer-requires
-answer-requires c κs = (
-  d-within (c .before .before .before .before .before .before .before .before .before .before .before .args .input .now)
-      (c .before .before .before .before .before .before .before .before .read-lines .ensures) (c .before .before .before .before .before .before .before .form-refusal .ensures)
-      (c .before .before .before .before .before .before .if1 .left),
-  c .before .before .before .before .before .before .before .before .before .before .before .pre,
-)
-
-returns-2 : tie.Need-returns-2
-returns-2 c = wrote-as _ (text-read _ (c .before .before .before .before .before .before .before .before .before .before .before .read-lines .ensures)
-    (c .before .before .before .before .before .before .before .before .before .before .form-refusal .ensures)
-    (c .before .before .before .before .before .before .before .before .before .if1 .left) _ _ (c .before .before .before .before .before .before .outcomes .ensures))
-    (c .before .before .answer .ensures)
-
 pub put-text-spec : {M : Type 1} → statement M
-put-text-spec = tie.close (tie.spec (λ c. λ κs. search needs) (λ c. λ κs. search needs) (λ c. λ κs. search needs)
-    (λ c. search needs) returns (λ c. search needs) (λ c. search needs) (λ c. search needs) (λ c. search needs)
-    outcomes-requires (λ c. search needs) array-share-prefix-table slice-aggregate-answer answer-requires
-    (λ c. search needs) returns-2)
+put-text-spec = tie.close (tie.spec (λ c κs. search needs) (λ c κs. search needs) (λ c κs. search needs) (λ c. search needs)
+    (λ c. let b = c .before .before .before .before in
+    wrote-as _ (text-early _ (b .before .before .read-lines .ensures) (b .before .form-refusal .ensures) (b .if1 .taken)) (c .before .before .refuse .ensures))
+    (λ c. search needs) (λ c. search needs) (λ c. search needs) (λ c. search needs)
+    (λ c κs. let b = c .before .before in digits-fit _ (b .before .before .read-lines .ensures) (b .before .form-refusal .ensures) (b .if1 .left))
+    (λ c. search needs)
+    (λ c. let b = c .before .before .before .before in
+    omega (arith, count-fits _ (b .before .before .read-lines .ensures) (b .before .form-refusal .ensures) (b .if1 .left)))
+    (λ c. let b = c .before .before .before .before .before in
+    outcomes-length _ (b .before .before .read-lines .ensures) (b .before .form-refusal .ensures) (b .if1 .left) _ _ (c .before .before .outcomes .ensures))
+    (λ c κs. let b = c .before .before .before .before .before .before in let d = b .before .before .before .before .before in
+    (d-within (d .args .input .now) (b .before .before .read-lines .ensures) (b .before .form-refusal .ensures) (b .if1 .left), d .pre))
+    (λ c. search needs)
+    (λ c. let o = c .before .before .before .before .before .before in let b = o .before .before .before in
+    wrote-as _ (text-read _ (b .before .before .read-lines .ensures) (b .before .form-refusal .ensures) (b .if1 .left) _ _ (o .outcomes .ensures)) (c .before .before .answer .ensures)))

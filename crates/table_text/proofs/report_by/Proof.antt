@@ -3,9 +3,9 @@ use borrow.Author.Needs.{needs}
 use Rattle.table_text.proofs.report_by.Statement.{statement}
 use Rattle.table_text.proofs.report_by.Tie as tie
 
-returns : tie.Need-returns
-returns c =
-    let m = c .numbers-of .ensures in
+pub report-by-spec : {M : Type 1} → statement M
+report-by-spec = tie.close (tie.spec (λ c κs. search needs) (λ c κs. search needs)
+    (λ c. let m = c .numbers-of .ensures in
     record {
       refusal-is = c .before .number-of .ensures;
       listed-is = m .listed-is;
@@ -13,7 +13,4 @@ returns c =
       low-is = m .low-is;
       high-is = m .high-is;
       last-good-is = m .last-good-is;
-    }
-
-pub report-by-spec : {M : Type 1} → statement M
-report-by-spec = tie.close (tie.spec (λ c. λ κs. search needs) (λ c. λ κs. search needs) returns)
+    }))

@@ -11,6 +11,6 @@ abbrev μ-loop : tie.MeasureT-loop
 μ-loop piece st₀ n₀ st n = 1000 - n
 
 pub million-spec : {M : Type 1} → statement M
-million-spec = tie.close (tie.spec Inv-loop μ-loop (λ c. λ κs. search needs) (λ c. search needs) (λ c. search needs)
-    (λ c. search needs) (λ c. λ κs. search needs) (λ c. search needs) (λ c. search needs) (λ c. search needs)
-    (λ c. λ κs. search needs) (λ c. search needs))
+million-spec = tie.close (tie.spec Inv-loop μ-loop (λ c κs. search needs) (λ c. search needs) (λ c. search needs)
+    (λ c. search needs) (λ c κs. search needs) (λ c. search needs) (λ c. search needs) (λ c. search needs)
+    (λ c κs. search needs) (λ c. search needs))

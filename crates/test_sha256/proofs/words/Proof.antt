@@ -13,5 +13,5 @@ abbrev μ-loop : tie.MeasureT-loop
 μ-loop k w₀ i₀ w i = 8 - i
 
 pub words-spec : {M : Type 1} → statement M
-words-spec = tie.close (tie.spec Inv-loop μ-loop (λ c. search needs) (λ c. λ κs. search needs) (λ c. search needs)
+words-spec = tie.close (tie.spec Inv-loop μ-loop (λ c. search needs) (λ c κs. search needs) (λ c. search needs)
     (λ c. search needs) (λ c. search needs) (λ c. search needs) (λ c. search needs) (λ c. search needs))

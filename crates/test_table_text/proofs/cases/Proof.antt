@@ -12,7 +12,7 @@ abbrev μ-loop : tie.MeasureT-loop
 μ-loop s at₀ at = length s - at
 
 pub cases-spec : {M : Type 1} → statement M
-cases-spec = tie.close (tie.spec Inv-loop μ-loop (λ c. search needs) (λ c. λ κs. search needs) (λ c. λ κs. search needs)
-    (λ c. λ κs. search needs) (λ c. search needs) (λ c. search needs) (λ c. search needs) (λ c. search needs)
-    (λ c. search needs) (λ c. search needs) (λ c. λ κs. search needs) (λ c. λ κs. search needs) (λ c. search needs)
+cases-spec = tie.close (tie.spec Inv-loop μ-loop (λ c. search needs) (λ c κs. search needs) (λ c κs. search needs)
+    (λ c κs. search needs) (λ c. search needs) (λ c. search needs) (λ c. search needs) (λ c. search needs)
+    (λ c. search needs) (λ c. search needs) (λ c κs. search needs) (λ c κs. search needs) (λ c. search needs)
     (λ c. search needs) (λ c. search needs))

@@ -4,13 +4,10 @@ use borrow.Author.Needs.{needs}
 use Rattle.test_table_text.proofs.show.Statement.{statement}
 use Rattle.test_table_text.proofs.show.Tie as tie
 
-array-share-prefix-out : tie.Need-array-share-prefix-out
-array-share-prefix-out c = text-fits _ _ (c .before .before .before .text .ensures .0) (c .before .before .before .text .ensures .1)
-
-slice-aggregate-write-all-2 : tie.Need-slice-aggregate-write-all-2
-slice-aggregate-write-all-2 c = text-part _ _ (c .before .before .before .before .text .ensures .0) (c .before .before .before .before .text .ensures .1)
-
 pub show-spec : {M : Type 1} → statement M
-show-spec = tie.close (tie.spec (λ c. λ κs. search needs) (λ c. λ κs. search needs) (λ c. search needs)
-    (λ c. λ κs. search needs) array-share-prefix-out slice-aggregate-write-all-2 (λ c. λ κs. search needs)
-    (λ c. search needs))
+show-spec = tie.close (tie.spec
+    (λ c κs. search needs) (λ c κs. search needs) (λ c. search needs) (λ c κs. search needs)
+    (λ c. text-fits _ _ (c .before .before .before .text .ensures .0) (c .before .before .before .text .ensures .1))
+    (λ c. text-part _ _ (c .before .before .before .before .text .ensures .0)
+    (c .before .before .before .before .text .ensures .1))
+    (λ c κs. search needs) (λ c. search needs))

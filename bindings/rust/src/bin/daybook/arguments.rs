@@ -1,11 +1,13 @@
 //! The command line: `daybook COMMAND --option value ...`.
 
-use std::ffi::OsString;
+use std::ffi::{OsStr, OsString};
+use std::os::unix::ffi::OsStringExt;
 use std::path::PathBuf;
 
 use daybook::Layout;
 
 use crate::help;
+use crate::state::{Sealed, Service};
 use crate::stop::Stop;
 
 #[derive(Debug, PartialEq, Eq)]
@@ -16,11 +18,15 @@ pub enum Request {
 
 #[derive(Debug, PartialEq, Eq)]
 pub enum Command {
+    /// A command on a state folder.
+    Service { folder: PathBuf, service: Service },
     Seal {
         layout: Layout,
         d: Option<u32>,
         source: Source,
         book: PathBuf,
+        /// Whether a book that is there is replaced in any case.
+        force: bool,
     },
     Check {
         layout: Layout,
@@ -29,17 +35,26 @@ pub enum Command {
         book: PathBuf,
         outcomes: PathBuf,
         digests: Option<PathBuf>,
+        sealed: Vec<String>,
     },
     Read {
         layout: Layout,
         d: u32,
         outcomes: PathBuf,
+        /// The folder of days, for their names alone.
+        days: Option<PathBuf>,
+        names: bool,
+        sealed: Vec<String>,
     },
     Verify {
         layout: Layout,
         d: Option<u32>,
         source: Source,
         book: PathBuf,
+        names: bool,
+        figure: Option<PathBuf>,
+        /// The names of the closed days in the state folder's index; none without one.
+        sealed: Vec<String>,
     },
 }
 
@@ -58,12 +73,27 @@ type Form = (
     fn(&mut Options) -> Result<Command, Stop>,
 );
 
-const FORMS: [Form; 4] = [
+const FORMS: [Form; 8] = [
+    (
+        "open",
+        help::OPEN,
+        &[WORDS, "--scheme", "--n", "--f"],
+        |options| options.service(open),
+    ),
+    ("add", help::ADD, &[WORDS, "--day", "--at"], |options| {
+        options.service(add)
+    }),
+    ("close", help::CLOSE, &[WORDS, "--day"], |options| {
+        options.service(close)
+    }),
+    ("status", help::STATUS, &[WORDS], |options| {
+        options.service(status)
+    }),
     (
         "seal",
         help::SEAL,
         &[
-            "--scheme", "--n", "--f", "--d", "--days", "--ledger", "--ends", "--book",
+            "--scheme", "--n", "--f", "--d", "--days", "--ledger", "--ends", "--book", "--force",
         ],
         seal,
     ),
@@ -79,6 +109,7 @@ const FORMS: [Form; 4] = [
             "--ledger",
             "--ends",
             "--book",
+            "--state",
             "--outcomes",
             "--digests",
         ],
@@ -87,18 +118,34 @@ const FORMS: [Form; 4] = [
     (
         "read",
         help::READ,
-        &["--scheme", "--n", "--f", "--d", "--outcomes"],
+        &[
+            "--scheme",
+            "--n",
+            "--f",
+            "--d",
+            "--state",
+            "--outcomes",
+            "--days",
+            "--names",
+        ],
         read,
     ),
     (
         "verify",
         help::VERIFY,
         &[
-            "--scheme", "--n", "--f", "--d", "--days", "--ledger", "--ends", "--book",
+            "--scheme", "--n", "--f", "--d", "--days", "--ledger", "--ends", "--book", "--state",
+            "--names", "--figure",
         ],
         verify,
     ),
 ];
+
+/// Options that have no value.
+const FLAGS: [&str; 2] = ["--force", "--names"];
+
+/// In the options of a command: it takes words that are no options, a folder and files.
+const WORDS: &str = "DIR";
 
 /// What the words after the program's name ask for.
 pub fn parse(mut words: impl Iterator<Item = OsString>) -> Result<Request, Stop> {
@@ -108,14 +155,34 @@ pub fn parse(mut words: impl Iterator<Item = OsString>) -> Result<Request, Stop>
     if word == "--help" || word == "-h" {
         return Ok(Request::Help(help::ALL));
     }
-    let form = FORMS.iter().find(|form| word == form.0);
-    let Some((name, text, allowed, make)) = form else {
-        return Err(usage(&format!("there is no command {}", word.display())));
-    };
+    if word == "--version" || word == "-V" {
+        return Ok(Request::Help(help::VERSION));
+    }
+    if word == "help" {
+        return helped(words);
+    }
+    let (name, text, allowed, make) = form(&word)?;
     match Options::collect(name, allowed, words)? {
         None => Ok(Request::Help(text)),
         Some(mut options) => Ok(Request::Run(make(&mut options)?)),
     }
+}
+
+/// `daybook help`, or of one command.
+fn helped(mut words: impl Iterator<Item = OsString>) -> Result<Request, Stop> {
+    let text = match words.next() {
+        None => help::ALL,
+        Some(word) => form(&word)?.1,
+    };
+    match words.next() {
+        None => Ok(Request::Help(text)),
+        Some(_) => Err(usage("help takes one command")),
+    }
+}
+
+fn form(word: &OsStr) -> Result<&'static Form, Stop> {
+    let form = FORMS.iter().find(|form| word == form.0);
+    form.ok_or_else(|| usage(&format!("there is no command {}", word.display())))
 }
 
 fn seal(options: &mut Options) -> Result<Command, Stop> {
@@ -124,10 +191,12 @@ fn seal(options: &mut Options) -> Result<Command, Stop> {
         d: options.number("--d")?,
         source: options.source()?,
         book: options.needed_path("--book")?,
+        force: options.take("--force").is_some(),
     })
 }
 
 fn check(options: &mut Options) -> Result<Command, Stop> {
+    options.use_state()?;
     Ok(Command::Check {
         layout: options.layout()?,
         d: options.number("--d")?,
@@ -135,30 +204,72 @@ fn check(options: &mut Options) -> Result<Command, Stop> {
         book: options.needed_path("--book")?,
         outcomes: options.needed_path("--outcomes")?,
         digests: options.path("--digests"),
+        sealed: options.sealed.take().unwrap_or_default(),
     })
 }
 
 fn read(options: &mut Options) -> Result<Command, Stop> {
+    options.use_state()?;
     Ok(Command::Read {
         layout: options.layout()?,
         d: options.needed_number("--d")?,
         outcomes: options.needed_path("--outcomes")?,
+        names: options.names()?,
+        days: options.path("--days"),
+        sealed: options.sealed.take().unwrap_or_default(),
     })
 }
 
 fn verify(options: &mut Options) -> Result<Command, Stop> {
+    options.use_state()?;
     Ok(Command::Verify {
         layout: options.layout()?,
         d: options.number("--d")?,
+        names: options.names()?,
+        figure: options.path("--figure"),
         source: options.source()?,
         book: options.needed_path("--book")?,
+        sealed: options.sealed.take().unwrap_or_default(),
     })
 }
 
-/// The options of a command, each given at most once.
+fn open(options: &mut Options) -> Result<Service, Stop> {
+    let layout = options.layout()?;
+    options.no_files()?;
+    Ok(Service::Open { layout })
+}
+
+fn add(options: &mut Options) -> Result<Service, Stop> {
+    let (day, at) = (
+        options.needed_number("--day")?,
+        options.needed_number("--at")?,
+    );
+    let files = options.files()?;
+    if files.is_empty() {
+        return Err(usage("add needs FILE, or - for standard input"));
+    }
+    Ok(Service::Add { day, at, files })
+}
+
+fn close(options: &mut Options) -> Result<Service, Stop> {
+    Ok(Service::Close {
+        day: options.needed_number("--day")?,
+        files: options.files()?,
+    })
+}
+
+fn status(options: &mut Options) -> Result<Service, Stop> {
+    options.no_files()?;
+    Ok(Service::Status)
+}
+
+/// The options of a command, each given at most once, and its other words.
 struct Options {
     command: &'static str,
     given: Vec<(&'static str, OsString)>,
+    words: Vec<OsString>,
+    /// The names of the days in the state folder's index, where there is a state folder.
+    sealed: Option<Vec<String>>,
 }
 
 impl Options {
@@ -171,11 +282,18 @@ impl Options {
         let mut options = Options {
             command,
             given: Vec::new(),
+            words: Vec::new(),
+            sealed: None,
         };
         while let Some(word) = words.next() {
             if word == "--help" || word == "-h" {
                 return Ok(None);
             }
+            if allowed.contains(&WORDS) && is_value(&word) {
+                options.words.push(word);
+                continue;
+            }
+            let (word, joined) = at_equals(word);
             let Some(name) = allowed.iter().find(|name| word == **name) else {
                 let word = word.display();
                 return Err(usage(&format!("{command} has no option {word}")));
@@ -183,9 +301,17 @@ impl Options {
             if options.given.iter().any(|(given, _)| given == name) {
                 return Err(usage(&format!("{name} is given twice")));
             }
-            match words.next() {
-                Some(value) if is_value(&value) => options.given.push((name, value)),
-                _ => return Err(usage(&format!("{name} has no value"))),
+            let value = match joined {
+                Some(_) if FLAGS.contains(name) => {
+                    return Err(usage(&format!("{name} takes no value")));
+                }
+                Some(value) => Some(value).filter(|value| !value.is_empty()),
+                None if FLAGS.contains(name) => Some(OsString::new()),
+                None => words.next().filter(is_value),
+            };
+            match value {
+                Some(value) => options.given.push((name, value)),
+                None => return Err(usage(&format!("{name} has no value"))),
             }
         }
         Ok(Some(options))
@@ -229,6 +355,46 @@ impl Options {
         })
     }
 
+    fn flag(&mut self, name: &str) -> bool {
+        self.take(name).is_some()
+    }
+
+    /// Whether the lines have names: those of the files, or those of the state's index.
+    fn names(&mut self) -> Result<bool, Stop> {
+        let files = self.given.iter().any(|(given, _)| *given == "--days");
+        match self.flag("--names") {
+            true if !files && self.sealed.is_none() => Err(usage(
+                "--names needs --days or --state: there are no other names",
+            )),
+            names => Ok(names),
+        }
+    }
+
+    /// Takes layout, number of days and book from the state folder, as if they had been given.
+    fn use_state(&mut self) -> Result<(), Stop> {
+        let Some(folder) = self.path("--state") else {
+            return Ok(());
+        };
+        for name in ["--scheme", "--n", "--f", "--book"] {
+            if self.take(name).is_some() {
+                return Err(usage(&format!("--state has what {name} gives: not both")));
+            }
+        }
+        let sealed = Sealed::of(&folder, self.number("--d")?)?;
+        let Layout { scheme, n, f } = sealed.layout;
+        for (name, number) in [
+            ("--scheme", scheme),
+            ("--n", n),
+            ("--f", f),
+            ("--d", sealed.d),
+        ] {
+            self.given.push((name, number.to_string().into()));
+        }
+        self.given.push(("--book", sealed.book.into()));
+        self.sealed = Some(sealed.names);
+        Ok(())
+    }
+
     fn source(&mut self) -> Result<Source, Stop> {
         let paths = (
             self.path("--days"),
@@ -245,8 +411,54 @@ impl Options {
         }
     }
 
+    /// A command on the folder that is the first word.
+    fn service(
+        &mut self,
+        make: fn(&mut Options) -> Result<Service, Stop>,
+    ) -> Result<Command, Stop> {
+        if self.words.is_empty() {
+            return Err(self.missing(WORDS));
+        }
+        let folder = self.words.remove(0).into();
+        let service = make(self)?;
+        Ok(Command::Service { folder, service })
+    }
+
+    /// The words after the folder. Standard input stands alone.
+    fn files(&mut self) -> Result<Vec<OsString>, Stop> {
+        let files = std::mem::take(&mut self.words);
+        if files.len() > 1 && files.iter().any(|file| file == "-") {
+            return Err(usage("- for standard input stands alone"));
+        }
+        Ok(files)
+    }
+
+    fn no_files(&mut self) -> Result<(), Stop> {
+        match self.words.first() {
+            None => Ok(()),
+            Some(word) => Err(usage(&format!(
+                "{} takes no {}",
+                self.command,
+                word.display()
+            ))),
+        }
+    }
+
     fn missing(&self, name: &str) -> Stop {
         usage(&format!("{} needs {name}", self.command))
+    }
+}
+
+/// An option and its value, where they are written as one word: --option=value.
+fn at_equals(word: OsString) -> (OsString, Option<OsString>) {
+    let bytes = word.as_encoded_bytes();
+    let place = bytes.iter().position(|byte| *byte == b'=');
+    match place {
+        Some(place) if bytes.starts_with(b"--") => {
+            let part = |bytes: &[u8]| OsString::from_vec(bytes.to_vec());
+            (part(&bytes[..place]), Some(part(&bytes[place + 1..])))
+        }
+        _ => (word, None),
     }
 }
 
@@ -295,6 +507,7 @@ mod tests {
                 d: None,
                 source: Source::Folder("in".into()),
                 book: "out".into(),
+                force: false,
             }))
         );
         assert_eq!(
@@ -311,6 +524,7 @@ mod tests {
                 book: "b".into(),
                 outcomes: "o".into(),
                 digests: None,
+                sealed: vec![],
             }))
         );
         assert_eq!(
@@ -319,18 +533,118 @@ mod tests {
                 layout,
                 d: u32::MAX,
                 outcomes: "o".into(),
+                days: None,
+                names: false,
+                sealed: vec![],
+            }))
+        );
+        assert_eq!(
+            parsed("verify --scheme 2 --names --n 16 --f 2 --days in --book b"),
+            Ok(Request::Run(Command::Verify {
+                layout,
+                d: None,
+                source: Source::Folder("in".into()),
+                book: "b".into(),
+                names: true,
+                figure: None,
+                sealed: vec![],
             }))
         );
     }
 
     #[test]
+    fn services() {
+        let service = |folder: &str, service| {
+            Ok(Request::Run(Command::Service {
+                folder: folder.into(),
+                service,
+            }))
+        };
+        let layout = Layout::tile(16, 2);
+        let open = service("s", Service::Open { layout });
+        assert_eq!(parsed("open s --scheme 2 --n 16 --f 2"), open);
+        assert_eq!(parsed("open --scheme 2 --n 16 s --f 2"), open);
+        let files = |names: &[&str]| names.iter().map(OsString::from).collect();
+        assert_eq!(
+            parsed("add s --day 7 --at 0 a b"),
+            service(
+                "s",
+                Service::Add {
+                    day: 7,
+                    at: 0,
+                    files: files(&["a", "b"])
+                }
+            )
+        );
+        assert_eq!(
+            parsed("close s - --day 7"),
+            service(
+                "s",
+                Service::Close {
+                    day: 7,
+                    files: files(&["-"])
+                }
+            )
+        );
+        assert_eq!(parsed("status s"), service("s", Service::Status));
+        assert_eq!(message("status"), "status needs DIR");
+        assert_eq!(message("status s t"), "status takes no t");
+        assert_eq!(
+            message("open s t --scheme 2 --n 16 --f 2"),
+            "open takes no t"
+        );
+        assert_eq!(message("add s --day 7 a"), "add needs --at");
+        assert_eq!(message("add s --at 7 a"), "add needs --day");
+        assert_eq!(
+            message("add s --at 7 --day 1"),
+            "add needs FILE, or - for standard input"
+        );
+        assert_eq!(
+            message("add s --at 7 --day 1 a -"),
+            "- for standard input stands alone"
+        );
+        assert_eq!(message("close s"), "close needs --day");
+    }
+
+    #[test]
     fn helps() {
+        assert_eq!(parsed("open --help"), Ok(Request::Help(help::OPEN)));
+        assert_eq!(parsed("add s -h"), Ok(Request::Help(help::ADD)));
+        assert_eq!(parsed("close --help"), Ok(Request::Help(help::CLOSE)));
+        assert_eq!(parsed("status --help"), Ok(Request::Help(help::STATUS)));
         assert_eq!(parsed("--help"), Ok(Request::Help(help::ALL)));
         assert_eq!(parsed("-h"), Ok(Request::Help(help::ALL)));
         assert_eq!(parsed("seal --help"), Ok(Request::Help(help::SEAL)));
         assert_eq!(parsed("check -h"), Ok(Request::Help(help::CHECK)));
         assert_eq!(parsed("read --d 1 --help"), Ok(Request::Help(help::READ)));
         assert_eq!(parsed("verify --help"), Ok(Request::Help(help::VERIFY)));
+        assert_eq!(parsed("help"), Ok(Request::Help(help::ALL)));
+        assert_eq!(parsed("help read"), Ok(Request::Help(help::READ)));
+        assert_eq!(parsed("--version"), Ok(Request::Help(help::VERSION)));
+        assert_eq!(parsed("-V"), Ok(Request::Help(help::VERSION)));
+        assert_eq!(message("help reed"), "there is no command reed");
+        assert_eq!(message("help read all"), "help takes one command");
+    }
+
+    #[test]
+    fn values_behind_an_equals_sign() {
+        assert_eq!(
+            parsed("verify --scheme=2 --n 16 --f=2 --days=--in=x --book b --figure=a=b"),
+            Ok(Request::Run(Command::Verify {
+                layout: Layout::tile(16, 2),
+                d: None,
+                source: Source::Folder("--in=x".into()),
+                book: "b".into(),
+                names: false,
+                figure: Some("a=b".into()),
+                sealed: vec![],
+            }))
+        );
+        assert_eq!(message("seal --n="), "--n has no value");
+        assert_eq!(message("seal --x=4"), "seal has no option --x");
+        assert_eq!(message("seal =4"), "seal has no option =4");
+        assert_eq!(message("seal --n=4 --n 4"), "--n is given twice");
+        assert_eq!(message("verify --names=yes"), "--names takes no value");
     }
 
     #[test]
@@ -342,7 +656,6 @@ mod tests {
             message("seal --outcomes o"),
             "seal has no option --outcomes"
         );
-        assert_eq!(message("seal --n=4"), "seal has no option --n=4");
         assert_eq!(message("seal --n 4 --n 4"), "--n is given twice");
         assert_eq!(message("seal --n"), "--n has no value");
         assert_eq!(message("seal --n --f 1"), "--n has no value");
@@ -355,6 +668,15 @@ mod tests {
             message("verify --scheme 1 --n 1 --f 1 --days in"),
             "verify needs --book"
         );
+        for line in [
+            "verify --scheme 1 --n 1 --f 1 --names --ledger l --ends e --book b",
+            "read --scheme 1 --n 1 --f 1 --d 1 --names --outcomes o",
+        ] {
+            assert_eq!(
+                message(line),
+                "--names needs --days or --state: there are no other names"
+            );
+        }
     }
 
     #[test]

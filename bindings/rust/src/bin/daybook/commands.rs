@@ -1,6 +1,9 @@
 //! What each command does.
 
-use std::fmt::Write;
+use std::ffi::OsString;
+use std::fmt::Write as _;
+use std::fs;
+use std::io::{self, IsTerminal, Write};
 use std::path::{Path, PathBuf};
 
 use daybook::{check_to_vecs, read_to_vec, seal_to_vec, values};
@@ -8,10 +11,17 @@ use daybook::{Checked, Layout, Refusal, Service, VALUE};
 
 use crate::arguments::{Command, Source};
 use crate::days::{add_file, Days, Halt, Ledger};
+use crate::evidence::{test_book, Book};
+use crate::explain::{bad_end, bad_outcome, impossible_value, short_book};
+use crate::figure::Verified;
 use crate::files::{read_front, test_written, Staged};
+use crate::fit::{moved, Fit};
+use crate::names::{field, out_of_order};
 use crate::progress::Progress;
 use crate::say;
+use crate::state;
 use crate::stop::Stop;
+use crate::summary::{strip, summary};
 
 /// A command that was done.
 pub struct Done {
@@ -23,12 +33,17 @@ pub struct Done {
 
 pub fn run(command: &Command) -> Result<Done, Stop> {
     match command {
+        Command::Service { folder, service } => state::run(folder, service),
         Command::Seal {
             layout,
             d,
             source,
             book,
-        } => seal(&Work::find(*layout, *d, source, &[book])?, book),
+            force,
+        } => {
+            let work = Work::find(*layout, *d, source, None, &[book])?;
+            seal(&work, book, *force)
+        }
         Command::Check {
             layout,
             d,
@@ -36,24 +51,46 @@ pub fn run(command: &Command) -> Result<Done, Stop> {
             book,
             outcomes,
             digests,
+            sealed,
         } => {
             let mut written = vec![outcomes.as_path()];
             written.extend(digests.as_deref());
             test_written(&written, &[book], None)?;
-            let work = Work::find(*layout, *d, source, &written)?;
+            let mut work = Work::find(*layout, *d, source, Some(book), &written)?;
+            work.compare(sealed);
             check(&work, book, outcomes, digests.as_deref())
         }
         Command::Read {
             layout,
             d,
             outcomes,
-        } => read(*layout, *d, outcomes),
+            days,
+            names,
+            sealed,
+        } => {
+            let view = View::of_folder(days.as_deref(), sealed, *names)?;
+            read(*layout, *d, outcomes, &view)
+        }
         Command::Verify {
             layout,
             d,
             source,
             book,
-        } => verify(&Work::find(*layout, *d, source, &[])?, book),
+            names,
+            figure,
+            sealed,
+        } => {
+            let written = Vec::from_iter(figure.as_deref());
+            test_written(&written, &[book], None)?;
+            let mut work = Work::find(*layout, *d, source, Some(book), &written)?;
+            work.compare(sealed);
+            let view = View {
+                names: work.labels().or_else(|| some(sealed)),
+                named: *names,
+                figure: figure.clone(),
+            };
+            verify(&work, book, &view)
+        }
     }
 }
 
@@ -66,6 +103,12 @@ struct Work {
     /// The number of values of D days.
     values: u32,
     days: Days,
+    /// The names of the days, where they have names.
+    names: Option<Vec<OsString>>,
+    /// The book's length, where there is a book.
+    book: Option<u64>,
+    /// Whether the days were compared with those of a state, and what does not fit was said.
+    compared: bool,
 }
 
 impl Work {
@@ -74,22 +117,105 @@ impl Work {
         layout: Layout,
         d: Option<u32>,
         source: &Source,
+        book: Option<&Path>,
         written: &[&Path],
     ) -> Result<Work, Stop> {
         Service::open(layout).map_err(|refusal| Stop::Refused(refusal, layout.to_string()))?;
         test_source(source, written)?;
         let days = Days::find(source)?;
-        let given = d.is_some();
-        let d = d.unwrap_or_else(|| days.count());
         let mut work = Work {
             layout,
-            d,
-            given,
+            d: d.unwrap_or_else(|| days.count()),
+            given: d.is_some(),
             values: 0,
+            names: days.names(),
             days,
+            book: book
+                .and_then(|book| fs::metadata(book).ok())
+                .map(|file| file.len()),
+            compared: false,
         };
-        work.values = values(layout, d).map_err(|refusal| work.refused(refusal))?;
+        warn_of_order(work.names.as_deref().unwrap_or_default());
+        if !work.given {
+            work.fit_book();
+        }
+        work.values = values(layout, work.d).map_err(|refusal| work.misfit(refusal))?;
         Ok(work)
+    }
+
+    fn fit(&self) -> Fit<'_> {
+        Fit {
+            layout: self.layout,
+            found: self.days.count(),
+            names: self.names.as_deref(),
+            book: self.book,
+            closed: None,
+        }
+    }
+
+    /// The names of the days as fields, where they have names.
+    fn labels(&self) -> Option<Vec<String>> {
+        self.names.as_deref().map(labels)
+    }
+
+    /// Says where the days found are not those of a state's index.
+    fn compare(&mut self, sealed: &[String]) {
+        let closed = Some(sealed.len() as u32);
+        if sealed.is_empty() {
+            return;
+        }
+        self.compared = true;
+        if closed != Some(self.days.count()) {
+            let fit = Fit {
+                closed,
+                ..self.fit()
+            };
+            for line in fit.misfit() {
+                say(&format!("note: {line}"));
+            }
+        }
+        if let Some(line) = moved(sealed, &self.labels().unwrap_or_default()) {
+            say(&format!("note: {line}"));
+        }
+    }
+
+    /// Takes D from the book, where the days found leave it open.
+    fn fit_book(&mut self) {
+        let d = self.fit().d();
+        if d != self.d {
+            say(&self.fit().later(d));
+            (self.d, self.given) = (d, true);
+        }
+    }
+
+    /// A refusal of the number of days.
+    fn misfit(&self, refusal: Refusal) -> Stop {
+        let lines = match refusal {
+            Refusal::FewEnds if !self.compared => self.fit().misfit(),
+            Refusal::BadD if !self.given => self.fit().misfit(),
+            _ => vec![],
+        };
+        Stop::Explained(refusal, self.numbers(), lines)
+    }
+
+    /// A refusal of the ledger or the book.
+    fn explained(&self, refusal: Refusal, ledger: &Ledger, book: &[u8]) -> Stop {
+        if refusal == Refusal::FewEnds {
+            return self.misfit(refusal);
+        }
+        let mut lines = match refusal {
+            Refusal::BadEnd => {
+                let length = self.days.length(ledger);
+                let names = self.labels();
+                Vec::from_iter(bad_end(&ledger.ends, self.d, length, names.as_deref()))
+            }
+            Refusal::ShortBook => vec![short_book(self.values, book.len())],
+            _ => vec![],
+        };
+        if refusal == Refusal::ShortBook && !self.given {
+            lines.extend(self.fit().misfit());
+        }
+        Stop::Explained(refusal, self.numbers(), lines)
     }
 
     fn refused(&self, refusal: Refusal) -> Stop {
@@ -111,6 +237,25 @@ impl Work {
     }
 }
 
+fn warn_of_order(names: &[OsString]) {
+    if let Some((first, second)) = out_of_order(names) {
+        say(&format!(
+            "warning: days go in byte order of the names, and so {} comes before {}",
+            field(first),
+            field(second)
+        ));
+    }
+}
+
+fn labels(names: &[OsString]) -> Vec<String> {
+    names.iter().map(|name| field(name)).collect()
+}
+
+/// The names of a state's index, where there is a state.
+fn some(sealed: &[String]) -> Option<Vec<String>> {
+    (!sealed.is_empty()).then(|| sealed.to_vec())
+}
+
 fn numbers(layout: Layout, d: u32) -> String {
     format!("{layout}, D {d}")
 }
@@ -123,13 +268,22 @@ fn test_source(source: &Source, written: &[&Path]) -> Result<(), Stop> {
     }
 }
 
-fn seal(work: &Work, book: &Path) -> Result<Done, Stop> {
+fn seal(work: &Work, book: &Path, force: bool) -> Result<Done, Stop> {
     let bytes = match &work.days {
         Days::Files(files) => seal_files(work, files)?,
         Days::Ledger { .. } => seal_ledger(work)?,
     };
-    Staged::new(book, &bytes)?.commit()?;
-    say(&format!("sealed: days {}, values {}", work.d, work.values));
+    let stands = match test_book(book, &bytes, force)? {
+        Book::Stands => ", the book was there already",
+        Book::Write => {
+            Staged::new(book, &bytes)?.commit()?;
+            ""
+        }
+    };
+    say(&format!(
+        "sealed: days {}, values {}{stands}",
+        work.d, work.values
+    ));
     Ok(Done {
         lines: String::new(),
         changed: false,
@@ -140,7 +294,7 @@ fn seal(work: &Work, book: &Path) -> Result<Done, Stop> {
 fn seal_files(work: &Work, files: &[PathBuf]) -> Result<Vec<u8>, Stop> {
     let files = files
         .get(..work.d as usize)
-        .ok_or_else(|| work.refused(Refusal::FewEnds))?;
+        .ok_or_else(|| work.misfit(Refusal::FewEnds))?;
     let mut service = Service::open(work.layout).map_err(|refusal| work.refused(refusal))?;
     let mut book = vec![0; VALUE * work.values as usize];
     let mut written = 0;
@@ -174,16 +328,16 @@ fn seal_ledger(work: &Work) -> Result<Vec<u8>, Stop> {
     let ledger = work.load()?;
     let _shown = Progress::whole("sealing", work.d);
     seal_to_vec(work.layout, work.d, &ledger.bytes, &ledger.ends)
-        .map_err(|refusal| work.refused(refusal))
+        .map_err(|refusal| work.explained(refusal, &ledger, &[]))
 }
 
 fn check(work: &Work, book: &Path, outcomes: &Path, digests: Option<&Path>) -> Result<Done, Stop> {
     let checked = checked(work, book)?;
     let staged = Staged::new(outcomes, &checked.outcomes)?;
-    if let Some(path) = digests {
-        Staged::new(path, &checked.digests)?.commit()?;
+    match digests {
+        None => staged.commit()?,
+        Some(path) => staged.commit_after(Staged::new(path, &checked.digests)?)?,
     }
-    staged.commit()?;
     let fail = checked.outcomes.iter().filter(|o| **o == 0).count();
     say(&format!(
         "checked: days {}, values {}, failing {fail}",
@@ -195,9 +349,9 @@ fn check(work: &Work, book: &Path, outcomes: &Path, digests: Option<&Path>) -> R
     })
 }
 
-fn verify(work: &Work, book: &Path) -> Result<Done, Stop> {
+fn verify(work: &Work, book: &Path, view: &View) -> Result<Done, Stop> {
     let checked = checked(work, book)?;
-    listed(work.layout, work.d, &checked.outcomes)
+    listed(work.layout, work.d, &checked.outcomes, view)
 }
 
 fn checked(work: &Work, book: &Path) -> Result<Checked, Stop> {
@@ -205,7 +359,7 @@ fn checked(work: &Work, book: &Path) -> Result<Checked, Stop> {
     let ledger = work.load()?;
     let _shown = Progress::whole("checking", work.d);
     check_to_vecs(work.layout, work.d, &ledger.bytes, &ledger.ends, &values)
-        .map_err(|refusal| work.refused(refusal))
+        .map_err(|refusal| work.explained(refusal, &ledger, &values))
 }
 
 /// The front of the book that D days have. Where D is only the number of days found, a longer book
@@ -215,16 +369,17 @@ fn read_book(work: &Work, book: &Path) -> Result<Vec<u8>, Stop> {
     if more && !work.given {
         return Err(Stop::Fault(format!(
             "{} has more values than the {} days found: days are missing, or the book is of \
-             another layout. Give --d {} if these days alone are meant",
+             another layout. Give --d {} if these days alone are meant\ndaybook: {}",
             book.display(),
             work.d,
-            work.d
+            work.d,
+            work.fit().misfit().join("\ndaybook: ")
         )));
     }
     Ok(bytes)
 }
 
-fn read(layout: Layout, d: u32, outcomes: &Path) -> Result<Done, Stop> {
+fn read(layout: Layout, d: u32, outcomes: &Path, view: &View) -> Result<Done, Stop> {
     let values = values(layout, d).map_err(|refusal| Stop::Refused(refusal, numbers(layout, d)))?;
     let (table, more) = read_front(outcomes, u64::from(values))?;
     if more {
@@ -232,23 +387,102 @@ fn read(layout: Layout, d: u32, outcomes: &Path) -> Result<Done, Stop> {
             "note: D {d} has {values} outcomes; the rest of the file is not read"
         ));
     }
-    listed(layout, d, &table)
+    listed(layout, d, &table, view)
+}
+
+/// What is shown of a reading.
+struct View {
+    /// The names of the days as fields, where they have names.
+    names: Option<Vec<String>>,
+    /// Whether each line of a day has its name.
+    named: bool,
+    /// The picture to write.
+    figure: Option<PathBuf>,
+}
+
+impl View {
+    /// The names are those of a folder's files, or else those of a state's index.
+    fn of_folder(folder: Option<&Path>, sealed: &[String], named: bool) -> Result<View, Stop> {
+        let names = match folder {
+            Some(folder) => {
+                let days = Days::find(&Source::Folder(folder.to_path_buf()))?;
+                let names = days.names().unwrap_or_default();
+                warn_of_order(&names);
+                Some(labels(&names))
+            }
+            None => some(sealed),
+        };
+        Ok(View {
+            names,
+            named,
+            figure: None,
+        })
+    }
+
+    fn names(&self) -> Option<&[String]> {
+        self.names.as_deref()
+    }
 }
 
 /// Reads the table of outcomes; the lines are those of the program readtable.
-fn listed(layout: Layout, d: u32, outcomes: &[u8]) -> Result<Done, Stop> {
+fn listed(layout: Layout, d: u32, outcomes: &[u8], view: &View) -> Result<Done, Stop> {
     let (reading, days) = read_to_vec(layout, d, outcomes)
-        .map_err(|refusal| Stop::Refused(refusal, numbers(layout, d)))?;
+        .map_err(|refusal| unread_table(layout, d, outcomes, refusal))?;
+    if let Some(path) = &view.figure {
+        draw(
+            path,
+            &Verified {
+                layout,
+                d,
+                outcomes,
+                reading,
+                days: &days,
+            },
+        )?;
+    }
+    if io::stderr().is_terminal() {
+        let words = summary(layout, d, &reading, &days, view.names());
+        let _ = write!(io::stderr(), "{words}{}", strip(d, &days));
+    }
+    let named = view.names().filter(|_| view.named);
     Ok(Done {
-        lines: lines(layout.scheme, reading.numbers(), &days),
+        lines: lines(layout.scheme, reading.numbers(), &days, named),
         changed: !reading.is_clean(),
     })
 }
 
-fn lines(scheme: u32, [listed, first, low, high, last_good]: [u32; 5], days: &[u32]) -> String {
+fn draw(path: &Path, verified: &Verified) -> Result<(), Stop> {
+    let (first, last) = verified.window();
+    if last - first + 1 < verified.d {
+        let d = verified.d;
+        say(&format!(
+            "note: the figure shows the days {first} to {last} of {d}"
+        ));
+    }
+    Staged::new(path, verified.svg().as_bytes())?.commit()
+}
+
+/// A refusal of the outcomes.
+fn unread_table(layout: Layout, d: u32, outcomes: &[u8], refusal: Refusal) -> Stop {
+    let line = match refusal {
+        Refusal::BadOutcome => bad_outcome(layout, d, outcomes),
+        Refusal::ImpossibleTable => impossible_value(layout, d, outcomes),
+        _ => None,
+    };
+    Stop::Explained(refusal, numbers(layout, d), Vec::from_iter(line))
+}
+
+fn lines(
+    scheme: u32,
+    [listed, first, low, high, last_good]: [u32; 5],
+    days: &[u32],
+    names: Option<&[String]>,
+) -> String {
     let mut text = format!("REF,{scheme},{listed},{first},{low},{high},{last_good}\n");
     for day in days {
-        let _ = writeln!(text, "DAY,{day}");
+        let name = names.and_then(|names| names.get(*day as usize - 1));
+        let name = name.map_or(String::new(), |name| format!(",{name}"));
+        let _ = writeln!(text, "DAY,{day}{name}");
     }
     text
 }
@@ -260,9 +494,19 @@ mod tests {
     #[test]
     fn lines_of_readtable() {
         assert_eq!(
-            lines(2, [2, 6, 5, 8, 4], &[6, 8]),
+            lines(2, [2, 6, 5, 8, 4], &[6, 8], None),
             "REF,2,2,6,5,8,4\nDAY,6\nDAY,8\n"
         );
-        assert_eq!(lines(3, [0, 0, 0, 0, 16], &[]), "REF,3,0,0,0,0,16\n");
+        assert_eq!(lines(3, [0, 0, 0, 0, 16], &[], None), "REF,3,0,0,0,0,16\n");
+    }
+
+    #[test]
+    fn lines_with_names() {
+        let names: Vec<OsString> = (1..=8).map(|day| format!("d,{day}").into()).collect();
+        let names = labels(&names);
+        assert_eq!(
+            lines(2, [2, 6, 5, 8, 4], &[6, 8], Some(&names)),
+            "REF,2,2,6,5,8,4\nDAY,6,d%2C6\nDAY,8,d%2C8\n"
+        );
     }
 }

@@ -1,5 +1,6 @@
 //! The days: files of a folder, or a ledger with its ends.
 
+use std::ffi::OsString;
 use std::fs;
 use std::io::{self, Read};
 use std::path::{Path, PathBuf};
@@ -52,6 +53,25 @@ impl Days {
         u32::try_from(count).unwrap_or(u32::MAX)
     }
 
+    /// The names of the days, where each is a file.
+    pub fn names(&self) -> Option<Vec<OsString>> {
+        match self {
+            Days::Files(files) => Some(file_names(files)),
+            Days::Ledger { .. } => None,
+        }
+    }
+
+    /// The length of the whole ledger, of which this was read.
+    pub fn length(&self, read: &Ledger) -> u64 {
+        let read = read.bytes.len() as u64;
+        match self {
+            Days::Files(_) => read,
+            Days::Ledger { ledger, .. } => fs::metadata(ledger)
+                .map_or(read, |file| file.len())
+                .max(read),
+        }
+    }
+
     /// Reads the first `d` days; with fewer, as many as there are.
     pub fn load(&self, d: u32) -> Result<Ledger, Stop> {
         match self {
@@ -74,6 +94,11 @@ fn day_files(folder: &Path) -> Result<Vec<PathBuf>, Stop> {
     }
     files.sort_by(|a, b| name_bytes(a).cmp(name_bytes(b)));
     Ok(files)
+}
+
+fn file_names(files: &[PathBuf]) -> Vec<OsString> {
+    let names = files.iter().filter_map(|path| path.file_name());
+    names.map(OsString::from).collect()
 }
 
 fn name_bytes(path: &Path) -> &[u8] {

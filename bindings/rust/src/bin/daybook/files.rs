@@ -1,13 +1,16 @@
 //! Files read to a length, and files replaced whole.
 
-use std::ffi::OsString;
 use std::fmt::Display;
-use std::fs::{self, File, OpenOptions};
+use std::fs::{self, File};
 use std::io::{self, Read, Write};
 use std::path::{Path, PathBuf};
-use std::process;
 
+use crate::leavings::{self, parent};
+use crate::state;
 use crate::stop::Stop;
+
+/// Links in a row that the system follows.
+const MOST_LINKS: u32 = 40;
 
 /// The first `need` bytes of a file, or all where it has fewer, and whether it has more.
 pub fn read_front(path: &Path, need: u64) -> Result<(Vec<u8>, bool), Stop> {
@@ -41,12 +44,15 @@ pub fn unread(path: &Path, error: impl Display) -> Stop {
     Stop::Fault(format!("{} cannot be read: {error}", path.display()))
 }
 
-fn unwritten(path: &Path, error: impl Display) -> Stop {
+pub fn unwritten(path: &Path, error: impl Display) -> Stop {
     Stop::Fault(format!("{} cannot be written: {error}", path.display()))
 }
 
 /// Where a file to be written stands: an existing regular file, or a new name in an existing folder.
 pub fn place(path: &Path) -> Result<PathBuf, Stop> {
+    if is_stream(path) {
+        return Err(unwritten(path, "it is a stream and not the name of a file"));
+    }
     match fs::canonicalize(path) {
         Ok(place) if place.is_file() => Ok(place),
         Ok(_) => Err(unwritten(path, "it is not a regular file")),
@@ -61,13 +67,35 @@ fn new_place(path: &Path) -> Result<PathBuf, Stop> {
     let (Some(folder), Some(name)) = (path.parent(), path.file_name()) else {
         return Err(unwritten(path, "it is not the name of a file"));
     };
-    let folder = if folder.as_os_str().is_empty() {
-        Path::new(".")
-    } else {
-        folder
-    };
-    let folder = fs::canonicalize(folder).map_err(|error| unwritten(path, error))?;
+    let folder = full_folder(folder).map_err(|error| unwritten(path, error))?;
     Ok(folder.join(name))
+}
+
+fn full_folder(folder: &Path) -> io::Result<PathBuf> {
+    if folder.as_os_str().is_empty() {
+        return fs::canonicalize(".");
+    }
+    fs::canonicalize(folder)
+}
+
+/// Whether a path leads to what a process has open, as /dev/stdout does: the file behind it, if it is
+/// one, is not the one that is named.
+fn is_stream(path: &Path) -> bool {
+    let mut path = path.to_path_buf();
+    for _ in 0..MOST_LINKS {
+        let folder = full_folder(path.parent().unwrap_or(Path::new("/")));
+        let Ok(folder) = folder else {
+            return false;
+        };
+        if folder.starts_with("/proc") {
+            return true;
+        }
+        match fs::read_link(&path) {
+            Ok(target) => path = folder.join(target),
+            Err(_) => return false,
+        }
+    }
+    false
 }
 
 /// A file's new bytes, flushed to disk under a temporary name in its folder. It is removed unless
@@ -75,30 +103,33 @@ fn new_place(path: &Path) -> Result<PathBuf, Stop> {
 pub struct Staged {
     place: PathBuf,
     temporary: PathBuf,
+    /// Holds the lock that tells others that the temporary file is in use.
+    file: File,
     moved: bool,
 }
 
 impl Staged {
     pub fn new(path: &Path, bytes: &[u8]) -> Result<Staged, Stop> {
         let place = place(path)?;
-        let (file, temporary) = create_beside(&place).map_err(|error| unwritten(path, error))?;
-        let staged = Staged {
+        leavings::clean(parent(&place));
+        let made = leavings::make_file(parent(&place));
+        let (file, temporary) = made.map_err(|error| unwritten(path, error))?;
+        let mut staged = Staged {
             place,
             temporary,
+            file,
             moved: false,
         };
-        staged
-            .fill(file, bytes)
-            .map_err(|error| unwritten(path, error))?;
+        staged.fill(bytes).map_err(|error| unwritten(path, error))?;
         Ok(staged)
     }
 
-    fn fill(&self, mut file: File, bytes: &[u8]) -> io::Result<()> {
+    fn fill(&mut self, bytes: &[u8]) -> io::Result<()> {
         if let Ok(old) = fs::metadata(&self.place) {
-            file.set_permissions(old.permissions())?;
+            self.file.set_permissions(old.permissions())?;
         }
-        file.write_all(bytes)?;
-        file.sync_all()
+        self.file.write_all(bytes)?;
+        self.file.sync_all()
     }
 
     /// Takes the file's place, in one step.
@@ -113,11 +144,22 @@ impl Staged {
         })
     }
 
-    fn flush_folder(&self) -> io::Result<()> {
-        match self.place.parent() {
-            Some(folder) => File::open(folder)?.sync_all(),
-            None => Ok(()),
+    /// Takes the file's place after another file took its own. In between there is none, so that the
+    /// old one never stands beside the other new one.
+    pub fn commit_after(self, other: Staged) -> Result<(), Stop> {
+        match fs::remove_file(&self.place) {
+            Ok(()) => self
+                .flush_folder()
+                .map_err(|error| unwritten(&self.place, error))?,
+            Err(error) if error.kind() == io::ErrorKind::NotFound => {}
+            Err(error) => return Err(unwritten(&self.place, error)),
         }
+        other.commit()?;
+        self.commit()
+    }
+
+    fn flush_folder(&self) -> io::Result<()> {
+        File::open(parent(&self.place))?.sync_all()
     }
 }
 
@@ -125,25 +167,6 @@ impl Drop for Staged {
     fn drop(&mut self) {
         if !self.moved {
             let _ = fs::remove_file(&self.temporary);
-        }
-    }
-}
-
-/// A new file of an unused name in the same folder.
-fn create_beside(place: &Path) -> io::Result<(File, PathBuf)> {
-    let mut tries = 0;
-    loop {
-        let mut name = OsString::from(".");
-        name.push(place.file_name().unwrap_or_default());
-        name.push(format!(".{}-{tries}.tmp", process::id()));
-        let temporary = place.with_file_name(name);
-        let made = OpenOptions::new()
-            .write(true)
-            .create_new(true)
-            .open(&temporary);
-        match made {
-            Err(error) if error.kind() == io::ErrorKind::AlreadyExists && tries < 100 => tries += 1,
-            made => return made.map(|file| (file, temporary)),
         }
     }
 }
@@ -157,6 +180,12 @@ pub fn test_written(
     let folder = folder.map(|folder| (folder, fs::canonicalize(folder).ok()));
     for (index, path) in written.iter().enumerate() {
         let here = place(path)?;
+        if state::is_state(parent(&here)) {
+            return Err(unwritten(
+                path,
+                "it stands in a state folder, which open, add and close alone write",
+            ));
+        }
         if let Some((folder, Some(full))) = &folder {
             if here.parent() == Some(full) {
                 let (path, folder) = (path.display(), folder.display());

@@ -1,14 +1,24 @@
-//! The texts of `--help`.
+//! The texts of `--help` and `--version`.
+
+pub const VERSION: &str = concat!("daybook ", env!("CARGO_PKG_VERSION"), "\n");
 
 pub const ALL: &str = "\
 daybook: seal, check and read day books kept in files
 
+A service, day by day, in a state folder:
+  daybook open    make the state folder of a service
+  daybook add     add to the open day
+  daybook close   close the open day: its values go to the book
+  daybook status  say where the service stands
+
+Whole books:
   daybook seal    seal the days of a ledger: write the book
   daybook check   hash the ledger again, compare it with the book, write the outcomes
   daybook read    list the days that a file of outcomes tells of
   daybook verify  check and read in one
 
-daybook COMMAND --help says more of each.
+daybook help COMMAND, or daybook COMMAND --help, says more of each; daybook --version the version.
+An option is written --option value or --option=value.
 
 A command that reads prints the lines
   REF,scheme,listed,first,low,high,lastgood
@@ -23,16 +33,57 @@ Exit status:
   3  a file cannot be read or written or does not have its form, or the command line is wrong
 ";
 
-pub const SEAL: &str = "\
-daybook seal --scheme S --n N --f F [--d D] SOURCE --book FILE
+pub const OPEN: &str = "\
+daybook open DIR --scheme S --n N --f F
 
-Seals the days and writes their values to the book, 32 bytes each. The book is replaced whole, or
-stays as it was.
+Makes the state folder DIR of a new service, whole or not at all. A folder that is there must be empty,
+or be what this would make.
+
+  --scheme S --n N --f F   the layout: 1 black, 2 tile, 3 tree; days in an interval; intervals per
+                           validation
+";
+
+pub const ADD: &str = "\
+daybook add DIR --day K --at B FILE...
+
+Adds the bytes of the files, or of standard input for -, to the open day. All of them are on disk and
+part of the state when it ends with 0, and none of them otherwise. A repeat is harmless: what stands in
+day K at B already is said, and not added again.
+
+  --day K    the number of the open day
+  --at B     the bytes that the open day had before
+";
+
+pub const CLOSE: &str = "\
+daybook close DIR --day K [FILE...]
+
+Closes the open day: its values go to DIR/book, its line to DIR/index. With FILE, or - for standard
+input, the day has the bytes of these files, and nothing may have been added before; without, it has what
+was added. The day is closed and on disk when it ends with 0. A repeat is harmless: a day that is
+closed with the same bytes is said, and not closed again.
+
+  --day K    the number of the open day
+";
+
+pub const STATUS: &str = "\
+daybook status DIR
+
+Tests that the files of the state folder fit each other, and prints: scheme, n, f, days (closed),
+open (bytes in the open day), values (in the book), checkable (the greatest D that can be checked; 0
+none), interrupted (yes where a stopped run left something; the next run takes it away).
+";
+
+pub const SEAL: &str = "\
+daybook seal --scheme S --n N --f F [--d D] SOURCE --book FILE [--force]
+
+Seals the days and writes their values to the book, 32 bytes each. The book is written whole, or
+stays as it was. A book that is there is a fault, unless it is the front of the new one.
 
   --scheme S --n N --f F   the layout: 1 black, 2 tile, 3 tree; days in an interval; intervals per
                            validation
   --d D                    seal the first D days (else: all days of the source)
   --book FILE              the book to write
+  --force                  replace another book; one that is read-only is not replaced even so
 
 SOURCE is one of
   --days DIR                     a folder: each file is a day, in byte order of their names; every
@@ -46,14 +97,19 @@ bytes is refusal 4, in a ledger refusal 10. Fewer days than D is refusal 9.
 
 pub const CHECK: &str = "\
 daybook check --scheme S --n N --f F [--d D] SOURCE --book FILE --outcomes FILE [--digests FILE]
+daybook check --state DIR [--d D] SOURCE --outcomes FILE [--digests FILE]
 
 Hashes the days again, compares them with the book and writes the outcomes. Exit status 0: every value
 passes; 1: some value fails.
 
   --scheme S --n N --f F   the layout that the book was sealed under
   --d D                    check the first D days (else: all days of the source, and the book must
-                           then have no more values than these have)
+                           then have no more values than these have; where D cannot be so many, but
+                           the book's length is that of all days and the names of the files are
+                           numbered without a gap: the greatest D below)
   --book FILE              the book
+  --state DIR              layout and book of this state folder; D is then the greatest that is
+                           allowed and not above the days closed
   --outcomes FILE          the outcomes to write: a byte for each value, in book order, 1 pass, 0 fail
   --digests FILE           the digests of the days to write, 32 bytes each
 
@@ -62,25 +118,39 @@ of more than 4,294,967,295 bytes has no 32-bit ends and is a fault.
 ";
 
 pub const READ: &str = "\
-daybook read --scheme S --n N --f F --d D --outcomes FILE
+daybook read --scheme S --n N --f F --d D --outcomes FILE [--days DIR] [--names]
+daybook read --state DIR [--d D] --outcomes FILE [--days DIR] [--names]
 
 Reads the outcomes of D days and prints which days may have been altered.
 
   --scheme S --n N --f F   the layout of the book that was checked
   --d D                    the number of days
+  --state DIR              layout and book of this state folder; D is then the greatest that is
+                           allowed and not above the days closed
   --outcomes FILE          a byte for each value, in book order, 1 pass, 0 fail; bytes past the
                            last value are not read
+  --days DIR               the folder of days, for their names alone
+  --names                  each line of a day has its name too: DAY,g,name; it is that of --days, or
+                           else that of the index of --state
 ";
 
 pub const VERIFY: &str = "\
-daybook verify --scheme S --n N --f F [--d D] SOURCE --book FILE
+daybook verify --scheme S --n N --f F [--d D] SOURCE --book FILE [--names] [--figure FILE]
+daybook verify --state DIR [--d D] SOURCE [--names] [--figure FILE]
 
-Checks the days against the book and prints which days may have been altered. It writes no file.
+Checks the days against the book and prints which days may have been altered. It writes no file but
+the figure. On a terminal standard error has a summary in words and a strip of the days.
 
   --scheme S --n N --f F   the layout that the book was sealed under
-  --d D                    verify the first D days (else: all days of the source, and the book must
-                           then have no more values than these have)
+  --d D                    verify the first D days (else: as for check)
   --book FILE              the book
+  --state DIR              layout and book of this state folder; D is then the greatest that is
+                           allowed and not above the days closed
+  --names                  each line of a day has its name too: DAY,g,name, where a comma, a percent
+                           sign and every byte that is not printable ASCII is %XX. It is the name of
+                           the file of --days, or else that of the index of --state
+  --figure FILE            a picture to write, as SVG: each value over the days that it covers, which
+                           pass and which fail, the listed days and the bounds
 
 SOURCE is as for seal: --days DIR, or --ledger FILE --ends FILE. The days are held in memory. A folder
 of more than 4,294,967,295 bytes has no 32-bit ends and is a fault. Refusal 14 says that no change of

@@ -3,12 +3,21 @@
 #![forbid(unsafe_code)]
 
 mod arguments;
+mod chains;
 mod commands;
 mod days;
+mod evidence;
+mod explain;
+mod figure;
 mod files;
+mod fit;
 mod help;
+mod leavings;
+mod names;
 mod progress;
+mod state;
 mod stop;
+mod summary;
 
 use std::env;
 use std::io::{self, Write};
@@ -16,6 +25,7 @@ use std::process::ExitCode;
 
 use arguments::Request;
 use commands::Done;
+use daybook::Refusal;
 use stop::Stop;
 
 const CLEAN: u8 = 0;
@@ -39,13 +49,8 @@ fn end(result: Result<Done, Stop>) -> u8 {
             let status = if done.changed { CHANGED } else { CLEAN };
             print(&done.lines, status)
         }
-        Err(Stop::Refused(refusal, context)) => {
-            say(&format!(
-                "refusal {} ({context}): {refusal}",
-                refusal.number()
-            ));
-            print(&format!("NO,{}\n", refusal.number()), REFUSED)
-        }
+        Err(Stop::Refused(refusal, context)) => refused(refusal, &context, &[]),
+        Err(Stop::Explained(refusal, context, lines)) => refused(refusal, &context, &lines),
         Err(Stop::Fault(message)) => {
             say(&message);
             FAULT
@@ -57,11 +62,25 @@ fn end(result: Result<Done, Stop>) -> u8 {
     }
 }
 
-/// Prints on standard output; gives `status`, or the one of a fault.
+fn refused(refusal: Refusal, context: &str, lines: &[String]) -> u8 {
+    let number = refusal.number();
+    say(&format!("refusal {number} ({context}): {refusal}"));
+    for line in lines {
+        say(line);
+    }
+    print(&format!("NO,{number}\n"), REFUSED)
+}
+
+/// Prints on standard output; gives `status`, or the one of a fault. A reader that has enough is no
+/// fault.
 fn print(text: &str, status: u8) -> u8 {
     let mut out = io::stdout().lock();
     match out.write_all(text.as_bytes()).and_then(|()| out.flush()) {
         Ok(()) => status,
+        Err(error) if error.kind() == io::ErrorKind::BrokenPipe => {
+            say("standard output was closed early: lines are lost, the exit status holds");
+            status
+        }
         Err(error) => {
             say(&format!("standard output cannot be written: {error}"));
             FAULT

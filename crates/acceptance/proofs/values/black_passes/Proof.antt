@@ -3,14 +3,7 @@ use Rattle.acceptance.proofs.Steps.{interval-black, black-inside, passe
 use Rattle.acceptance.proofs.values.black_passes.Statement.{statement}
 use Rattle.acceptance.proofs.values.black_passes.Tie as tie
 
-black-at-requires : tie.Need-black-at-requires
-black-at-requires c κs = interval-black (c .before .pre)
-
-mark-requires : tie.Need-mark-requires
-mark-requires c κs = black-inside (c .before .before .pre) (c .black-at .ensures)
-
-returns : tie.Need-returns
-returns c = passes-by _ _ _ _ (c .before .black-at .ensures) (c .mark .ensures)
-
 pub black-passes-spec : {M : Type 1} → statement M
-black-passes-spec = tie.close (tie.spec black-at-requires mark-requires returns)
+black-passes-spec = tie.close (tie.spec
+    (λ c κs. interval-black (c .before .pre)) (λ c κs. black-inside (c .before .before .pre) (c .black-at .ensures))
+    (λ c. passes-by _ _ _ _ (c .before .black-at .ensures) (c .mark .ensures)))

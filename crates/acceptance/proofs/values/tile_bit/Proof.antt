@@ -1,15 +1,11 @@
 -- `acceptance::values::tile_bit` meets its contract.
-use Rattle.acceptance.proofs.Steps.{bit-by}
 use Rattle.layouts.proofs.AllowedLaws.{allowed-n-is}
+use Rattle.acceptance.specs.Private.{tileBit}
 use borrow.Author.Needs.{needs}
 use Rattle.acceptance.proofs.values.tile_bit.Statement.{statement}
 use Rattle.acceptance.proofs.values.tile_bit.Tie as tie
 
-lg-requires : tie.Need-lg-requires
-lg-requires c κs = allowed-n-is _ (c .before .pre .0 .has .n-ok) .some
-
-returns : tie.Need-returns
-returns c = bit-by _ _ _ _ (c .before .lg .ensures) (c .tile-passes .ensures)
-
 pub tile-bit-spec : {M : Type 1} → statement M
-tile-bit-spec = tie.close (tie.spec lg-requires (λ c. search needs) (λ c. λ κs. search needs) returns)
+unfolding tileBit
+tile-bit-spec = tie.close (tie.spec (λ c κs. allowed-n-is _ (c .before .pre .0 .has .n-ok) .some) (λ c. search needs) (λ c κs. search needs)
+    (λ c. rw (← (c .before .lg .ensures)) (c .tile-passes .ensures)))

@@ -5,8 +5,6 @@ use borrow.Author.Needs.{needs}
 use Rattle.chains.proofs.link.across.Statement.{statement}
 use Rattle.chains.proofs.link.across.Tie as tie
 
-returns : tie.Need-returns
-returns c = across-of (c .args .a) (c .args .b) (omega arith)
-
 pub across-spec : {M : Type 1} → statement M
-across-spec = tie.close (tie.spec (λ c. search needs) (λ c. search needs) returns)
+across-spec = tie.close (tie.spec (λ c. search needs) (λ c. search needs)
+    (λ c. across-of (c .args .a) (c .args .b) (omega arith)))

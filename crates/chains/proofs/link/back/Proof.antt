@@ -4,8 +4,5 @@ use borrow.Author.Needs.{needs}
 use Rattle.chains.proofs.link.back.Statement.{statement}
 use Rattle.chains.proofs.link.back.Tie as tie
 
-returns : tie.Need-returns
-returns c = back-of _ (c .across .ensures)
-
 pub back-spec : {M : Type 1} → statement M
-back-spec = tie.close (tie.spec (λ c. search needs) (λ c. λ κs. search needs) returns)
+back-spec = tie.close (tie.spec (λ c. search needs) (λ c. λ κs. search needs) (λ c. back-of _ (c .across .ensures)))

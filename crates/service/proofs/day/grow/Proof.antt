@@ -9,5 +9,5 @@ unfolding grown
 returns c = rw (c .before .before .before .before .before .absorb .ensures)
 
 pub grow-spec : {M : Type 1} → statement M
-grow-spec = tie.close
-    (tie.spec (λ c. search needs) (λ c. search needs) (λ c κs. search needs) (λ c. search needs) (λ c. search needs) returns)
+grow-spec = tie.close (tie.spec (λ c. search needs) (λ c. search needs) (λ c κs. search needs) (λ c. search needs)
+    (λ c. search needs) returns)

@@ -7,9 +7,6 @@ use Rattle.service.proofs.DayLaws.{day-asks}
 use Rattle.service.proofs.day.step.Statement.{statement}
 use Rattle.service.proofs.day.step.Tie as tie
 
-digest-requires : tie.Need-digest-requires
-digest-requires c κs = record-passes (c .args .state) refl (c .pre) .0 .bytes-most
-
 add-step : tie.Need-add-step
 add-step c = let a = day-asks (c .before .before .before .before .before .args .state) refl (c .before .before .before .before .before .pre) in omega (arith, a .3)
 
@@ -20,4 +17,5 @@ returns : tie.Need-returns
 returns c = rw (← (c .before .before .before .before .before .digest .ensures), ← (c .before .before .before .before .start .ensures)) (c .step .ensures)
 
 pub step-spec : {M : Type 1} → statement M
-step-spec = tie.close (tie.spec digest-requires (λ c κs. search needs) add-step step-requires returns)
+step-spec = tie.close (tie.spec (λ c κs. record-passes (c .args .state) refl (c .pre) .0 .bytes-most)
+    (λ c κs. search needs) add-step step-requires returns)

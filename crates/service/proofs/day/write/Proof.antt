@@ -16,9 +16,6 @@ Inv-loop part₀ k values i₀ part i = (i ≤ k) × (length part ≡ length par
 abbrev μ-loop : tie.MeasureT-loop
 μ-loop part₀ k values i₀ part i = k - i
 
-loop-holds : tie.Need-loop-holds Inv-loop μ-loop
-loop-holds c = (search needs, refl, no-value-written (c .before .args .t2) (c .before .args .part .now))
-
 put-requires : tie.Need-put-requires Inv-loop μ-loop
 put-requires c κs =
     let b : length (c .before .before .before .bytes .result) ≡ 32 = search needs in omega (arith, c .before .wide .ensures)
@@ -37,6 +34,8 @@ returns : tie.Need-returns Inv-loop μ-loop
 returns c = let e : c .before .before .before .args .k ≡ c .before .loop .i = omega arith in rw e (c .before .loop .inv .2)
 
 pub write-spec : {M : Type 1} → statement M
-write-spec = tie.close (tie.spec Inv-loop μ-loop loop-holds (λ c. search needs) (λ c. search needs) (λ c. search needs)
-    (λ c κs. search needs) (λ c κs. search needs) (λ c. search needs) (λ c. search needs) put-requires
-    (λ c. search needs) (λ c. search needs) loop-again (λ c. search needs) returns)
+write-spec = tie.close (tie.spec Inv-loop μ-loop
+    (λ c. (search needs, refl, no-value-written (c .before .args .t2) (c .before .args .part .now)))
+    (λ c. search needs) (λ c. search needs) (λ c. search needs) (λ c κs. search needs) (λ c κs. search needs)
+    (λ c. search needs) (λ c. search needs) put-requires (λ c. search needs) (λ c. search needs) loop-again
+    (λ c. search needs) returns)

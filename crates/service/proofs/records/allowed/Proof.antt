@@ -9,12 +9,11 @@ use Rattle.service.proofs.records.allowed.Tie as tie
 returns : tie.Need-returns
 returns c = not-allowed (c .before .before .args .state) (λ a. c .if1 .taken (c .before .setup-refusal .ensures ∙ a .setup))
 
-returns-2 : tie.Need-returns-2
-returns-2 c = not-allowed (c .before .before .before .before .args .state) (λ a. omega (arith, a .days-most, c .if2 .taken))
-
 returns-3 : tie.Need-returns-3
 returns-3 c = bytes-decide (c .before .before .before .before .before .args .state) (c .before .before .before .before .setup-refusal .ensures) (c .before .before .before .if1 .left)
     (c .before .if2 .left)
 
 pub allowed-spec : {M : Type 1} → statement M
-allowed-spec = tie.close (tie.spec (λ c κs. search needs) returns returns-2 returns-3)
+allowed-spec = tie.close (tie.spec (λ c κs. search needs) returns
+    (λ c. not-allowed (c .before .before .before .before .args .state) (λ a. omega (arith, a .days-most, c .if2 .taken)))
+    returns-3)

@@ -4,9 +4,6 @@ use Rattle.service.proofs.RecordLaws.{record-6, record-5, record-0}
 use Rattle.service.proofs.records.refusal.Statement.{statement}
 use Rattle.service.proofs.records.refusal.Tie as tie
 
-returns : tie.Need-returns
-returns c = record-6 _ (c .before .allowed .ensures) (c .if1 .taken)
-
 returns-2 : tie.Need-returns-2
 returns-2 c = record-5 (c .before .before .before .before .args .state) (c .before .before .before .allowed .ensures) (c .before .before .if1 .left) (c .if2 .taken)
 
@@ -14,4 +11,5 @@ returns-3 : tie.Need-returns-3
 returns-3 c = record-0 (c .before .before .before .before .args .state) (c .before .before .before .allowed .ensures) (c .before .before .if1 .left) (c .if2 .left)
 
 pub refusal-spec : {M : Type 1} → statement M
-refusal-spec = tie.close (tie.spec (λ c κs. search needs) returns returns-2 returns-3)
+refusal-spec = tie.close (tie.spec (λ c κs. search needs)
+    (λ c. record-6 _ (c .before .allowed .ensures) (c .if1 .taken)) returns-2 returns-3)

@@ -1,24 +1,14 @@
 -- `table_text::input::all` meets its contract.
-use Rattle.table_text.proofs.InputLaws.{scheme-fails, n-fails, f-fails, d-fails, line-passes}
+use borrow.Author.Tests.{not-true, not-false}
 use Rattle.table_text.proofs.input.all.Statement.{statement}
 use Rattle.table_text.proofs.input.all.Tie as tie
 
-returns : tie.Need-returns
-returns c = let a = c .before .args in scheme-fails (a .scheme) (a .n) (a .f) (a .d) (a .outcomes) (c .if1 .taken)
-
-returns-2 : tie.Need-returns-2
-returns-2 c = let a = c .before .before .args in n-fails (a .scheme) (a .n) (a .f) (a .d) (a .outcomes) (c .before .if1 .left) (c .if2 .taken)
-
-returns-3 : tie.Need-returns-3
-returns-3 c = let a = c .before .before .before .args in f-fails (a .scheme) (a .n) (a .f) (a .d) (a .outcomes) (c .before .before .if1 .left) (c .before .if2 .left) (c .if3 .taken)
-
-returns-4 : tie.Need-returns-4
-returns-4 c = let a = c .before .before .before .before .args in d-fails (a .scheme) (a .n) (a .f) (a .d) (a .outcomes) (c .before .before .before .if1 .left) (c .before .before .if2 .left)
-    (c .before .if3 .left) (c .if4 .taken)
-
-returns-5 : tie.Need-returns-5
-returns-5 c = let a = c .before .before .before .before .args in line-passes (a .scheme) (a .n) (a .f) (a .d) (a .outcomes) (c .before .before .before .if1 .left) (c .before .before .if2 .left)
-    (c .before .if3 .left) (c .if4 .left)
-
 pub all-spec : {M : Type 1} → statement M
-all-spec = tie.close (tie.spec returns returns-2 returns-3 returns-4 returns-5)
+all-spec = tie.close (tie.spec (λ c. rw (not-true (c .before .args .scheme) (c .if1 .taken)))
+    (λ c. let a = c .before .before .args in rw (not-false (a .scheme) (c .before .if1 .left), not-true (a .n) (c .if2 .taken)))
+    (λ c. let a = c .before .before .before .args in
+    rw (not-false (a .scheme) (c .before .before .if1 .left), not-false (a .n) (c .before .if2 .left), not-true (a .f) (c .if3 .taken)))
+    (λ c. let b = c .before .before in let a = b .before .before .args in
+    rw (not-false (a .scheme) (b .before .if1 .left), not-false (a .n) (b .if2 .left), not-false (a .f) (c .before .if3 .left), not-true (a .d) (c .if4 .taken)))
+    (λ c. let b = c .before .before in let a = b .before .before .args in
+    rw (not-false (a .scheme) (b .before .if1 .left), not-false (a .n) (b .if2 .left), not-false (a .f) (c .before .if3 .left), not-false (a .d) (c .if4 .left))))

@@ -1,14 +1,10 @@
 -- `table_text::input::is_end` meets its contract.
-use Rattle.table_text.proofs.InputLaws.{end-not, end-one}
+use Rattle.table_text.proofs.{InputLaws.end-not, InputLaws.end-one, input.is_end.Statement.statement}
 use borrow.Author.Needs.{needs}
-use Rattle.table_text.proofs.input.is_end.Statement.{statement}
 use Rattle.table_text.proofs.input.is_end.Tie as tie
 
-returns : tie.Need-returns
-returns c = end-not (c .before .args .s .now) (c .before .args .at) (c .if1 .taken)
-
-returns-2 : tie.Need-returns-2
-returns-2 c = end-one (c .before .before .args .s .now) (c .before .before .args .at) (c .before .if1 .left)
-
 pub is-end-spec : {M : Type 1} → statement M
-is-end-spec = tie.close (tie.spec (λ c. search needs) returns (λ c. search needs) returns-2)
+is-end-spec = tie.close (tie.spec
+    (λ c. search needs) (λ c. end-not (c .before .args .s .now) (c .before .args .at) (c .if1 .taken))
+    (λ c. search needs)
+    (λ c. end-one (c .before .before .args .s .now) (c .before .before .args .at) (c .before .if1 .left)))

@@ -15,30 +15,15 @@ Inv-loop out₀ at days next₀ i₀ t7 out next i = (i ≤ length days) × (len
 abbrev μ-loop : tie.MeasureT-loop
 μ-loop out₀ at days next₀ i₀ t7 out next i = length days - i
 
-loop-holds : tie.Need-loop-holds Inv-loop μ-loop
-loop-holds c = (search needs, refl, days-none (c .before .before .args .at) (c .before .before .args .days .now) (c .before .before .args .out .now))
-
-put-line-requires : tie.Need-put-line-requires Inv-loop μ-loop
-put-line-requires c κs =
-    let a = c .before .before .before .before .before .before .before .before .args in let l = c .before .before .before .before .before .loop in
-    days-room (a .at) (l .i) (l .next) _ (a .days .now) (a .out .now) (l .out) (c .before .before .before .before .before .before .before .before .pre) (l .inv .1) (l .inv .2)
-
-loop-again : tie.Need-loop-again Inv-loop μ-loop
-loop-again c =
-    let a = c .before .before .before .before .before .before .before .before .before .before .before .args in let l = c .before .before .before .before .before .before .before .before .loop in (
-      search needs,
-      search needs,
-      days-next (a .at) (l .i) (l .next) (c .before .before .put-line .result) (a .days .now) (a .out .now) (l .out) _
-          (c .before .before .before .before .before .before .before .loop-test .taken) (c .before .before .before .before .before .before .before .before .before .before .before .pre) (l .inv .2)
-          (c .before .before .put-line .ensures),
-    )
-
-returns : tie.Need-returns Inv-loop μ-loop
-returns c =
-    let a = c .before .before .before .before .args in let l = c .before .loop in
-    days-all (a .at) (l .i) (l .next) (a .days .now) (a .out .now) (l .out) (search needs) (l .inv .2)
-
 pub put-days-spec : {M : Type 1} → statement M
-put-days-spec = tie.close (tie.spec Inv-loop μ-loop loop-holds (λ c. search needs) (λ c. search needs)
-    (λ c. search needs) (λ c. search needs) put-line-requires (λ c. search needs) (λ c. search needs) loop-again
-    (λ c. search needs) returns)
+put-days-spec = tie.close (tie.spec Inv-loop μ-loop
+    (λ c. let a = c .before .before .args in (search needs, refl, days-none (a .at) (a .days .now) (a .out .now))) (λ c. search needs) (λ c. search needs) (λ c. search needs) (λ c. search needs)
+    (λ c κs. let b = c .before .before .before .before .before in let l = b .loop in
+    days-room _ (l .i) _ _ (b .before .before .before .args .days .now) _ _ (b .before .before .before .pre) (l .inv .1) (l .inv .2))
+    (λ c. search needs) (λ c. search needs)
+    (λ c. let b = c .before .before .before .before .before .before .before in let l = b .before .loop in let a = b .before .before .before .before .args in (
+      search needs,
+      search needs,
+      days-next _ (l .i) _ _ (a .days .now) _ _ _ (b .loop-test .taken) (b .before .before .before .before .pre) (l .inv .2) (c .before .before .put-line .ensures),
+    ))
+    (λ c. search needs) (λ c. let l = c .before .loop in days-all _ (l .i) _ (c .before .before .before .before .args .days .now) _ _ (search needs) (l .inv .2)))

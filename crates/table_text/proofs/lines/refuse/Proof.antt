@@ -4,10 +4,6 @@ use borrow.Author.Needs.{needs}
 use Rattle.table_text.proofs.lines.refuse.Statement.{statement}
 use Rattle.table_text.proofs.lines.refuse.Tie as tie
 
-returns : tie.Need-returns
-unfolding noLine
-returns c = search needs
-
 pub refuse-spec : {M : Type 1} → statement M
-refuse-spec = tie.close (tie.spec (λ c. search needs) (λ c. search needs) (λ c. λ κs. search needs) (λ c. search needs)
-    returns)
+unfolding noLine
+refuse-spec = tie.close (tie.spec (λ c. search needs) (λ c. search needs) (λ c κs. search needs) (λ c. search needs) (λ c. search needs))

@@ -12,5 +12,5 @@ abbrev μ-loop : tie.MeasureT-loop
 μ-loop outcomes n₀ i₀ n i = length outcomes - i
 
 pub failing-spec : {M : Type 1} → statement M
-failing-spec = tie.close (tie.spec Inv-loop μ-loop (λ c. search needs) (λ c. search needs) (λ c. λ κs. search needs)
+failing-spec = tie.close (tie.spec Inv-loop μ-loop (λ c. search needs) (λ c. search needs) (λ c κs. search needs)
     (λ c. search needs) (λ c. search needs) (λ c. search needs) (λ c. search needs) (λ c. search needs))

@@ -1,9 +1,8 @@
 -- `test_checking::round_trip::alter` meets its contract.
 use Prim.Native.Nat.{_-_, _≤_}
-use mathlib.Core.Path.{_≡_, refl}
+use mathlib.Core.Path.{_≡_}
 use lib.ListN.{length}
 use borrow.Author.Needs.{needs}
-use native.Mathlib.Omega.{arith}
 use Rattle.test_checking.proofs.round_trip.alter.Statement.{statement}
 use Rattle.test_checking.proofs.round_trip.alter.Tie as tie
 
@@ -15,5 +14,5 @@ abbrev μ-loop : tie.MeasureT-loop
 
 pub alter-spec : {M : Type 1} → statement M
 alter-spec = tie.close (tie.spec Inv-loop μ-loop (λ c. search needs) (λ c. search needs) (λ c. search needs)
-    (λ c. λ κs. search needs) (λ c. λ κs. search needs) (λ c. search needs) (λ c. search needs) (λ c. search needs)
+    (λ c κs. search needs) (λ c κs. search needs) (λ c. search needs) (λ c. search needs) (λ c. search needs)
     (λ c. search needs) (λ c. search needs))

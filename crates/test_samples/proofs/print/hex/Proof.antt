@@ -12,5 +12,5 @@ abbrev μ-loop : tie.MeasureT-loop
 μ-loop s width i₀ i = length s - i
 
 pub hex-spec : {M : Type 1} → statement M
-hex-spec = tie.close (tie.spec Inv-loop μ-loop (λ c. search needs) (λ c. search needs) (λ c. λ κs. search needs)
-    (λ c. λ κs. search needs) (λ c. search needs) (λ c. search needs) (λ c. search needs) (λ c. search needs))
+hex-spec = tie.close (tie.spec Inv-loop μ-loop (λ c. search needs) (λ c. search needs) (λ c κs. search needs)
+    (λ c κs. search needs) (λ c. search needs) (λ c. search needs) (λ c. search needs) (λ c. search needs))

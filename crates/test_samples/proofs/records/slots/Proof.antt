@@ -13,6 +13,6 @@ abbrev μ-loop : tie.MeasureT-loop
 μ-loop r₀ i₀ r i = 17 - i
 
 pub slots-spec : {M : Type 1} → statement M
-slots-spec = tie.close (tie.spec Inv-loop μ-loop (λ c. λ κs. search needs) (λ c. search needs) (λ c. search needs)
-    (λ c. search needs) (λ c. λ κs. search needs) (λ c. search needs) (λ c. search needs) (λ c. search needs)
+slots-spec = tie.close (tie.spec Inv-loop μ-loop (λ c κs. search needs) (λ c. search needs) (λ c. search needs)
+    (λ c. search needs) (λ c κs. search needs) (λ c. search needs) (λ c. search needs) (λ c. search needs)
     (λ c. search needs) (λ c. search needs) (λ c. search needs))

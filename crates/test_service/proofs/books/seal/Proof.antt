@@ -13,7 +13,7 @@ abbrev μ-loop : tie.MeasureT-loop
 μ-loop scheme n f ledger piece gap book₀ state₀ at₀ g₀ end book state at g = end + 1 - g
 
 pub seal-spec : {M : Type 1} → statement M
-seal-spec = tie.close (tie.spec Inv-loop μ-loop (λ c. λ κs. search needs) (λ c. λ κs. search needs) (λ c. search needs)
-    (λ c. λ κs. search needs) (λ c. search needs) (λ c. search needs) (λ c. search needs) (λ c. λ κs. search needs)
-    (λ c. λ κs. search needs) (λ c. λ κs. search needs) (λ c. search needs) (λ c. search needs) (λ c. search needs)
+seal-spec = tie.close (tie.spec Inv-loop μ-loop (λ c κs. search needs) (λ c κs. search needs) (λ c. search needs)
+    (λ c κs. search needs) (λ c. search needs) (λ c. search needs) (λ c. search needs) (λ c κs. search needs)
+    (λ c κs. search needs) (λ c κs. search needs) (λ c. search needs) (λ c. search needs) (λ c. search needs)
     (λ c. search needs) (λ c. search needs))

@@ -1,0 +1,320 @@
+//! The forms of the files of a state folder. docs/SERVICE.md describes them.
+
+use daybook::{Layout, Service, DAYS_LIMIT, RECORD, VALUE};
+
+use super::digest::{digest, hex, Digest};
+
+/// The format version that this program writes, and the only one that it reads.
+const VERSION: &str = "1";
+const LAYOUT_START: &str = "daybook state ";
+const RECORD_START: &str = "daybook record ";
+
+/// Bytes of the names of a day's sources; what is longer ends with three dots.
+const NAMES_MOST: usize = 1024;
+/// Bytes that are enough for any line of the index.
+pub const LINE_MOST: u64 = 5 + 1 + 8 + 1 + 2 * VALUE as u64 + 1 + NAMES_MOST as u64 + 1;
+
+/// How long the front of a file is, and its digest.
+#[derive(Clone, Copy, Debug, PartialEq, Eq)]
+pub struct Extent {
+    pub length: u64,
+    pub digest: Digest,
+}
+
+impl Extent {
+    pub fn of(bytes: &[u8]) -> Extent {
+        Extent {
+            length: bytes.len() as u64,
+            digest: digest(bytes),
+        }
+    }
+}
+
+/// What the file `record` says: the service's record, and what the other files hold with it.
+#[derive(Clone, Debug, PartialEq, Eq)]
+pub struct Record {
+    pub service: Service,
+    pub book: Extent,
+    pub index: Extent,
+    /// The bytes of the open day.
+    pub day: Extent,
+    /// The names of the open day's sources, as in the index.
+    pub names: String,
+}
+
+impl Record {
+    /// The record of a service that has just been opened.
+    pub fn fresh(service: Service) -> Record {
+        let none = Extent::of(&[]);
+        Record {
+            service,
+            book: none,
+            index: none,
+            day: none,
+            names: String::new(),
+        }
+    }
+
+    pub fn to_bytes(&self) -> Vec<u8> {
+        let mut bytes = format!("{RECORD_START}{VERSION}\n").into_bytes();
+        bytes.extend(self.service.to_bytes());
+        for extent in [self.book, self.index, self.day] {
+            bytes.extend(extent.length.to_le_bytes());
+            bytes.extend(extent.digest);
+        }
+        bytes.extend((self.names.len() as u32).to_le_bytes());
+        bytes.extend(self.names.as_bytes());
+        let checksum = digest(&bytes);
+        bytes.extend(checksum);
+        bytes
+    }
+
+    pub fn from_bytes(bytes: &[u8]) -> Result<Record, String> {
+        let line = bytes.split_inclusive(|byte| *byte == b'\n').next();
+        let line = line.unwrap_or_default();
+        known_version(line, RECORD_START)?;
+        let (body, checksum) = bytes
+            .split_last_chunk::<VALUE>()
+            .ok_or_else(|| too_short(bytes))?;
+        if digest(body) != *checksum {
+            return Err(format!(
+                "its checksum does not fit its {} bytes",
+                bytes.len()
+            ));
+        }
+        let mut fields = Fields(&body[line.len()..]);
+        let record = fields.record().ok_or_else(|| too_short(bytes))?;
+        match fields.0 {
+            [] => Ok(record),
+            _ => Err("it has bytes past its end".to_string()),
+        }
+    }
+}
+
+fn too_short(bytes: &[u8]) -> String {
+    format!("its {} bytes are too few", bytes.len())
+}
+
+/// The first line of a file is its start and a version that this program knows.
+fn known_version(line: &[u8], start: &str) -> Result<(), String> {
+    let version = line
+        .strip_prefix(start.as_bytes())
+        .and_then(|rest| rest.strip_suffix(b"\n"))
+        .filter(|version| !version.is_empty() && version.iter().all(u8::is_ascii_digit));
+    match version {
+        Some(version) if version == VERSION.as_bytes() => Ok(()),
+        Some(version) => Err(format!(
+            "its format version is {}, and this program knows {VERSION} only",
+            String::from_utf8_lossy(version)
+        )),
+        None => Err(format!("it does not begin with \"{start}{VERSION}\"")),
+    }
+}
+
+/// What is left to be taken apart.
+struct Fields<'a>(&'a [u8]);
+
+impl Fields<'_> {
+    fn record(&mut self) -> Option<Record> {
+        Some(Record {
+            service: Service::from_bytes(*self.take::<RECORD>()?),
+            book: self.extent()?,
+            index: self.extent()?,
+            day: self.extent()?,
+            names: self.text()?,
+        })
+    }
+
+    fn take<const LENGTH: usize>(&mut self) -> Option<&[u8; LENGTH]> {
+        let (front, rest) = self.0.split_first_chunk()?;
+        self.0 = rest;
+        Some(front)
+    }
+
+    fn extent(&mut self) -> Option<Extent> {
+        Some(Extent {
+            length: u64::from_le_bytes(*self.take()?),
+            digest: *self.take()?,
+        })
+    }
+
+    fn text(&mut self) -> Option<String> {
+        let length = u32::from_le_bytes(*self.take()?) as usize;
+        let (text, rest) = self.0.split_at_checked(length)?;
+        self.0 = rest;
+        String::from_utf8(text.to_vec()).ok()
+    }
+}
+
+pub fn layout_text(layout: Layout) -> String {
+    let Layout { scheme, n, f } = layout;
+    format!("{LAYOUT_START}{VERSION}\nscheme {scheme}\nn {n}\nf {f}\n")
+}
+
+/// Tests a text of a layout against the one that the record names.
+pub fn test_layout(text: &[u8], layout: Layout) -> Result<(), String> {
+    let line = text.split_inclusive(|byte| *byte == b'\n').next();
+    known_version(line.unwrap_or_default(), LAYOUT_START)?;
+    if text == layout_text(layout).as_bytes() {
+        return Ok(());
+    }
+    Err(format!("the record is of {layout}"))
+}
+
+/// A line of the index.
+#[derive(Clone, Debug, PartialEq, Eq)]
+pub struct Line {
+    pub day: u32,
+    pub bytes: u64,
+    pub digest: Digest,
+    pub names: String,
+}
+
+impl Line {
+    pub fn text(&self) -> String {
+        let (day, bytes, names) = (self.day, self.bytes, &self.names);
+        format!("{day},{bytes},{},{names}\n", hex(&self.digest))
+    }
+
+    /// The line that a text is, without its line feed.
+    pub fn parse(text: &[u8]) -> Option<Line> {
+        let text = std::str::from_utf8(text).ok()?;
+        let mut fields = text.splitn(4, ',');
+        let line = Line {
+            day: fields.next()?.parse().ok()?,
+            bytes: fields.next()?.parse().ok()?,
+            digest: digest_of(fields.next()?)?,
+            names: fields.next()?.to_string(),
+        };
+        let own = line
+            .names
+            .bytes()
+            .all(|byte| (b' '..=b'~').contains(&byte) && byte != b',');
+        let same = line.text().strip_suffix('\n') == Some(text);
+        (line.day <= DAYS_LIMIT && own && same).then_some(line)
+    }
+}
+
+fn digest_of(text: &str) -> Option<Digest> {
+    let mut digest = [0; VALUE];
+    if text.len() != 2 * VALUE || !text.is_ascii() {
+        return None;
+    }
+    for (at, byte) in digest.iter_mut().enumerate() {
+        *byte = u8::from_str_radix(&text[2 * at..2 * at + 2], 16).ok()?;
+    }
+    Some(digest)
+}
+
+/// The names of a day's sources with those that come after them. One that comes twice in a row
+/// stands once.
+pub fn joined<'a>(names: &str, more: impl Iterator<Item = &'a str>) -> String {
+    let mut all: Vec<&str> = names.split(AND).filter(|name| !name.is_empty()).collect();
+    for name in more {
+        if all.last() != Some(&name) {
+            all.push(name);
+        }
+    }
+    let text = all.join(AND);
+    if text.len() <= NAMES_MOST {
+        return text;
+    }
+    format!("{}...", &text[..NAMES_MOST - 3])
+}
+
+const AND: &str = " + ";
+
+#[cfg(test)]
+mod tests {
+    use super::*;
+
+    fn record() -> Record {
+        let mut service = Service::open(Layout::tile(16, 2)).unwrap();
+        service.add(b"rye").unwrap();
+        let mut record = Record::fresh(service);
+        record.day = Extent::of(b"rye");
+        record.names = "a.csv".to_string();
+        record
+    }
+
+    #[test]
+    fn a_record_to_bytes_and_back() {
+        let bytes = record().to_bytes();
+        assert_eq!(Record::from_bytes(&bytes), Ok(record()));
+        assert_eq!(bytes.len(), 17 + 692 + 3 * 40 + 4 + 5 + 32);
+    }
+
+    #[test]
+    fn every_byte_of_a_record_is_under_its_checksum() {
+        let bytes = record().to_bytes();
+        for at in 0..bytes.len() {
+            let mut other = bytes.clone();
+            other[at] ^= 1;
+            assert!(Record::from_bytes(&other).is_err(), "byte {at}");
+            assert!(
+                Record::from_bytes(&bytes[..at]).is_err(),
+                "the first {at} bytes"
+            );
+        }
+        assert!(Record::from_bytes(&[&bytes[..], &[0]].concat()).is_err());
+    }
+
+    #[test]
+    fn versions() {
+        let message = |bytes: &[u8]| Record::from_bytes(bytes).unwrap_err();
+        assert!(message(b"").contains("does not begin with"));
+        assert!(message(b"daybook record 2\n").contains("format version is 2"));
+        assert!(message(b"daybook record \n").contains("does not begin with"));
+        assert!(message(b"daybook record 1").contains("does not begin with"));
+        assert_eq!(message(b"daybook record 1\n"), "its 17 bytes are too few");
+        let layout = Layout::tile(16, 2);
+        let text = "daybook state 1\nscheme 2\nn 16\nf 2\n";
+        assert_eq!(test_layout(text.as_bytes(), layout), Ok(()));
+        let later = text.replace("state 1", "state 9");
+        assert!(test_layout(later.as_bytes(), layout)
+            .unwrap_err()
+            .contains("format version is 9"));
+        let other = text.replace("n 16", "n 8");
+        assert!(test_layout(other.as_bytes(), layout)
+            .unwrap_err()
+            .contains("scheme 2, N 16, F 2"));
+    }
+
+    #[test]
+    fn lines_of_the_index() {
+        let line = Line {
+            day: 7,
+            bytes: 3,
+            digest: digest(b"rye"),
+            names: "a.csv + b%2C.csv".to_string(),
+        };
+        let text = line.text();
+        assert_eq!(Line::parse(text.trim_end().as_bytes()), Some(line));
+        let no = |text: &str| assert_eq!(Line::parse(text.as_bytes()), None, "{text}");
+        no("");
+        no(&text);
+        no(&text.trim_end().replace("7,3", "07,3"));
+        no(&text.trim_end().replace("7,3", "65537,3"));
+        no(&text[..60]);
+        let longest = Line {
+            day: 65_536,
+            bytes: 16_777_216,
+            digest: [0; VALUE],
+            names: joined("", ["x".repeat(2000).as_str()].into_iter()),
+        };
+        assert_eq!(longest.text().len() as u64, LINE_MOST);
+    }
+
+    #[test]
+    fn names() {
+        assert_eq!(joined("", ["a", "b", "b"].into_iter()), "a + b");
+        assert_eq!(joined("a + b", ["b", "a"].into_iter()), "a + b + a");
+        assert_eq!(joined("a", std::iter::empty()), "a");
+        let long = joined(
+            "",
+            ["x".repeat(1000).as_str(), "yyyyyyyyyyyyyyyyyyyyyyyyyyy"].into_iter(),
+        );
+        assert_eq!(long.len(), NAMES_MOST);
+        assert!(long.ends_with("yyy..."));
+    }
+}

@@ -1,0 +1,89 @@
+//! A service kept in a folder, day by day: the commands `open`, `add`, `close` and `status`.
+//!
+//! A run takes the lock, reads all files and tests them against the record, and writes only what goes
+//! beyond the record. Then it commits: a new record takes the place of the old one. A run that is
+//! stopped leaves the state before or after that step, and the next run takes away the rest.
+
+mod build;
+mod day;
+mod digest;
+mod files;
+mod form;
+mod input;
+mod load;
+mod lock;
+mod sealed;
+
+use std::ffi::OsString;
+use std::path::Path;
+
+use daybook::Layout;
+
+use crate::commands::Done;
+use crate::stop::Stop;
+use load::State;
+use lock::Access;
+
+pub use sealed::Sealed;
+
+/// The files of a state folder. Beside them stands a file for the bytes of the open day.
+const LAYOUT: &str = "layout";
+const BOOK: &str = "book";
+const INDEX: &str = "index";
+const RECORD: &str = "record";
+const RECORD_NEW: &str = "record.new";
+const LOCK: &str = "lock";
+
+/// A command on a state folder.
+#[derive(Debug, PartialEq, Eq)]
+pub enum Service {
+    Open {
+        layout: Layout,
+    },
+    /// Adds files to the open day, which had `at` bytes before.
+    Add {
+        day: u32,
+        at: u32,
+        files: Vec<OsString>,
+    },
+    /// Closes the open day, of the files where there are some.
+    Close {
+        day: u32,
+        files: Vec<OsString>,
+    },
+    Status,
+}
+
+/// Whether a folder is a state folder, whole or not.
+pub fn is_state(folder: &Path) -> bool {
+    let has = |name: &str| folder.join(name).is_file();
+    has(LOCK) && (has(LAYOUT) || has(RECORD))
+}
+
+pub fn run(folder: &Path, service: &Service) -> Result<Done, Stop> {
+    let lines = match service {
+        Service::Open { layout } => build::open(folder, *layout).map(|()| String::new()),
+        Service::Add { day, at, files } => {
+            day::add(folder, *day, *at, files).map(|()| String::new())
+        }
+        Service::Close { day, files } => day::close(folder, *day, files).map(|()| String::new()),
+        Service::Status => status(folder),
+    };
+    Ok(Done {
+        lines: lines?,
+        changed: false,
+    })
+}
+
+fn status(folder: &Path) -> Result<String, Stop> {
+    let state = State::load(folder, Access::Look)?;
+    state.say_left();
+    let Layout { scheme, n, f } = state.layout();
+    let (days, open, values) = (state.days(), state.day.len(), state.values());
+    let checkable = state.checkable();
+    let interrupted = if state.interrupted() { "yes" } else { "no" };
+    Ok(format!(
+        "scheme {scheme}\nn {n}\nf {f}\ndays {days}\nopen {open}\nvalues {values}\n\
+         checkable {checkable}\ninterrupted {interrupted}\n"
+    ))
+}

@@ -1,0 +1,434 @@
+//! Stops a program before every call that writes, renames, truncates, syncs, makes or removes, by a
+//! kill, a full disk, a failing call and a power cut; then repeats it and compares what it leaves with
+//! an undisturbed run. `.ci/crash` builds what this needs and runs it.
+
+#[path = "../common/mod.rs"]
+mod common;
+mod explore;
+mod model;
+mod plain;
+
+use std::env;
+use std::fs;
+use std::path::PathBuf;
+
+use explore::{Bench, Step};
+use model::{put, tree, Call, Tree};
+use plain::{Asked, Plain};
+
+const PROGRAM: &str = env!("CARGO_BIN_EXE_daybook");
+
+/// What `.ci/crash` built.
+fn built(name: &str) -> PathBuf {
+    let path = env::var_os(name).unwrap_or_else(|| panic!("{name} is not set: run .ci/crash"));
+    PathBuf::from(path)
+}
+
+/// A bench whose files are removed at the end.
+fn bench(name: &str, program: impl Into<PathBuf>) -> Bench {
+    Bench::new(name, program.into(), built("CRASH_SHIM"))
+}
+
+fn file(tree: &mut Tree, path: &str, bytes: impl AsRef<[u8]>) {
+    tree.insert(path.to_string(), Some(bytes.as_ref().to_vec()));
+}
+
+/// The files that the days come from.
+fn sources() -> Tree {
+    let mut tree = Tree::new();
+    for (name, text) in [
+        ("a", "rye 12"),
+        ("b", "oats 7, wheat 40"),
+        ("c", "barley 3"),
+        ("none", ""),
+    ] {
+        file(&mut tree, name, text);
+    }
+    tree
+}
+
+/// Explores each step of a service in turn, from what the one before left.
+fn explore_all(bench: &Bench, start: Tree, steps: &[Step]) {
+    let (mut start, mut stops, mut cuts) = (start, 0, 0);
+    for step in steps {
+        let found = bench.explore(&start, step);
+        assert!(
+            found.differences.is_empty(),
+            "{}: {} differences, the first:\n{}",
+            step.line,
+            found.differences.len(),
+            found.differences[0]
+        );
+        stops += found.stops;
+        cuts += found.cuts;
+        start = found.after;
+    }
+    println!(
+        "crash: {}: {stops} stops, {cuts} states after power cuts, 0 differences",
+        bench.name
+    );
+}
+
+fn steps(lines: &[&str], look: &str) -> Vec<Step> {
+    lines.iter().map(|line| Step::new(line, look)).collect()
+}
+
+/// The steps of a service, each with others that may come next.
+fn service(lines: &[&str]) -> Vec<Step> {
+    let step = |line: &&str| {
+        let mut words = line.split(' ').skip_while(|word| *word != "--day");
+        let day: u32 = words.nth(1).map_or(0, |day| day.parse().unwrap());
+        let next = day + 1;
+        Step::new(line, "status s").or_next(&[
+            &format!("add s --day {day} --at 0 b"),
+            &format!("close s --day {day} c"),
+            &format!("close s --day {day}"),
+            &format!("add s --day {next} --at 0 b"),
+            &format!("close s --day {next} c"),
+        ])
+    };
+    lines.iter().map(step).collect()
+}
+
+#[test]
+#[ignore = "run by .ci/crash"]
+fn a_service_under_the_tree() {
+    let lines = [
+        "open s --scheme 3 --n 2 --f 1",
+        "open s --scheme 3 --n 2 --f 1",
+        "add s --day 1 --at 0 a",
+        "add s --day 1 --at 6 b c",
+        "add s --day 1 --at 6 b c",
+        "close s --day 1",
+        "close s --day 1",
+        "add s --day 1 --at 6 b",
+        "add s --day 2 --at 0 b",
+        "close s --day 2",
+        "close s --day 3 c",
+        "close s --day 3 c",
+        "close s --day 4",
+        "add s --day 5 --at 0 none",
+        "close s --day 5",
+    ];
+    let bench = bench("daybook-tree", PROGRAM);
+    explore_all(&bench, sources(), &service(&lines));
+}
+
+#[test]
+#[ignore = "run by .ci/crash"]
+fn a_service_under_tiles() {
+    let lines = [
+        "open s --scheme 2 --n 2 --f 1",
+        "close s --day 1 a",
+        "close s --day 2 b",
+        "add s --day 3 --at 0 a",
+        "close s --day 3",
+        "add s --day 4 --at 0 c",
+        "add s --day 4 --at 8 a",
+        "close s --day 4",
+        "close s --day 5 none",
+    ];
+    let mut start = sources();
+    start.insert("s".to_string(), None);
+    let bench = bench("daybook-tiles", PROGRAM);
+    explore_all(&bench, start, &service(&lines));
+}
+
+/// Outcomes and digests: where both are there, they are of one run.
+#[test]
+#[ignore = "run by .ci/crash"]
+fn outcomes_with_their_digests() {
+    let bench = bench("daybook-check", PROGRAM);
+    let mut start = sources();
+    start.insert("in".to_string(), None);
+    for day in ["1", "2", "3", "4"] {
+        file(&mut start, &format!("in/{day}"), day);
+    }
+    let layout = "--scheme 2 --n 2 --f 1 --days in";
+    let seal = Step::new(&format!("seal {layout} --book book"), "status none");
+    let (_, mut sealed) = bench.traced(&start, &seal);
+    explore_all(&bench, start, &[seal]);
+    // of another run, and of other lengths, to be told apart
+    file(&mut sealed, "table", [9; 7]);
+    file(&mut sealed, "sums", [9; 9]);
+    let check = format!("check {layout} --book book --outcomes table --digests sums");
+    let together = |tree: &Tree| match (tree.get("table"), tree.get("sums")) {
+        (Some(Some(table)), Some(Some(sums))) => (table.len() == 7) == (sums.len() == 9),
+        _ => true,
+    };
+    assert!(together(&sealed));
+    let step = Step::new(&check, "status none").holding(together);
+    explore_all(&bench, sealed, &[step]);
+}
+
+/// The shim sees every call: strace, where there is one, counts as many.
+#[test]
+#[ignore = "run by .ci/crash"]
+fn no_call_escapes_the_shim() {
+    let daybook = bench("strace", PROGRAM);
+    let rust = bench("strace-rust", built("CRASH_RUST_EXAMPLE"));
+    let c = bench("strace-c", built("CRASH_C_EXAMPLE"));
+    let opened = |bench: &Bench, line: &str| bench.traced(&sources(), &Step::new(line, "")).1;
+    let cases = [
+        (
+            &daybook,
+            "open s --scheme 3 --n 1 --f 1",
+            "add s --day 1 --at 0 a",
+        ),
+        (
+            &daybook,
+            "open s --scheme 3 --n 1 --f 1",
+            "close s --day 1 a",
+        ),
+        (&rust, "open s", "close s 1 rye"),
+        (&c, "open s", "close s 1 rye"),
+    ];
+    for (bench, open, line) in cases {
+        let start = opened(bench, open);
+        for (start, line) in [(&sources(), open), (&start, line)] {
+            match bench.counted(start, line) {
+                (_, None) => return println!("crash: no strace here: its count left out"),
+                // the message on standard output is by stdio, which the shim does not see
+                (seen, Some(traced)) if bench.name == "strace-c" => assert_eq!(seen + 1, traced),
+                (seen, Some(traced)) => assert_eq!(seen, traced, "{}: {line}", bench.name),
+            }
+        }
+    }
+    println!("crash: strace counts the same calls");
+}
+
+/// The example in Rust.
+#[test]
+#[ignore = "run by .ci/crash"]
+fn the_example_in_rust() {
+    let lines = [
+        "open s",
+        "open s",
+        "close s 1 rye",
+        "close s 1 rye",
+        "close s 2 oats",
+        "close s 3 wheat",
+        "close s 4 barley",
+    ];
+    let bench = bench("example-rust", built("CRASH_RUST_EXAMPLE"));
+    explore_all(&bench, Tree::new(), &steps(&lines, "status s"));
+}
+
+/// The example in C.
+#[test]
+#[ignore = "run by .ci/crash"]
+fn the_example_in_c() {
+    let lines = [
+        "open s",
+        "open s",
+        "close s 1 rye",
+        "close s 1 rye",
+        "close s 2 oats",
+        "close s 3 wheat",
+        "close s 4 barley",
+    ];
+    let bench = bench("example-c", built("CRASH_C_EXAMPLE"));
+    explore_all(&bench, Tree::new(), &steps(&lines, "status s"));
+}
+
+/// The test bites: a program that commits in the wrong order is found out, one in the right order is
+/// not.
+#[test]
+#[ignore = "run by .ci/crash"]
+fn wrong_orders_are_found() {
+    let bench = bench("toy", built("CRASH_TOY"));
+    let mut start = Tree::new();
+    file(&mut start, "record", "1");
+    file(&mut start, "book", "one.");
+    for (order, by) in [
+        ("sound", None),
+        ("in-place", Some("killed before call")),
+        ("record-first", Some("killed before call")),
+        ("unsynced", Some("power cut")),
+    ] {
+        let step = Step::new(&format!("{order} 2 two."), "look");
+        let found = bench.explore(&start, &step);
+        let seen = |by: &str| found.differences.iter().any(|text| text.contains(by));
+        match by {
+            None => assert!(found.differences.is_empty(), "{}", found.differences[0]),
+            Some(by) => assert!(seen(by), "{order}: {:?}", found.differences),
+        }
+        println!(
+            "crash: the toy {order} shows {} differences",
+            found.differences.len()
+        );
+    }
+}
+
+/// Each sync counts: a run that leaves one out is found out.
+#[test]
+#[ignore = "run by .ci/crash"]
+fn each_sync_counts() {
+    let bench = bench("syncs", PROGRAM);
+    let mut start = sources();
+    for (line, syncs) in [
+        (
+            "open s --scheme 3 --n 2 --f 1",
+            &["/layout", "/record", ".tmp", ""][..],
+        ),
+        (
+            "add s --day 1 --at 0 a",
+            &["s/day-1", "s/record.new", "s"][..],
+        ),
+        (
+            "close s --day 1",
+            &["s/book", "s/index", "s/record.new", "s"][..],
+        ),
+    ] {
+        let step = Step::new(line, "status s");
+        let (calls, after) = bench.traced(&start, &step);
+        assert!(bench.power_cuts(&start, &step, &calls, &after).is_empty());
+        for sync in syncs {
+            let left_out = |call: &Call| match call {
+                Call::Sync(path) if sync.is_empty() => path.is_empty(),
+                Call::Sync(path) => path.ends_with(sync),
+                _ => false,
+            };
+            let others: Vec<Call> = calls
+                .iter()
+                .filter(|call| !left_out(call))
+                .cloned()
+                .collect();
+            assert!(others.len() < calls.len(), "{line} has no sync of {sync}");
+            let found = bench.power_cuts(&start, &step, &others, &after);
+            assert!(
+                !found.is_empty(),
+                "{line}: the sync of {sync} has no weight"
+            );
+        }
+        // a repeat that finds its step done must flush the folder too
+        let flushed =
+            |call: &Call| !matches!(call, Call::Sync(path) if path.is_empty() || path == "s");
+        let found = bench.power_cuts_after_repeats(&start, &step, &calls, &after, flushed);
+        assert!(!found.is_empty(), "{line}: a repeat's flush has no weight");
+        start = after;
+    }
+    println!("crash: each flush of open, add and close that is left out is found");
+}
+
+/// Numbers from a fixed seed (xorshift).
+struct Random(u64);
+
+impl Random {
+    fn below(&mut self, end: u64) -> u64 {
+        self.0 ^= self.0 << 13;
+        self.0 ^= self.0 >> 7;
+        self.0 ^= self.0 << 17;
+        self.0 % end
+    }
+}
+
+/// Commands at random, many of them killed, against a plain account of what they are to do.
+#[test]
+#[ignore = "run by .ci/crash"]
+fn commands_at_random() {
+    let bench = bench("random", PROGRAM);
+    put(&bench.root, &Tree::new());
+    assert_eq!(bench.run("open s --scheme 3 --n 1 --f 1").status, Some(0));
+    let mut random = Random(0x2545_f491_4f6c_dd1d);
+    let mut plain = Plain::default();
+    let (mut kills, mut statuses) = (0, [0; 4]);
+    for number in 0..RUNS {
+        let asked = Asked::random(&plain, &mut |end| random.below(end));
+        let line = asked.line(&bench.root);
+        let (status, after) = plain.asked(&asked);
+        if random.below(3) == 0 {
+            let ran = bench.stopped(&line, 1 + random.below(CALLS), "kill");
+            if ran.status.is_none() {
+                kills += 1;
+                // before or after it: the rest goes on from there
+                if plain::status(&bench) == after.numbers() {
+                    plain = after;
+                }
+                assert_eq!(plain::status(&bench), plain.numbers(), "{number}: {line}");
+                continue;
+            }
+            assert_eq!(
+                ran.status,
+                Some(status),
+                "{number}: {line}: {}",
+                ran.messages
+            );
+        } else {
+            let ran = bench.run(&line);
+            assert_eq!(
+                ran.status,
+                Some(status),
+                "{number}: {line}: {}",
+                ran.messages
+            );
+        }
+        plain = after;
+        statuses[status as usize] += 1;
+        assert_eq!(plain::status(&bench), plain.numbers(), "{number}: {line}");
+    }
+    let days = plain.days();
+    let read = |name: &str| fs::read(bench.root.join(name)).unwrap();
+    let sealed = common::book(daybook::Layout::tree(1), &days);
+    assert!(read("s/book") == sealed, "the book is another one");
+    let index = String::from_utf8(read("s/index")).unwrap();
+    assert_eq!(index.lines().count(), days.len());
+    for (line, (number, day)) in index.lines().zip(days.iter().enumerate()) {
+        let digest = common::hex(&common::digest(day));
+        let front = format!("{},{},{digest},", number + 1, day.len());
+        assert!(line.starts_with(&front), "{line}");
+    }
+    println!(
+        "crash: {RUNS} commands at random: {} done, {} faults, {kills} kills, {} days, as told",
+        statuses[0],
+        statuses[3],
+        days.len()
+    );
+}
+
+const RUNS: usize = 1000;
+const DAYS: u64 = 3000;
+const STOPS: usize = 200;
+/// The calls of a close, from its first sync to its last message.
+const CALLS: u64 = 14;
+
+/// Three thousand days, each closed by a run of its own, two hundred runs killed: the book is that of
+/// one `seal`.
+#[test]
+#[ignore = "run by .ci/crash"]
+fn three_thousand_days() {
+    let bench = bench("days", PROGRAM);
+    put(&bench.root, &Tree::new());
+    fs::create_dir(bench.root.join("in")).unwrap();
+    let mut random = Random(0x9e37_79b9_7f4a_7c15);
+    for day in 1..=DAYS {
+        let length = random.below(100) as usize;
+        let bytes: Vec<u8> = (0..length).map(|_| random.below(256) as u8).collect();
+        fs::write(bench.root.join(format!("in/{day:04}")), bytes).unwrap();
+    }
+    let mut stopped = std::collections::BTreeSet::new();
+    while stopped.len() < STOPS {
+        stopped.insert(1 + random.below(DAYS));
+    }
+    let layout = "--scheme 3 --n 8 --f 1";
+    assert_eq!(bench.run(&format!("open s {layout}")).status, Some(0));
+    let mut kills = 0;
+    for day in 1..=DAYS {
+        let line = format!("close s --day {day} in/{day:04}");
+        if stopped.contains(&day) {
+            let ran = bench.stopped(&line, 1 + random.below(CALLS), "kill");
+            kills += usize::from(ran.status.is_none());
+        }
+        let ran = bench.run(&line);
+        assert_eq!(ran.status, Some(0), "{line}: {}", ran.messages);
+    }
+    assert_eq!(kills, STOPS);
+    let seal = format!("seal {layout} --days in --book sealed");
+    assert_eq!(bench.run(&seal).status, Some(0));
+    let read = |name: &str| fs::read(bench.root.join(name)).unwrap();
+    assert!(read("s/book") == read("sealed"), "the books differ");
+    let lines = String::from_utf8(read("s/index")).unwrap();
+    assert_eq!(lines.lines().count() as u64, DAYS);
+    assert!(!tree(&bench.root).keys().any(|path| path.contains(".new")));
+    println!("crash: {DAYS} days, {kills} kills: the book of one seal");
+}

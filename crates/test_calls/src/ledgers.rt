@@ -1,0 +1,66 @@
+// The calls on a ledger of 24 days: its values are counted, it is sealed, checked with day 10 altered, and read.
+use crate::lines;
+use test_samples::days;
+use test_samples::lent;
+ghost use Prim.Native.Nat.{_≤_};
+ghost use lib.ListN.{length};
+
+fn values() {
+    let mut values = 99u32;
+    lines::head(
+        b"values",
+        daybook_c::daybook_values(2, 8, 3, 24, &mut values),
+    );
+    lines::numbers(&[values]);
+    lines::end();
+}
+
+fn seal(ledger: &[u8], ends: &[u32], book: &mut [u8])
+    requires { ⌜ 32 ≤ length (now book) ⌝ }
+{
+    lines::head(
+        b"seal",
+        daybook_c::daybook_seal(2, 8, 3, 24, ledger, ends, book),
+    );
+    lines::bytes(&book[0..32]);
+    lines::end();
+}
+
+fn check(ledger: &[u8], ends: &[u32], book: &[u8], outcomes: &mut [u8]) {
+    let mut work = [170u8; 800];
+    let returned = daybook_c::daybook_check(2, 8, 3, 24, ledger, ends, book, &mut work, outcomes);
+    lines::head(b"check", returned);
+    lines::bytes(&work[0..32]);
+    lines::bytes(outcomes);
+    lines::end();
+}
+
+fn read(outcomes: &[u8]) {
+    let mut list = [99u32; 30];
+    let mut numbers = [98u32; 5];
+    lines::head(
+        b"read",
+        daybook_c::daybook_read(2, 8, 3, 24, outcomes, &mut list, &mut numbers),
+    );
+    lines::numbers(&[numbers[0], numbers[1], numbers[2], numbers[3], numbers[4]]);
+    lines::numbers(&list);
+    lines::end();
+}
+
+// The book has room for more than its 15 values, the outcomes for more than 15.
+fn seal_check_read(ledger: &mut [u8], ends: &[u32]) {
+    let mut book = [170u8; 500];
+    let mut outcomes = [170u8; 20];
+    seal(ledger, ends, &mut book);
+    lent::flip(ledger, days::start(ends, 10));
+    check(ledger, ends, &book, &mut outcomes);
+    read(&outcomes);
+}
+
+pub fn run() {
+    let mut ledger = [0u8; 1400];
+    let mut ends = [0u32; 24];
+    days::put_all(&mut ledger, &mut ends);
+    values();
+    seal_check_read(&mut ledger, &ends);
+}

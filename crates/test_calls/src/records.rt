@@ -1,0 +1,60 @@
+// The calls on a record: it is opened, nine days of 130 bytes are added and closed, and its values are counted.
+use crate::lines;
+use test_samples::days;
+
+// The lowest bytes of the five numbers.
+fn print_numbers(state: &[u8; 692]) {
+    lines::bytes(&[state[0], state[4], state[8], state[12], state[16]]);
+}
+
+fn open(state: &mut [u8; 692]) {
+    lines::head(b"open", daybook_c::daybook_open(2, 8, 3, state));
+    print_numbers(state);
+    lines::end();
+}
+
+fn add(state: &mut [u8; 692], g: usize) {
+    let piece = days::bytes(g);
+    lines::head(b"add", daybook_c::daybook_add(state, &piece));
+    print_numbers(state);
+    lines::end();
+}
+
+// The part has more than the five values of a whole tile.
+fn close(state: &mut [u8; 692]) {
+    let mut part = [170u8; 200];
+    let mut values = 99u32;
+    lines::head(
+        b"close",
+        daybook_c::daybook_close(state, &mut part, &mut values),
+    );
+    lines::numbers(&[values]);
+    lines::bytes(&part[0..32]);
+    lines::end();
+}
+
+fn days(state: &mut [u8; 692]) {
+    let mut g = 1usize;
+    while g < 10 {
+        add(state, g);
+        close(state);
+        g += 1;
+    }
+}
+
+fn record_values(state: &[u8; 692]) {
+    let mut values = 99u32;
+    lines::head(
+        b"record_values",
+        daybook_c::daybook_record_values(state, &mut values),
+    );
+    lines::numbers(&[values]);
+    lines::end();
+}
+
+pub fn run() {
+    let mut state = [170u8; 692];
+    open(&mut state);
+    days(&mut state);
+    record_values(&state);
+}

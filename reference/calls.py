@@ -1,0 +1,70 @@
+"""Expected output: each call for C, its arguments by position.
+
+Scheme 2, N 8, F 3.  A record is opened, nine days of 130 bytes are added and
+closed, and its values are counted.  Then a ledger of the first 24 days of
+thousand.py, with zeros behind up to 1,400 bytes: its values are counted, it is
+sealed, checked with the lowest bit altered in the first byte of day 10, and
+read.  Last the version.
+
+A line is the call, what it returned and what it wrote: of a record the lowest
+bytes of its five numbers, of a close the number of values and the first 32
+bytes of a part of 200, of a book of 500 bytes and of a work buffer of 800 the
+first 32, all 20 outcomes, the five numbers and all 30 places of a list.  A byte not written is
+170 (aa), a number 99, one of the five 98.
+"""
+
+import daybook
+import record
+import thousand
+from pattern import day_bytes
+
+SETTINGS = 2, 8, 3
+DAYS = 24
+
+
+def line(name, returned, *written):
+    """Bytes as hexadecimal digits, numbers as decimals."""
+    return " ".join([name, str(returned), *(
+        x.hex() if isinstance(x, (bytes, bytearray)) else str(x)
+        for x in written)])
+
+
+def record_lines():
+    refusal, data = record.open_service(*SETTINGS)
+    out = [line("open", refusal, data[:20:4])]
+    for g in range(1, 10):
+        refusal, data = record.add(data, day_bytes(g, 130))
+        out.append(line("add", refusal, data[:20:4]))
+        refusal, data, values = record.close(data, 200)
+        part = b"".join(values) + bytes([170]) * 200
+        out.append(line("close", refusal, len(values), part[:32]))
+    return out + [line("record_values", *record.record_values(data))]
+
+
+def ledger_lines():
+    ledger = bytearray(b"".join(thousand.days()[:DAYS]).ljust(1400, b"\0"))
+    ends = [0]
+    for day in thousand.days()[:DAYS]:
+        ends.append(ends[-1] + len(day))
+    settings = *SETTINGS, DAYS
+    out = [line("values", *daybook.number_of_values(*settings))]
+    book = bytearray([170]) * 500
+    refusal = daybook.seal(*settings, ledger, ends[1:], book)
+    out.append(line("seal", refusal, book[:32]))
+    ledger[ends[9]] ^= 1
+    work, outcomes = bytearray([170]) * 800, bytearray([170]) * 20
+    refusal = daybook.check(*settings, ledger, ends[1:], book, work, outcomes)
+    out.append(line("check", refusal, work[:32], outcomes))
+    places = [99] * 30
+    found = daybook.read(*settings, outcomes, places)
+    return out + [line("read", found.refusal, found.listed, found.first,
+                       found.low, found.high, found.last_good, *places)]
+
+
+def lines():
+    return record_lines() + ledger_lines() + [line("version",
+                                                   daybook.VERSION)]
+
+
+if __name__ == "__main__":
+    print("\n".join(lines()))
