@@ -26,8 +26,8 @@ pub struct Fit<'a> {
 
 impl Fit<'_> {
     /// D where it is not given: the days found, if D may be so many. Else the greatest D below, if
-    /// the book has as many values as the days found have, no more and no fewer, and the names leave
-    /// no doubt that the first D are its days.
+    /// the book's length is that of the days found and of no other number of days, and the names
+    /// leave no doubt that the first D are its days.
     pub fn d(&self) -> u32 {
         let step = self.step();
         if self.found.is_multiple_of(step) || !self.agrees() || !self.named() {
@@ -43,9 +43,10 @@ impl Fit<'_> {
         self.layout.f * self.layout.n
     }
 
-    /// Whether the book's length is that of the days found.
+    /// Whether the book's length is that of the days found alone: where days between two values are
+    /// not in it, a file too many cannot be told.
     fn agrees(&self) -> bool {
-        self.found <= DAYS_LIMIT && self.days().is_some_and(|days| days.contains(&self.found))
+        self.found <= DAYS_LIMIT && self.days() == Some(self.found..=self.found)
     }
 
     fn named(&self) -> bool {
@@ -234,16 +235,14 @@ mod tests {
     fn d_from_the_book() {
         let d = |files, values| fit(TILE, &numbered(1..=files), values).d();
         assert_eq!(d(64, 24), 64);
-        // the book of 64 to 79 days
-        assert_eq!(d(65, 24), 64);
-        assert_eq!(d(79, 24), 64);
+        // the book of 64 to 79 days: it does not tell whether a file is too many
+        assert_eq!(d(65, 24), 65);
+        assert_eq!(d(79, 24), 79);
         // values of a day beyond, or of fewer days: no D is made up
         assert_eq!(d(80, 24), 80);
         assert_eq!(d(63, 24), 63);
         assert_eq!(d(65, 25), 65);
-        // the book of 48 to 63 days
-        assert_eq!(d(48, 18), 32);
-        assert_eq!(d(63, 18), 32);
+        assert_eq!(d(48, 18), 48);
         assert_eq!(d(31, 6), 31);
         assert_eq!(d(0, 0), 0);
         let tree = |files, values| fit(Layout::tree(4), &numbered(1..=files), values).d();
@@ -251,19 +250,24 @@ mod tests {
         assert_eq!(tree(9, 16), 8);
         assert_eq!(tree(9, 15), 9);
         assert_eq!(tree(9, 17), 9);
+        // a value a day
+        let black = |files, values| fit(Layout::black(1, 4), &numbered(1..=files), values).d();
+        assert_eq!(black(9, 9), 8);
+        assert_eq!(black(9, 8), 9);
     }
 
     #[test]
     fn doubtful_names_give_no_d() {
+        let black = Layout::black(1, 32);
         let mut names = numbered(1..=64);
         names.insert(0, ".swp".into());
-        assert_eq!(fit(TILE, &names, 24).d(), 65);
+        assert_eq!(fit(black, &names, 65).d(), 65);
         let mut names = numbered(1..=66);
         names.remove(9);
-        assert_eq!(fit(TILE, &names, 24).d(), 65);
+        assert_eq!(fit(black, &names, 65).d(), 65);
         let ends = Fit {
             names: None,
-            ..fit(TILE, &names, 24)
+            ..fit(black, &names, 65)
         };
         assert_eq!(ends.d(), 64);
     }

@@ -105,8 +105,8 @@ passes; 1: some value fails.
   --scheme S --n N --f F   the layout that the book was sealed under
   --d D                    check the first D days (else: all days of the source, and the book must
                            then have no more values than these have; where D cannot be so many, but
-                           the book's length is that of all days and the names of the files are
-                           numbered without a gap: the greatest D below)
+                           the book's length is that of all days and of no other number, and the
+                           names of the files are numbered without a gap: the greatest D below)
   --book FILE              the book
   --state DIR              layout and book of this state folder; D is then the greatest that is
                            allowed and not above the days closed
