@@ -75,12 +75,13 @@ void check_job(void *arg) {
 
 static size_t close_day(struct books *b, uint8_t *record, uint32_t day, size_t at) {
   size_t size = day_size(&b->ledger, day);
-  uint32_t values, r = DAYBOOK_DONE;
+  uint32_t values, added = 0, closed, r = DAYBOOK_DONE;
   if (size > 0)
-    r = daybook_add(record, b->ledger.bytes + day_start(&b->ledger, day), size);
+    r = daybook_add(record, b->ledger.bytes + day_start(&b->ledger, day), size, &added);
   require(r == DAYBOOK_DONE, "daybook_add refused");
-  r = daybook_close(record, b->book + 32 * at, 32 * (b->values - at), &values);
+  r = daybook_close(record, b->book + 32 * at, 32 * (b->values - at), &values, &closed);
   require(r == DAYBOOK_DONE, "daybook_close refused");
+  b->blocks += added + closed;
   return at + values;
 }
 
@@ -88,6 +89,7 @@ void close_job(void *arg) {
   struct books *b = arg;
   uint8_t record[DAYBOOK_RECORD];
   size_t at = 0;
+  b->blocks = 0;
   require(daybook_open(b->scheme, b->n, 1, record) == DAYBOOK_DONE, "daybook_open refused");
   for (uint32_t day = 1; day <= b->ledger.days; day++)
     at = close_day(b, record, day, at);
@@ -117,10 +119,24 @@ static void compare_altered(struct books *b) {
   free(outcomes);
 }
 
+/* The blocks of the calls and those forecast are those that the model has compressed. */
+static void compare_blocks(const struct books *b) {
+  uint32_t d = b->ledger.days, *lengths = room(d * sizeof *lengths);
+  uint64_t sizes[3];
+  for (uint32_t day = 1; day <= d; day++)
+    lengths[day - 1] = (uint32_t)day_size(&b->ledger, day);
+  require(daybook_forecast(b->scheme, b->n, 1, d, lengths, d, sizes) == DAYBOOK_DONE, "daybook_forecast refused");
+  require(b->blocks == model_compressed(), "the blocks of daybook_add and daybook_close are wrong");
+  require(sizes[2] == model_compressed(), "the blocks of daybook_forecast are wrong");
+  require(sizes[0] == b->values && sizes[1] == 32 * b->values, "the sizes of daybook_forecast are wrong");
+  free(lengths);
+}
+
 void compare_books(struct books *b) {
   uint8_t *book = room(32 * b->values);
   require(model_book(b->scheme, b->n, &b->ledger, book) == b->values, "daybook_values is wrong");
   close_job(b);
+  compare_blocks(b);
   require(memcmp(b->book, book, 32 * b->values) == 0, "the book of daybook_close is wrong");
   memset(b->book, 0, 32 * b->values);
   seal_job(b);

@@ -12,6 +12,7 @@ struct books {
   struct ledger ledger;
   size_t ledger_size;
   size_t values;
+  size_t blocks; /* compressed by the last close_job */
   uint8_t *book;
   uint8_t *work;
   uint8_t *outcomes;

@@ -43,19 +43,30 @@ static int stores_black(uint32_t scheme, uint32_t n, uint32_t day) {
   return day % n == 0 && !once;
 }
 
+/* The blocks that model_book has compressed. */
+static size_t compressed;
+
+static void counted_blocks(uint32_t h[8], const uint8_t *bytes, size_t count) {
+  compressed += count;
+  unrolled_blocks(h, bytes, count);
+}
+
 static void link_day(uint8_t value[32], const uint8_t day_digest[32]) {
   uint8_t m[64];
   memcpy(m, value, 32);
   memcpy(m + 32, day_digest, 32);
-  digest(unrolled_blocks, 1, m, 64, value);
+  digest(counted_blocks, 1, m, 64, value);
 }
+
+size_t model_compressed(void) { return compressed; }
 
 size_t model_book(uint32_t scheme, uint32_t n, const struct ledger *ledger, uint8_t *book) {
   uint8_t black[32] = {0}, chain[LEVELS][32] = {{0}}, h[32];
   uint32_t count = chain_count(scheme, n);
   size_t values = 0;
+  compressed = 0;
   for (uint32_t day = 1; day <= ledger->days; day++) {
-    digest(unrolled_blocks, 0, ledger->bytes + day_start(ledger, day), day_size(ledger, day), h);
+    digest(counted_blocks, 0, ledger->bytes + day_start(ledger, day), day_size(ledger, day), h);
     link_day(black, h);
     for (uint32_t i = 0; i < count; i++) {
       if (takes(scheme, n, i, day))

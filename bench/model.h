@@ -16,6 +16,9 @@ size_t model_book(uint32_t scheme, uint32_t n, const struct ledger *ledger, uint
 size_t model_outcomes(uint32_t scheme, uint32_t n, uint32_t days, const uint8_t *changed, uint8_t *outcomes);
 size_t model_list(uint32_t scheme, uint32_t n, uint32_t days, const uint8_t *changed, uint32_t *list);
 
+/* The SHA-256 blocks that the last model_book compressed, counted. */
+size_t model_compressed(void);
+
 /* Blocks that sealing takes, where a day is of one block: one for its digest, two for each link. */
 size_t model_blocks(uint32_t scheme, uint32_t n, uint32_t days);
 

@@ -5,7 +5,7 @@
  *
  * What the caller must keep, since C cannot be made to keep it:
  *  - each pointer is valid for its length (given in elements, not bytes), for reading, and for
- *    writing where it is not const; uint32_t arrays are aligned as C aligns them;
+ *    writing where it is not const; uint32_t and uint64_t arrays are aligned as C aligns them;
  *  - no array that a call writes overlaps another array of that call;
  *  - nothing else writes to these arrays until the call returns.
  * A pointer of length 0 may be null. A record may be anything: every array of DAYBOOK_RECORD bytes
@@ -22,8 +22,8 @@ extern "C" {
 #endif
 
 /* The version of this header: 10000 * major + 100 * minor + patch, and as text. */
-#define DAYBOOK_VERSION 200
-#define DAYBOOK_VERSION_TEXT "0.2.0"
+#define DAYBOOK_VERSION 300
+#define DAYBOOK_VERSION_TEXT "0.3.0"
 
 /* The bytes of a record. To be kept on disk as it is: no padding, the same on every machine.
  * Numbers are 32 bits, little-endian:
@@ -66,7 +66,9 @@ enum daybook_refusal {
   DAYBOOK_SHORT_BOOK = 11,       /* fewer than 32 bytes a value */
   DAYBOOK_FEW_OUTCOMES = 12,     /* fewer outcomes than values */
   DAYBOOK_BAD_OUTCOME = 13,      /* an outcome is neither 0 nor 1 */
-  DAYBOOK_IMPOSSIBLE_TABLE = 14  /* no set of changed days gives the outcomes */
+  DAYBOOK_IMPOSSIBLE_TABLE = 14, /* no set of changed days gives the outcomes */
+  DAYBOOK_FEW_LENGTHS = 16,      /* fewer than D lengths of days */
+  DAYBOOK_LONG_DAY = 17          /* one of the first D lengths is over the day's limit */
 };
 
 /* What a refusal says, in words. */
@@ -89,6 +91,8 @@ static inline const char *daybook_refusal_text(uint32_t number) {
   case DAYBOOK_FEW_OUTCOMES: return "there are fewer outcomes than values";
   case DAYBOOK_BAD_OUTCOME: return "an outcome is neither 0 nor 1";
   case DAYBOOK_IMPOSSIBLE_TABLE: return "no set of changed days gives these outcomes";
+  case DAYBOOK_FEW_LENGTHS: return "there are fewer than D lengths of days";
+  case DAYBOOK_LONG_DAY: return "the length of a day is over 16,777,216 bytes";
   default: return "a number that is no refusal";
   }
 }
@@ -96,13 +100,16 @@ static inline const char *daybook_refusal_text(uint32_t number) {
 /* Open a service: writes its record. Refusals 1 2 3, in that order. */
 uint32_t daybook_open(uint32_t scheme, uint32_t n, uint32_t f, uint8_t record[DAYBOOK_RECORD]);
 
-/* Add a piece to the open day. Refusals 6 5 4. */
-uint32_t daybook_add(uint8_t record[DAYBOOK_RECORD], const uint8_t *piece, size_t piece_len);
+/* Add a piece to the open day; to blocks[0] the SHA-256 blocks that this compressed: those that the
+ * piece filled. Refusals 6 5 4. */
+uint32_t daybook_add(uint8_t record[DAYBOOK_RECORD], const uint8_t *piece, size_t piece_len,
+                     uint32_t blocks[1]);
 
-/* Close the open day: writes its values to the front of part, 32 bytes each, and their number to
- * values[0]; the rest of part stays. Refusals 6 5 8. */
+/* Close the open day: writes its values to the front of part, 32 bytes each, their number to
+ * values[0], and to blocks[0] the SHA-256 blocks that this compressed; the rest of part stays.
+ * Refusals 6 5 8. */
 uint32_t daybook_close(uint8_t record[DAYBOOK_RECORD], uint8_t *part, size_t part_len,
-                       uint32_t values[1]);
+                       uint32_t values[1], uint32_t blocks[1]);
 
 /* Seal a ledger of D days: writes its book to the front of book; the rest stays. ends[d - 1] is where
  * day d ends in the ledger; day 1 starts at 0, every other day where the one before ends.
@@ -152,6 +159,13 @@ uint32_t daybook_values(uint32_t scheme, uint32_t n, uint32_t f, uint32_t d, uin
 /* The number of values of the days that a record has closed, to values[0], whether or not they make
  * whole intervals: what its closes have written so far. Refusal 6. */
 uint32_t daybook_record_values(const uint8_t record[DAYBOOK_RECORD], uint32_t values[1]);
+
+/* Size a season before it is sealed, from the lengths of its days in bytes: to sizes[0] the values of
+ * the book, to sizes[1] its bytes, to sizes[2] the SHA-256 blocks that the adds and closes of days 1
+ * to D compress in all. Nothing is hashed, and lengths past D are not read.
+ * Refusals 1 2 3 7 16 17. */
+uint32_t daybook_forecast(uint32_t scheme, uint32_t n, uint32_t f, uint32_t d,
+                          const uint32_t *lengths, size_t lengths_len, uint64_t sizes[3]);
 
 /* The version of the archive, as DAYBOOK_VERSION is that of this header. */
 uint32_t daybook_version(void);

@@ -2,15 +2,17 @@
 
 Scheme 2, N 8, F 3.  A record is opened, nine days of 130 bytes are added and
 closed, and its values are counted.  Then a ledger of the first 24 days of
-thousand.py, with zeros behind up to 1,400 bytes: its values are counted, it is
-sealed, checked with the lowest bit altered in the first byte of day 10, and
+thousand.py, with zeros behind up to 1,400 bytes: its values are counted, a
+season of days of 130 bytes, 30 lengths lent, is sized, the ledger is sealed,
+checked with the lowest bit altered in the first byte of day 10, and
 read.  Last the version.
 
 A line is the call, what it returned and what it wrote: of a record the lowest
-bytes of its five numbers, of a close the number of values and the first 32
-bytes of a part of 200, of a book of 500 bytes and of a work buffer of 800 the
-first 32, all 20 outcomes, the five numbers and all 30 places of a list.  A byte not written is
-170 (aa), a number 99, one of the five 98.
+bytes of its five numbers, the blocks of an add, of a close the number of
+values, the blocks and the first 32 bytes of a part of 200, the three sizes, of
+a book of 500 bytes and of a work buffer of 800 the first 32, all 20 outcomes,
+the five numbers and all 30 places of a list.  A byte not written is 170 (aa),
+a number 99, one of the five 98, of blocks 97, a size 96.
 """
 
 import daybook
@@ -33,11 +35,13 @@ def record_lines():
     refusal, data = record.open_service(*SETTINGS)
     out = [line("open", refusal, data[:20:4])]
     for g in range(1, 10):
+        blocks = record.add_blocks(data, day_bytes(g, 130))
         refusal, data = record.add(data, day_bytes(g, 130))
-        out.append(line("add", refusal, data[:20:4]))
+        out.append(line("add", refusal, data[:20:4], blocks))
+        blocks = record.close_blocks(data)
         refusal, data, values = record.close(data, 200)
         part = b"".join(values) + bytes([170]) * 200
-        out.append(line("close", refusal, len(values), part[:32]))
+        out.append(line("close", refusal, len(values), blocks, part[:32]))
     return out + [line("record_values", *record.record_values(data))]
 
 
@@ -47,7 +51,8 @@ def ledger_lines():
     for day in thousand.days()[:DAYS]:
         ends.append(ends[-1] + len(day))
     settings = *SETTINGS, DAYS
-    out = [line("values", *daybook.number_of_values(*settings))]
+    out = [line("values", *daybook.number_of_values(*settings)),
+           line("forecast", *daybook.forecast(*settings, [130] * 30))]
     book = bytearray([170]) * 500
     refusal = daybook.seal(*settings, ledger, ends[1:], book)
     out.append(line("seal", refusal, book[:32]))

@@ -7,6 +7,7 @@ numbers and the means to make a call and compare it.
 import hashlib
 import struct
 from array import array
+from itertools import accumulate
 
 import daybook
 import record
@@ -300,11 +301,11 @@ class ByRecord:
     def __init__(self, settings):
         self.bytes = record.open_service(*settings)[1]
 
-    def add(self, old, piece):
-        return want_add(old, piece)
+    def add(self, old, piece, blocks):
+        return want_add(old, piece, blocks)
 
-    def close(self, old, part, values):
-        return want_close(old, part, values)
+    def close(self, old, part, values, blocks):
+        return want_close(old, part, values, blocks)
 
 
 class ByDaybook:
@@ -313,15 +314,19 @@ class ByDaybook:
     def __init__(self, settings):
         self.record = daybook.open_service(*settings)[1]
 
-    def add(self, old, piece):
-        refusal, self.record = daybook.add(self.record, piece)
-        return refusal, (record.from_daybook(self.record), piece)
+    def add(self, old, piece, blocks):
+        before = self.record
+        refusal, self.record = daybook.add(before, piece)
+        return refusal, (record.from_daybook(self.record), piece, blocks
+                         if refusal else (daybook.add_blocks(before, piece),))
 
-    def close(self, old, part, values):
-        after = bytearray(part)
-        refusal, self.record, count = daybook.close(self.record, after)
+    def close(self, old, part, values, blocks):
+        before, after = self.record, bytearray(part)
+        refusal, self.record, count = daybook.close(before, after)
+        numbers = (values, blocks) if refusal \
+            else ((count,), (daybook.close_blocks(before),))
         return refusal, (record.from_daybook(self.record), bytes(after),
-                         values if refusal else (count,))
+                         *numbers)
 
 
 class History:
@@ -337,14 +342,19 @@ class History:
         self.service = service(self.settings)
         self.diary = daybook.Diary(*self.settings)
         self.book = []
+        self.blocks = 0         # of all calls so far
+        self.taken = []         # of all calls up to each accepted close
 
     def add(self, piece):
+        blocks = random_words(self.case.rng, 1)
         answer, after = self.case.call(
-            "add", self.record, piece,
-            want=self.service.add(self.record, piece))
+            "add", self.record, piece, blocks,
+            want=self.service.add(self.record, piece, blocks))
         self.record = after[0]
         self.case.claim(answer == self.diary.add(piece),
                         "add and diary differ")
+        if answer == 0:
+            self.blocks += after[2][0]
         return answer
 
     def need(self):
@@ -353,15 +363,18 @@ class History:
         return 32 * len(daybook.names(scheme, n, len(self.diary.entries) + 1))
 
     def close(self, part):
-        values = random_words(self.case.rng, 1)
+        values, blocks = random_words(self.case.rng, 2)
+        lent = [values], [blocks]
         answer, after = self.case.call(
-            "close", self.record, part, values,
-            want=self.service.close(self.record, part, values))
+            "close", self.record, part, *lent,
+            want=self.service.close(self.record, part, *lent))
         self.record = after[0]
         self.case.claim(answer == self.diary.close(len(part)),
                         "close and diary differ")
         if answer == 0:
             self.book.append(after[1][:32 * after[2][0]])
+            self.blocks += after[3][0]
+            self.taken.append(self.blocks)
         return answer
 
     def count(self):
@@ -371,6 +384,23 @@ class History:
         self.case.claim(answer == 0 and 32 * after[1][0]
                         == sum(map(len, self.book)),
                         "the values of the record are not those written")
+
+    def compare_forecast(self):
+        """The blocks up to each close are the forecast; so says the call."""
+        scheme, n, f = self.settings
+        lengths = [len(day) for day in self.diary.entries]
+        due = accumulate(daybook.day_blocks(scheme, n, g, b)
+                         for g, b in enumerate(lengths, 1))
+        self.case.claim(self.taken == list(due),
+                        "the blocks taken are not those of the days")
+        rng, allowed = self.case.rng, range(f * n, len(lengths) + 1, f * n)
+        for d in rng.sample(allowed, min(3, len(allowed))):
+            rest = random_words(rng, rng.randrange(3))
+            answer, after = self.case.call(
+                "forecast", scheme, n, f, d, lengths[:d] + rest,
+                random_words(rng, 3))
+            self.case.claim(answer == 0 and after[-1][2] == self.taken[d - 1],
+                            "forecast is not what the calls took")
 
     def compare_book(self):
         scheme, n, _ = self.settings
@@ -396,6 +426,7 @@ def history(case):
             calls.add(rng.randbytes(day_length(rng)))
     calls.count()
     calls.compare_book()
+    calls.compare_forecast()
 
 
 # ------------------------------------------------------------ made-up records
@@ -430,14 +461,15 @@ def made_up_calls(case):
         if rng.random() < 0.5:
             piece = rng.randbytes(rng.choice((0, 1, 2, 63, 64, 65)) if
                                   rng.random() < 0.5 else day_length(rng))
-            _, after = case.call("add", current, piece)
+            _, after = case.call("add", current, piece, random_words(rng, 1))
         else:
             scheme, n, _, days, _ = record.fields(current)
             need = 32
             if record.refusal_of(current) == 0:
                 need = 32 * len(daybook.names(scheme, n, days + 1))
             part = rng.randbytes(room(rng, need, 0.1))
-            _, after = case.call("close", current, part, random_words(rng, 1))
+            _, after = case.call("close", current, part, random_words(rng, 1),
+                                 random_words(rng, 1))
         current = after[0]
 
 
@@ -452,11 +484,15 @@ def empty_arrays(case):
     def some(data):
         return data if rng.random() < 0.7 else data[:0]
 
-    name = rng.choice(("add", "close", "seal", "check", "read"))
+    name = rng.choice(("add", "close", "seal", "check", "read", "forecast"))
     if name == "add":
-        case.call("add", made_up(scheme, rng), b"", nulls=True)
+        case.call("add", made_up(scheme, rng), b"", random_words(rng, 1),
+                  nulls=True)
     elif name == "close":
         case.call("close", made_up(scheme, rng), b"", random_words(rng, 1),
+                  random_words(rng, 1), nulls=True)
+    elif name == "forecast":
+        case.call("forecast", scheme, n, f, d, [], random_words(rng, 3),
                   nulls=True)
     elif name == "seal":
         case.call("seal", scheme, n, f, d, b"", some([0] * d),
@@ -485,6 +521,26 @@ def number_of_values(case):
                    "values is not the number of chains")
     settings = bad_settings(rng, scheme, n, f, d)
     case.call("values", *settings, random_words(rng, 1))
+
+
+# --------------------------------------------------------------------- sizing
+
+def sizes(case):
+    """Forecasts: days of all lengths, some over the limit, some lacking."""
+    rng, scheme = case.rng, case.scheme
+    n, f, d = layout(scheme, rng)
+    lengths = [rng.choice((day_length(rng), day_length(rng),
+                           rng.randrange(LIMIT + 1), LIMIT))
+               for _ in range(d)]
+    if rng.random() < 0.2:
+        lengths[rng.randrange(d)] = rng.choice((LIMIT + 1, TOP))
+    if rng.random() < 0.2:
+        lengths = lengths[:bad_length(rng, d)]
+    lengths += random_words(rng, rng.randrange(3))
+    settings = scheme, n, f, d
+    if rng.random() < 0.1:
+        settings = bad_settings(rng, *settings)
+    case.call("forecast", *settings, lengths, random_words(rng, 3))
 
 
 def record_of(rng, scheme, n, f, days, count=0):
@@ -571,6 +627,7 @@ def whole_service(case):
         case.claim(calls.close(part) == 5, "close goes on")
     calls.count()
     calls.compare_book()
+    calls.compare_forecast()
 
 
 def high_bytes(case):
@@ -582,28 +639,31 @@ def high_bytes(case):
                 data = rng.randbytes(record.SIZE)
                 data = struct.pack("<5I", scheme, 1, 1, days, count) \
                     + data[20:]
-                answer, after = case.call("add", data, rng.randbytes(length))
+                answer, after = case.call("add", data, rng.randbytes(length),
+                                          random_words(rng, 1))
                 case.claim(answer == (
                     6 if count > LIMIT or days > DAYS else 5 if days == DAYS
                     else 4 if count + length > LIMIT else 0),
                     "the day's limit")
                 case.call("close", after[0], rng.randbytes(600),
-                          random_words(rng, 1))
+                          random_words(rng, 1), random_words(rng, 1))
 
 
 def add_big(case, current, piece, day, want):
     """An add whose hash words are judged by the open day's digest."""
     scheme, n, f, days, count = record.fields(current)
-    after = current
+    after, blocks = current, random_words(case.rng, 1)
+    taken = blocks
     if want == 0:
+        taken = [record.add_blocks(current, piece)]
         count += len(piece)
         rest = day[len(day) - (count + 1) % 64:] if (count + 1) % 64 else b""
         after = record.pack((scheme, n, f, days, count), record.FIRST,
                             record.running_of(current), rest)
     digest = hashlib.sha256(day).digest()
-    answer, given = case.call("add", current, piece,
-                              want=(want, (after, piece)), day=digest)
-    return given[0]
+    answer, given = case.call("add", current, piece, blocks,
+                              want=(want, (after, piece, taken)), day=digest)
+    return given[0], 0 if answer else taken[0]
 
 
 def big_day(case):
@@ -613,18 +673,22 @@ def big_day(case):
     cuts = sorted(rng.randrange(LIMIT) for _ in range(3))
     for bounds in ([0, LIMIT], [0, *cuts, LIMIT]):
         _, after = case.call("open", scheme, 1, 1, rng.randbytes(record.SIZE))
-        current = add_big(case, after[-1], data, b"\0", 4)
+        current, total = add_big(case, after[-1], data, b"\0", 4)
         for a, b in zip(bounds, bounds[1:]):
-            current = add_big(case, current, data[a:b], b"\0" + data[:b], 0)
-            current = add_big(case, current, b"", b"\0" + data[:b], 0)
-            current = add_big(case, current, data[:LIMIT - b + 1],
-                              b"\0" + data[:b], 4)
+            for piece, want in ((data[a:b], 0), (b"", 0),
+                                (data[:LIMIT - b + 1], 4)):
+                current, taken = add_big(case, current, piece,
+                                         b"\0" + data[:b], want)
+                total += taken
         h = daybook.digest(data[:LIMIT])
         part = rng.randbytes(100)
         answer, after = case.call("close", current, part,
-                                  random_words(rng, 1))
+                                  random_words(rng, 1), random_words(rng, 1))
         case.claim(answer == 0 and after[1][:32]
                    == daybook.link(bytes(32), h), "the value of a big day")
+        case.claim(total + after[3][0]
+                   == daybook.forecast_blocks(scheme, 1, [LIMIT]),
+                   "the blocks of a big day")
 
 
 def big_ledger(case):
@@ -701,10 +765,15 @@ def wide_arrays(case):
     book = b"".join(values_of(scheme, n, [daybook.digest(x) for x in days]))
     settings = scheme, n, f, d
     _, fresh = record.open_service(scheme, 1, 1)
-    case.call("add", fresh, b"abc", want=(4, (fresh, b"abc")), wide="piece")
+    case.call("add", fresh, b"abc", [9], want=(4, (fresh, b"abc", [9])),
+              wide="piece")
     answer, _ = case.call("close", fresh, rng.randbytes(64),
-                          random_words(rng, 1), wide="part")
+                          random_words(rng, 1), random_words(rng, 1),
+                          wide="part")
     case.claim(answer == 0, "close is refused")
+    answer, _ = case.call("forecast", *settings, [LIMIT] * d,
+                          random_words(rng, 3), wide="lengths")
+    case.claim(answer == 0, "forecast is refused")
     for label in ("ledger", "ends", "book"):
         answer, _ = case.call("seal", *settings, ledger, ends,
                               rng.randbytes(32 * count), wide=label)
@@ -721,9 +790,32 @@ def wide_arrays(case):
         case.claim(answer == 0, "read is refused")
 
 
+def longest_season(case):
+    """65,536 days of 16,777,216 bytes, and lengths about the limits."""
+    rng, scheme = case.rng, case.scheme
+    for n in (1, 8, 256):
+        answer, after = case.call("forecast", scheme, n, 1, DAYS,
+                                  [LIMIT] * DAYS, random_words(rng, 3))
+        found = after[-1]
+        if scheme != 2:
+            once = 262_145 + 2 * (1 if scheme == 1 else 18)
+            case.claim(found[2] == DAYS * once, "the longest season")
+        case.claim(answer == 0 and found[0] == count_of_chains(scheme, n, DAYS)
+                   and found[1] == 32 * found[0], "the longest book")
+    for d, count, want in ((4, 3, 16), (4, 0, 16), (3, 3, 7), (0, 4, 7),
+                           (DAYS + 4, 4, 7), (4, 4, 0), (4, 9, 0)):
+        for far, last in ((False, want), (True, want or 17)):
+            lengths = [LIMIT] * count + [TOP] * 2 * (count > d)
+            if far and count:
+                lengths[min(d, count) - 1 if d else 0] = LIMIT + 1
+            answer, _ = case.call("forecast", scheme, 4, 1, d, lengths,
+                                  random_words(rng, 3))
+            case.claim(answer == last, "the order of 7, 16 and 17")
+
+
 ONCE = (whole_book, whole_service, big_day, big_ledger, high_bytes,
-        settings_grid, record_grid, wide_arrays)
+        settings_grid, record_grid, wide_arrays, longest_season)
 KINDS = ((round_trip, 26), (read_table, 24), (refused, 14), (history, 12),
          (made_up_calls, 14), (empty_arrays, 5), (number_of_values, 5),
-         (values_of_record, 4))
+         (values_of_record, 4), (sizes, 6))
 CHOICES = [kind for kind, weight in KINDS for _ in range(weight)]

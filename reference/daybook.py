@@ -19,7 +19,7 @@ DAYS_LIMIT = 65_536         # days in a book
 SLOTS = 17                  # running tile or tree chains in a record
 SUBSETS_LIMIT = 12          # up to this D, reading tries every set of days
 MASKS_LIMIT = 512           # up to this D, it has the chains as masks
-VERSION = 200               # 10000 major + 100 minor + patch: 0.2.0
+VERSION = 300               # 10000 major + 100 minor + patch: 0.3.0
 
 BLACK, TILE, TREE = "black", "tile", "tree"
 
@@ -240,6 +240,51 @@ def number_of_values(scheme, n, f, d):
     return (refusal, 0) if refusal else (0, values(scheme, n, d))
 
 
+# -------------------------------------------------------------------- sizing
+
+def message_blocks(length):
+    """SHA-256 blocks of a message: it, the byte 80, zeros, its length."""
+    padded = length + 1 + 8
+    return (padded + -padded % 64) // 64
+
+
+LINK_BLOCKS = message_blocks(1 + 32 + 32)
+
+
+def links(scheme, n, g):
+    """How many running chains day g is linked to, black among them."""
+    if scheme == 1:
+        return 1
+    if scheme == 2:
+        end = g + (-g) % n
+        return 1 + sum(covers(n, (TILE, i, end), g)
+                       for i in range(lg(n) + 1))
+    return 1 + SLOTS
+
+
+def day_blocks(scheme, n, g, b):
+    """The blocks of day g, of b bytes, by the request."""
+    return (b + 9) // 64 + 1 + 2 * links(scheme, n, g)
+
+
+def forecast_blocks(scheme, n, lengths):
+    """The blocks of sealing days of these lengths."""
+    return sum(day_blocks(scheme, n, g, b) for g, b in enumerate(lengths, 1))
+
+
+def forecast(scheme, n, f, d, lengths):
+    """(refusal, values, bytes, blocks): refusals 1 2 3 7 16 17."""
+    refusal = days_call_refusal(scheme, n, f, d)
+    if refusal == 0 and len(lengths) < d:
+        refusal = 16
+    if refusal == 0 and any(b > DAY_LIMIT for b in lengths[:d]):
+        refusal = 17
+    if refusal:
+        return refusal, 0, 0, 0
+    count = values(scheme, n, d)
+    return 0, count, 32 * count, forecast_blocks(scheme, n, lengths[:d])
+
+
 # ------------------------------------------------------------------- service
 
 @dataclass(frozen=True)
@@ -295,6 +340,19 @@ def add(record, piece):
     return 0, replace(record,
                       open_bytes=record.open_bytes + len(piece),
                       open_day=record.open_day + bytes(piece))
+
+
+def add_blocks(record, piece):
+    """The blocks that an accepted add of the piece fills."""
+    hashed = 1 + record.open_bytes      # byte 00 is in front
+    return (hashed + len(piece)) // 64 - hashed // 64
+
+
+def close_blocks(record):
+    """The blocks that an accepted close compresses."""
+    hashed = 1 + record.open_bytes
+    return (message_blocks(hashed) - hashed // 64 + LINK_BLOCKS
+            * links(record.scheme, record.n, record.days + 1))
 
 
 def close(record, part):

@@ -9,27 +9,30 @@ import record
 from wanted import WANT
 
 # n number, b bytes with their length, w words with their length, B and W
-# the same without a length.
-FORMS = {"open": "nnnB", "add": "Bb", "close": "BbW", "seal": "nnnnbwb",
+# the same without a length, Q numbers of 64 bits without a length.
+FORMS = {"open": "nnnB", "add": "BbW", "close": "BbWW", "seal": "nnnnbwb",
          "check": "nnnnbwbbb", "read": "nnnnbwW", "values": "nnnnW",
-         "record_values": "BW", "version": ""}
+         "record_values": "BW", "forecast": "nnnnwQ", "version": ""}
 LABELS = {
     "open": ("scheme", "n", "f", "record"),
-    "add": ("record", "piece"),
-    "close": ("record", "part", "values"),
+    "add": ("record", "piece", "blocks"),
+    "close": ("record", "part", "values", "blocks"),
     "seal": ("scheme", "n", "f", "d", "ledger", "ends", "book"),
     "check": ("scheme", "n", "f", "d", "ledger", "ends", "book", "work",
               "outcomes"),
     "read": ("scheme", "n", "f", "d", "outcomes", "list", "numbers"),
     "values": ("scheme", "n", "f", "d", "values"),
     "record_values": ("record", "values"),
+    "forecast": ("scheme", "n", "f", "d", "lengths", "sizes"),
     "version": ()}
-WRITTEN = {"record", "part", "values", "work", "list", "numbers"}
+WRITTEN = {"record", "part", "values", "blocks", "work", "list", "numbers",
+           "sizes"}
 ANSWERS = {"open": (0, 1, 2, 3), "add": (0, 6, 5, 4), "close": (0, 6, 5, 8),
            "seal": (0, 1, 2, 3, 7, 9, 10, 8),
            "check": (0, 1, 2, 3, 7, 9, 10, 11, 8),
            "read": (0, 1, 2, 3, 7, 8, 12, 13, 14),
            "values": (0, 1, 2, 3, 7), "record_values": (0, 6),
+           "forecast": (0, 1, 2, 3, 7, 16, 17),
            "version": (daybook.VERSION,)}
 
 
@@ -46,7 +49,7 @@ def load(path):
     library = ctypes.CDLL(path)
     kinds = {"n": [ctypes.c_uint32], "b": [ctypes.c_void_p, ctypes.c_size_t],
              "B": [ctypes.c_void_p]}
-    kinds["w"], kinds["W"] = kinds["b"], kinds["B"]
+    kinds["w"], kinds["W"], kinds["Q"] = kinds["b"], kinds["B"], kinds["B"]
     calls = {}
     for name, form in FORMS.items():
         call = getattr(library, "daybook_" + name)
@@ -96,7 +99,9 @@ class Different(Exception):
 
 def as_bytes(letter, x):
     """The memory of an array of the form."""
-    return x if letter in "bB" else array("I", x).tobytes()
+    if letter in "bB":
+        return x
+    return array("Q" if letter == "Q" else "I", x).tobytes()
 
 
 def brief(x):
@@ -166,8 +171,8 @@ class Case:
                 ctypes.memmove(self.arena.wide(), data, len(data))
                 data = b""
             gap = 16 + rng.getrandbits(4)
-            if letter in "wW":
-                gap += -(position + gap) % 4
+            if letter in "wWQ":
+                gap += -(position + gap) % (8 if letter == "Q" else 4)
             parts += (GUARD[:gap], data)
             position += gap
             null = (not data and letter in "bw" and label != wide

@@ -166,6 +166,24 @@ def add(record, piece):
         rest, bytes(64 - len(rest))])
 
 
+def add_blocks(record, piece):
+    """The blocks that an accepted add compresses: those that absorb takes."""
+    return (_fill(record) + len(piece)) // 64
+
+
+def close_blocks(record):
+    """The blocks that an accepted close compresses: see finish and link."""
+    scheme, n, _, days, _ = fields(record)
+    fill = _fill(record)
+    ending = fill + 1 + (55 - fill) % 64 + 8
+    return ending // 64 + 2 * (1 + len(linked(scheme, n, days + 1)))
+
+
+def _fill(record):
+    """The bytes since the last full block."""
+    return (fields(record)[4] + 1) % 64
+
+
 def record_values(record):
     """(refusal, number of values of the days closed)."""
     if refusal_of(record) == 6:

@@ -692,6 +692,70 @@ def record_values_calls():
                (want, want))
 
 
+# --------------------------------------------------------------------- sizing
+
+def sizing():
+    """Blocks by the request, against blocks counted one by one."""
+    for length in range(300):
+        padded = b"x" * length + b"\x80"
+        while len(padded) % 64 != 56:
+            padded += b"\0"
+        expect("blocks of a message", db.message_blocks(length),
+               (len(padded) + 8) // 64)
+        expect("blocks of a day", (length + 9) // 64 + 1,
+               db.message_blocks(length + 1))
+    expect("blocks of a link", db.LINK_BLOCKS, 2)
+
+    # By hand: N 4, the offsets 0 to 3 in c(0), c(1), c(2).
+    expect("links", [[db.links(s, 4, g) for g in range(1, 6)]
+                     for s in (1, 2, 3)],
+           [[1] * 5, [4, 3, 3, 2, 4], [18] * 5])
+    # Days of 0, 54, 55 and 119 bytes take 1, 1, 2 and 3 blocks.
+    expect("by hand", [db.forecast(s, 4, 1, 4, [0, 54, 55, 119, 7])
+                       for s in (1, 2, 3)],
+           [(0, 1, 32, 15), (0, 4, 128, 31), (0, 7, 224, 151)])
+
+    for scheme, n in [(s, n) for s in (1, 2, 3) for n in SIZES]:
+        for g in range(1, 600):
+            expect("links by slots", db.links(scheme, n, g),
+                   1 + len(rec.linked(scheme, n, g)))
+
+    days = [0, 54, 55, 56, 63, 64, 118, 119, 120, 130, 0, 1, 62, 127, 128, 2]
+    for scheme, n in [(s, n) for s in (1, 2, 3) for n in (1, 2, 8)]:
+        for size in (1, 2, 54, 55, 62, 63, 64, 65, 1000):
+            _, plain = db.open_service(scheme, n, 1)
+            _, data = rec.open_service(scheme, n, 1)
+            total = 0
+            for g, length in enumerate(days, 1):
+                day = day_bytes(g, length)
+                for a in range(0, length + 1, size):
+                    piece = day[a:a + size]
+                    total += db.add_blocks(plain, piece)
+                    expect("blocks of an add", rec.add_blocks(data, piece),
+                           db.add_blocks(plain, piece))
+                    _, plain = db.add(plain, piece)
+                    _, data = rec.add(data, piece)
+                total += db.close_blocks(plain)
+                expect("blocks of a close", rec.close_blocks(data),
+                       db.close_blocks(plain))
+                _, plain, _ = db.close(plain, bytearray(600))
+                _, data, _ = rec.close(data, 600)
+                expect(f"pieces of {size}", total,
+                       db.forecast_blocks(scheme, n, days[:g]))
+
+    for arguments, want in [((0, 0, 0, 0, []), 1), ((1, 0, 0, 0, []), 2),
+                            ((1, 1, 0, 0, []), 3), ((3, 1, 2, 2, []), 3),
+                            ((1, 1, 1, 0, []), 7), ((1, 2, 1, 3, [1]), 7),
+                            ((1, 2, 1, 2, [1 << 25]), 16),
+                            ((1, 2, 1, 2, [1, 1 << 25]), 17),
+                            ((1, 2, 1, 2, [1, (1 << 24) + 1]), 17),
+                            ((1, 2, 1, 2, [1, 1 << 24, 1 << 25]), 0)]:
+        expect("forecast refused", db.forecast(*arguments)[0], want)
+    expect("the longest season",
+           db.forecast(3, 1, 1, 65_536, [1 << 24] * 65_536),
+           (0, 196_590, 6_290_880, 17_182_294_016))
+
+
 # ------------------------------------------------------------- record's bytes
 
 def compression():
@@ -842,11 +906,36 @@ def comparison():
                                                                whole)])
         return answer
 
-    def null_is_refused(good, record, piece, length):
-        return 4 if piece is None else good(record, piece, length)
+    def null_is_refused(good, record, piece, length, blocks):
+        return 4 if piece is None else good(record, piece, length, blocks)
+
+    def next_call_counts(good, record, piece, length, blocks):
+        """A block that the piece fills to its end is counted later."""
+        fill = (rec.fields(stand_in.get(record, rec.SIZE))[4] + 1) % 64
+        answer = good(record, piece, length, blocks)
+        if answer == 0:
+            stand_in.put_words(blocks, [max(fill + length - 1, 0) // 64])
+        return answer
+
+    def all_lengths(good, scheme, n, f, d, lengths, count, given):
+        """The lengths past D are looked at too."""
+        long = any(b > db.DAY_LIMIT for b in stand_in.get_words(lengths,
+                                                                count))
+        answer = good(scheme, n, f, d, lengths, count, given)
+        return 17 if answer == 0 and long else answer
+
+    def long_before_few(good, scheme, n, f, d, lengths, count, given):
+        """17 before 16."""
+        answer = good(scheme, n, f, d, lengths, count, given)
+        long = any(b > db.DAY_LIMIT for b in stand_in.get_words(lengths,
+                                                                count))
+        return 17 if answer == 16 and long else answer
 
     for name, fault in [
             ("add", past_record), ("add", null_is_refused),
+            ("add", number_of_refused), ("add", next_call_counts),
+            ("forecast", number_of_refused), ("forecast", all_lengths),
+            ("forecast", long_before_few),
             ("seal", before_book), ("close", number_of_refused),
             ("read", number_of_refused), ("values", number_of_refused),
             ("record_values", number_of_refused),
@@ -954,7 +1043,7 @@ def main():
                  call_lists, pieces, service_bounds, made_up_records,
                  last_days, check_tests, check_refusals, reading_tests,
                  reading_large, reading_refusals, whole_chain, values_calls,
-                 record_values_calls, compression, record_layout,
+                 record_values_calls, sizing, compression, record_layout,
                  record_histories, record_made_up, comparison, program,
                  expected_outputs):
         before = PASSED, FAILED

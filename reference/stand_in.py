@@ -33,18 +33,23 @@ def open_service(scheme, n, f, address):
     return refusal
 
 
-def add(address, piece, length):
-    refusal, new = record.add(get(address, record.SIZE), get(piece, length))
+def add(address, piece, length, blocks):
+    old, data = get(address, record.SIZE), get(piece, length)
+    refusal, new = record.add(old, data)
     put(address, new)
+    if refusal == 0:
+        put_words(blocks, [record.add_blocks(old, data)])
     return refusal
 
 
-def close(address, part, length, count):
-    refusal, new, values = record.close(get(address, record.SIZE), length)
+def close(address, part, length, count, blocks):
+    old = get(address, record.SIZE)
+    refusal, new, values = record.close(old, length)
     if refusal == 0:
         put(address, new)
         put(part, b"".join(values))
         put_words(count, [len(values)])
+        put_words(blocks, [record.close_blocks(old)])
     return refusal
 
 
@@ -92,6 +97,14 @@ def record_values(address, count):
     return refusal
 
 
+def forecast(scheme, n, f, d, lengths, count, sizes):
+    refusal, *found = daybook.forecast(scheme, n, f, d,
+                                       get_words(lengths, count))
+    if refusal == 0:
+        put(sizes, array("Q", found).tobytes())
+    return refusal
+
+
 def version():
     return daybook.VERSION
 
@@ -100,4 +113,5 @@ def calls():
     """The calls, by name."""
     return {"open": open_service, "add": add, "close": close, "seal": seal,
             "check": check, "read": read, "values": values,
-            "record_values": record_values, "version": version}
+            "record_values": record_values, "forecast": forecast,
+            "version": version}

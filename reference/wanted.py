@@ -23,16 +23,19 @@ def want_open(scheme, n, f, old):
     return refusal, (scheme, n, f, new)
 
 
-def want_add(old, piece):
+def want_add(old, piece, blocks):
     refusal, new = record.add(old, piece)
-    return refusal, (new, piece)
+    if refusal:
+        return refusal, (old, piece, blocks)
+    return 0, (new, piece, (record.add_blocks(old, piece),))
 
 
-def want_close(old, part, values):
+def want_close(old, part, values, blocks):
     refusal, new, written = record.close(old, len(part))
     if refusal:
-        return refusal, (old, part, values)
-    return 0, (new, front(b"".join(written), part), (len(written),))
+        return refusal, (old, part, values, blocks)
+    return 0, (new, front(b"".join(written), part), (len(written),),
+               (record.close_blocks(old),))
 
 
 def want_seal(scheme, n, f, d, ledger, ends, book):
@@ -75,6 +78,11 @@ def want_record_values(old, values):
     return refusal, (old, values if refusal else (count,))
 
 
+def want_forecast(scheme, n, f, d, lengths, sizes):
+    refusal, *found = daybook.forecast(scheme, n, f, d, lengths)
+    return refusal, (scheme, n, f, d, lengths, sizes if refusal else found)
+
+
 def want_version():
     return daybook.VERSION, ()
 
@@ -82,7 +90,7 @@ def want_version():
 WANT = {"open": want_open, "add": want_add, "close": want_close,
         "seal": want_seal, "check": want_check, "read": want_read,
         "values": want_values, "record_values": want_record_values,
-        "version": want_version}
+        "forecast": want_forecast, "version": want_version}
 
 
 def day_digests(d, ledger, ends):

@@ -161,7 +161,7 @@ static int open_service(const char *name) {
 
 static int close_day(const char *name, uint32_t day, const char *text) {
   uint8_t part[DAYBOOK_PART], old[DAY_BYTES];
-  uint32_t values = 0, number;
+  uint32_t values = 0, blocks = 0, number;
   size_t size = strlen(text);
   char file[32];
   int folder = locked(name);
@@ -176,8 +176,8 @@ static int close_day(const char *name, uint32_t day, const char *text) {
   }
   if (day != closed + 1) stop("not the next day: ", file);
   if (size > DAY_BYTES || closed == MOST_DAYS) stop("more than this example holds", "");
-  if ((number = daybook_add(state, (const uint8_t *)text, size))) refused(number);
-  if ((number = daybook_close(state, part, sizeof part, &values))) refused(number);
+  if ((number = daybook_add(state, (const uint8_t *)text, size, &blocks))) refused(number);
+  if ((number = daybook_close(state, part, sizeof part, &values, &blocks))) refused(number);
   save(folder, file, 0, (const uint8_t *)text, size);
   save(folder, "book", length, part, values * DAYBOOK_VALUE);
   sync_folder(folder); /* day-K is a new name */

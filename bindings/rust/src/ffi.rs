@@ -9,12 +9,18 @@ use crate::RECORD;
 mod c {
     extern "C" {
         pub fn daybook_open(scheme: u32, n: u32, f: u32, record: *mut u8) -> u32;
-        pub fn daybook_add(record: *mut u8, piece: *const u8, piece_len: usize) -> u32;
+        pub fn daybook_add(
+            record: *mut u8,
+            piece: *const u8,
+            piece_len: usize,
+            blocks: *mut u32,
+        ) -> u32;
         pub fn daybook_close(
             record: *mut u8,
             part: *mut u8,
             part_len: usize,
             values: *mut u32,
+            blocks: *mut u32,
         ) -> u32;
         pub fn daybook_seal(
             scheme: u32,
@@ -57,6 +63,15 @@ mod c {
         ) -> u32;
         pub fn daybook_values(scheme: u32, n: u32, f: u32, d: u32, values: *mut u32) -> u32;
         pub fn daybook_record_values(record: *const u8, values: *mut u32) -> u32;
+        pub fn daybook_forecast(
+            scheme: u32,
+            n: u32,
+            f: u32,
+            d: u32,
+            lengths: *const u32,
+            lengths_len: usize,
+            sizes: *mut u64,
+        ) -> u32;
         pub fn daybook_version() -> u32;
     }
 }
@@ -69,19 +84,32 @@ pub fn open((scheme, n, f): Setting, record: &mut [u8; RECORD]) -> u32 {
     unsafe { c::daybook_open(scheme, n, f, record.as_mut_ptr()) }
 }
 
-pub fn add(record: &mut [u8; RECORD], piece: &[u8]) -> u32 {
-    // SAFETY: see above; the record has RECORD bytes.
-    unsafe { c::daybook_add(record.as_mut_ptr(), piece.as_ptr(), piece.len()) }
+pub fn add(record: &mut [u8; RECORD], piece: &[u8], blocks: &mut [u32; 1]) -> u32 {
+    // SAFETY: see above; the record has RECORD bytes, blocks one place.
+    unsafe {
+        c::daybook_add(
+            record.as_mut_ptr(),
+            piece.as_ptr(),
+            piece.len(),
+            blocks.as_mut_ptr(),
+        )
+    }
 }
 
-pub fn close(record: &mut [u8; RECORD], part: &mut [u8], values: &mut [u32; 1]) -> u32 {
-    // SAFETY: see above; the record has RECORD bytes, values one place.
+pub fn close(
+    record: &mut [u8; RECORD],
+    part: &mut [u8],
+    values: &mut [u32; 1],
+    blocks: &mut [u32; 1],
+) -> u32 {
+    // SAFETY: see above; the record has RECORD bytes, values and blocks one place each.
     unsafe {
         c::daybook_close(
             record.as_mut_ptr(),
             part.as_mut_ptr(),
             part.len(),
             values.as_mut_ptr(),
+            blocks.as_mut_ptr(),
         )
     }
 }
@@ -167,7 +195,86 @@ pub fn record_values(record: &[u8; RECORD], values: &mut [u32; 1]) -> u32 {
     unsafe { c::daybook_record_values(record.as_ptr(), values.as_mut_ptr()) }
 }
 
+pub fn forecast((scheme, n, f): Setting, d: u32, lengths: &[u32], sizes: &mut [u64; 3]) -> u32 {
+    // SAFETY: see above; sizes has three places.
+    unsafe {
+        c::daybook_forecast(
+            scheme,
+            n,
+            f,
+            d,
+            lengths.as_ptr(),
+            lengths.len(),
+            sizes.as_mut_ptr(),
+        )
+    }
+}
+
 pub fn version() -> u32 {
     // SAFETY: it takes no pointer.
     unsafe { c::daybook_version() }
+}
+
+#[cfg(test)]
+mod tests {
+    use super::*;
+    use crate::DAY_LIMIT;
+
+    /// The record of an open service under scheme 2, N 1, F 1.
+    fn opened() -> [u8; RECORD] {
+        let mut record = [0; RECORD];
+        assert_eq!(open((2, 1, 1), &mut record), 0);
+        record
+    }
+
+    #[test]
+    fn a_refused_add_leaves_record_and_blocks() {
+        let long = vec![0; DAY_LIMIT as usize + 1];
+        let mut full = opened();
+        full[12..16].copy_from_slice(&65_536u32.to_le_bytes());
+        for (number, kept, piece) in [
+            (6, [0; RECORD], &long[..1]),
+            (5, full, &long[..]),
+            (4, opened(), &long[..]),
+        ] {
+            let (mut record, mut blocks) = (kept, [77]);
+            assert_eq!(add(&mut record, piece, &mut blocks), number);
+            assert_eq!((record, blocks), (kept, [77]));
+        }
+    }
+
+    #[test]
+    fn a_refused_close_leaves_every_array() {
+        let mut full = opened();
+        full[12..16].copy_from_slice(&65_536u32.to_le_bytes());
+        for (number, kept) in [(6, [0; RECORD]), (5, full), (8, opened())] {
+            let (mut record, mut part) = (kept, [170; 63]);
+            let (mut values, mut blocks) = ([77], [78]);
+            let answer = close(&mut record, &mut part, &mut values, &mut blocks);
+            assert_eq!(answer, number);
+            assert_eq!((record, part), (kept, [170; 63]));
+            assert_eq!((values, blocks), ([77], [78]));
+        }
+    }
+
+    #[test]
+    fn a_refused_forecast_leaves_the_sizes() {
+        let long = [DAY_LIMIT, DAY_LIMIT + 1];
+        for (number, setting, d) in [
+            (1, (0, 0, 0), 0),
+            (2, (1, 0, 0), 0),
+            (3, (1, 1, 0), 0),
+            (7, (1, 1, 1), 0),
+            (16, (1, 1, 1), 3),
+            (17, (1, 1, 1), 2),
+        ] {
+            let mut sizes = [77, 78, 79];
+            assert_eq!(forecast(setting, d, &long, &mut sizes), number);
+            assert_eq!(sizes, [77, 78, 79]);
+        }
+        let mut sizes = [77, 78, 79];
+        assert_eq!(forecast((1, 1, 1), 1, &long, &mut sizes), 0);
+        // 16,777,225 / 64 rounded down, plus 1, and one link
+        assert_eq!(sizes, [1, 32, 262_147]);
+    }
 }

@@ -4,7 +4,8 @@
 //! Safe calls of the proved static library `libdaybook_c.a`. A [`Service`] takes each closing day's
 //! bytes and gives the values of the book; [`seal`] does the same for a whole ledger. [`check`]
 //! hashes the ledger again and compares it with the book; [`read`] lists the days that the outcomes
-//! tell of. A call that is refused gives its [`Refusal`] and changes nothing.
+//! tell of. [`forecast`] says from the lengths of the days what sealing them will take. A call that is
+//! refused gives its [`Refusal`] and changes nothing.
 //!
 //! ```
 //! use daybook::{check_to_vecs, read_to_vec, Layout, Refusal, Service};
@@ -38,13 +39,15 @@ mod ffi;
 mod layout;
 mod refusal;
 mod service;
+mod sizing;
 
 pub use book::{
     check, check_to_vecs, read, read_to_vec, seal, seal_to_vec, values, Checked, Reading,
 };
 pub use layout::Layout;
 pub use refusal::Refusal;
-pub use service::Service;
+pub use service::{Closed, Service};
+pub use sizing::{forecast, Sizes};
 
 /// Bytes of a record.
 pub const RECORD: usize = 692;

@@ -43,11 +43,15 @@ pub enum Refusal {
     BadOutcome = 13,
     /// No set of changed days gives the outcomes.
     ImpossibleTable = 14,
+    /// There are fewer than D lengths of days.
+    FewLengths = 16,
+    /// One of the first D lengths is over [`DAY_LIMIT`](crate::DAY_LIMIT).
+    LongDay = 17,
 }
 
 impl Refusal {
-    /// Every refusal, by number.
-    pub const ALL: [Refusal; 14] = [
+    /// Every refusal, by number. 15 is one of the program `readtable` and of no call.
+    pub const ALL: [Refusal; 16] = [
         Refusal::BadScheme,
         Refusal::BadN,
         Refusal::BadF,
@@ -62,9 +66,11 @@ impl Refusal {
         Refusal::FewOutcomes,
         Refusal::BadOutcome,
         Refusal::ImpossibleTable,
+        Refusal::FewLengths,
+        Refusal::LongDay,
     ];
 
-    /// The number of the cause, 1 to 14.
+    /// The number of the cause: 1 to 14, 16 or 17.
     #[must_use]
     pub const fn number(self) -> u32 {
         self as u32
@@ -119,6 +125,8 @@ impl Refusal {
             Refusal::FewOutcomes => "there are fewer outcomes than values",
             Refusal::BadOutcome => "an outcome is neither 0 nor 1",
             Refusal::ImpossibleTable => "no set of changed days gives these outcomes",
+            Refusal::FewLengths => "there are fewer than D lengths of days",
+            Refusal::LongDay => "the length of a day is over 16,777,216 bytes",
         }
     }
 }
@@ -136,9 +144,9 @@ mod tests {
     use super::*;
 
     #[test]
-    fn numbers_are_1_to_14() {
+    fn numbers_are_1_to_17_without_15() {
         let numbers: Vec<u32> = Refusal::ALL.into_iter().map(Refusal::number).collect();
-        assert_eq!(numbers, (1..=14).collect::<Vec<u32>>());
+        assert_eq!(numbers, (1..=14).chain(16..=17).collect::<Vec<u32>>());
     }
 
     #[test]
@@ -148,7 +156,7 @@ mod tests {
             assert_eq!(Refusal::answer(refusal.number()), Err(refusal));
         }
         assert_eq!(Refusal::answer(0), Ok(()));
-        for number in [0, 15, 16, u32::MAX] {
+        for number in [0, 15, 18, u32::MAX] {
             assert_eq!(Refusal::from_number(number), None);
         }
     }
@@ -157,6 +165,6 @@ mod tests {
     fn messages_differ() {
         let messages: std::collections::BTreeSet<String> =
             Refusal::ALL.iter().map(Refusal::to_string).collect();
-        assert_eq!(messages.len(), 14);
+        assert_eq!(messages.len(), Refusal::ALL.len());
     }
 }

@@ -36,37 +36,53 @@ impl Service {
         Ok(Service { record })
     }
 
-    /// Adds a piece to the open day; it may be empty.
+    /// Adds a piece to the open day; it may be empty. Gives the SHA-256 blocks that this compressed:
+    /// those that the piece filled.
     ///
     /// # Errors
     ///
     /// Refusals 6 5 4, the first in this order; the service is then as it was.
-    pub fn add(&mut self, piece: &[u8]) -> Result<(), Refusal> {
-        Refusal::answer(ffi::add(&mut self.record, piece))
+    ///
+    /// ```
+    /// use daybook::{Layout, Refusal, Service};
+    ///
+    /// let mut service = Service::open(Layout::black(1, 1))?;
+    /// assert_eq!(service.add(&[0; 62]), Ok(0)); // with the byte in front of a day 63 of 64
+    /// assert_eq!(service.add(&[0; 1]), Ok(1));
+    /// # Ok::<(), Refusal>(())
+    /// ```
+    pub fn add(&mut self, piece: &[u8]) -> Result<u32, Refusal> {
+        let mut blocks = [0];
+        Refusal::answer(ffi::add(&mut self.record, piece, &mut blocks))?;
+        Ok(blocks[0])
     }
 
-    /// Closes the open day, writes its values to the front of `part`, gives their number and opens
-    /// the next day. [`PART`] bytes are always enough.
+    /// Closes the open day, writes its values to the front of `part`, gives their number and the
+    /// blocks compressed, and opens the next day. [`PART`] bytes are always enough.
     ///
     /// # Errors
     ///
     /// Refusals 6 5 8, the first in this order; service and part are then as they were.
     ///
     /// ```
-    /// use daybook::{Layout, Refusal, Service};
+    /// use daybook::{Closed, Layout, Refusal, Service};
     ///
     /// let mut service = Service::open(Layout::tile(1, 1))?;
     /// assert_eq!(service.close(&mut [0; 63]), Err(Refusal::ShortBuffer)); // 2 values need 64
     /// assert_eq!(service.days(), 0);
-    /// assert_eq!(service.close(&mut [0; 64]), Ok(2));
+    /// // the empty day takes 1 block, each of its 2 links 2
+    /// assert_eq!(service.close(&mut [0; 64]), Ok(Closed { values: 2, blocks: 5 }));
     /// assert_eq!(service.days(), 1);
     /// # Ok::<(), Refusal>(())
     /// ```
     #[must_use = "the number of values at the front of the part"]
-    pub fn close(&mut self, part: &mut [u8]) -> Result<u32, Refusal> {
-        let mut values = [0];
-        Refusal::answer(ffi::close(&mut self.record, part, &mut values))?;
-        Ok(values[0])
+    pub fn close(&mut self, part: &mut [u8]) -> Result<Closed, Refusal> {
+        let (mut values, mut blocks) = ([0], [0]);
+        Refusal::answer(ffi::close(&mut self.record, part, &mut values, &mut blocks))?;
+        Ok(Closed {
+            values: values[0],
+            blocks: blocks[0],
+        })
     }
 
     /// Closes the open day and gives its values, [`VALUE`] bytes each.
@@ -77,8 +93,8 @@ impl Service {
     #[must_use = "the values belong into the book, and cannot be had again"]
     pub fn close_day(&mut self) -> Result<Vec<u8>, Refusal> {
         let mut part = [0; PART];
-        let values = self.close(&mut part)?;
-        Ok(part[..VALUE * values as usize].to_vec())
+        let closed = self.close(&mut part)?;
+        Ok(part[..VALUE * closed.values as usize].to_vec())
     }
 
     /// The record, to be kept.
@@ -182,6 +198,16 @@ impl Service {
         bytes.copy_from_slice(&self.record[at..at + 4]);
         u32::from_le_bytes(bytes)
     }
+}
+
+/// What the close of a day gives.
+#[must_use]
+#[derive(Clone, Copy, Debug, PartialEq, Eq, Hash)]
+pub struct Closed {
+    /// The number of values at the front of the part.
+    pub values: u32,
+    /// The SHA-256 blocks that the close compressed: those that end the day, and those of its links.
+    pub blocks: u32,
 }
 
 impl fmt::Debug for Service {

@@ -340,6 +340,7 @@ fn help() {
         ("check --help", "daybook check --scheme"),
         ("read --help", "daybook read --scheme"),
         ("verify -h", "daybook verify --scheme"),
+        ("forecast --help", "daybook forecast --scheme"),
     ] {
         let (status, out, messages) = run(&folder, line);
         assert_eq!((status, messages.as_str()), (0, ""));

@@ -78,9 +78,10 @@ fn refusal_names(header: &str) -> Vec<(u32, String)> {
 fn texts_of_refusals() {
     let header = header();
     let names = refusal_names(&header);
+    let numbers = Refusal::ALL.map(Refusal::number);
     assert_eq!(
         names.iter().map(|name| name.0).collect::<Vec<_>>(),
-        (0..=14).collect::<Vec<_>>()
+        [&[0], &numbers[..]].concat()
     );
     for (number, name) in &names[1..] {
         let (_, behind) = header.split_once(&format!("case {name}:")).unwrap();

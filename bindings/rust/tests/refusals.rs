@@ -4,8 +4,8 @@ mod common;
 
 use common::{day, ledger};
 use daybook::{
-    check, check_to_vecs, read, read_to_vec, seal, seal_to_vec, values, Layout, Refusal, Service,
-    RECORD,
+    check, check_to_vecs, forecast, read, read_to_vec, seal, seal_to_vec, values, Layout, Refusal,
+    Service, RECORD,
 };
 
 /// Settings that are not allowed, with their refusal. Where two causes meet, the first test tells.
@@ -54,6 +54,7 @@ fn settings_by_every_call() {
         assert_eq!(check_to_vecs(layout, 0, &[], &[], &[]), Err(refusal));
         assert_eq!(read(layout, 0, &[], &mut []), Err(refusal));
         assert_eq!(read_to_vec(layout, 0, &[]), Err(refusal));
+        assert_eq!(forecast(layout, 0, &[]), Err(refusal));
     }
 }
 
@@ -80,6 +81,7 @@ fn numbers_of_days_by_every_call() {
         assert_eq!(check_to_vecs(LAYOUT, d, &[], &[], &[]), Err(refusal));
         assert_eq!(read(LAYOUT, d, &[], &mut []), Err(refusal));
         assert_eq!(read_to_vec(LAYOUT, d, &[]), Err(refusal));
+        assert_eq!(forecast(LAYOUT, d, &[u32::MAX; 3]), Err(refusal));
     }
     assert_eq!(values(Layout::tile(4, 3), 65_536), Err(refusal));
     assert_eq!(values(LAYOUT, 65_536), Ok(65_536));
@@ -135,8 +137,8 @@ fn records() {
 fn made_up_records_that_are_taken() {
     let mut service = Service::from_bytes(record(3, 256, 1, 65_535, 16_777_215));
     assert_eq!(service.add(&[1, 2]), Err(Refusal::DayTooLong));
-    assert_eq!(service.add(&[1]), Ok(()));
-    assert_eq!(service.add(&[]), Ok(()));
+    assert_eq!(service.add(&[1]), Ok(0)); // with the byte in front 262,144 blocks and 1 byte
+    assert_eq!(service.add(&[]), Ok(0));
     assert_eq!(service.close_day().unwrap().len(), 17 * 32);
     assert_eq!(service.add(&[]), Err(Refusal::BookFull));
 }
@@ -154,7 +156,7 @@ fn a_piece_too_long() {
 fn a_part_too_short() {
     let mut service = Service::open(Layout::tile(4, 1)).unwrap();
     for _ in 1..4 {
-        service.close(&mut []).unwrap();
+        assert_eq!(service.close(&mut []).unwrap().values, 0);
     }
     let before = service.clone();
     for length in [0, 1, 32, 127] {
@@ -163,7 +165,7 @@ fn a_part_too_short() {
         assert_eq!(part, vec![170; length]);
     }
     assert_eq!(service, before);
-    assert_eq!(service.close(&mut [0; 128]), Ok(4));
+    assert_eq!(service.close(&mut [0; 128]).unwrap().values, 4);
 }
 
 /// The refusal of sealing and of checking, with buffers that stay.

@@ -16,7 +16,7 @@ fn closed(layout: Layout, days: &[Vec<u8>]) -> Vec<u8> {
     let mut written = 0;
     for day in days {
         service.add(day).unwrap();
-        written += VALUE * service.close(&mut book[written..]).unwrap() as usize;
+        written += VALUE * service.close(&mut book[written..]).unwrap().values as usize;
     }
     book.truncate(written);
     book
@@ -87,7 +87,7 @@ fn a_record_to_bytes_and_back_after_every_call() {
         for day in &days {
             for piece in day.chunks(50) {
                 let mut service = Service::from_bytes(kept);
-                assert_eq!(service.add(piece), Ok(()));
+                assert!(service.add(piece).is_ok());
                 kept = service.to_bytes();
             }
             let mut service = Service::from_bytes(kept);
@@ -132,7 +132,7 @@ fn a_record_in_a_file_between_two_runs() {
 fn close_writes_the_front_of_its_part() {
     let mut service = Service::open(Layout::tile(1, 1)).unwrap();
     let mut part = [170; 70];
-    assert_eq!(service.close(&mut part), Ok(2));
+    assert_eq!(service.close(&mut part).unwrap().values, 2);
     assert_ne!(part[..64], [170; 64]);
     assert_eq!(part[64..], [170; 6]);
 }
@@ -140,7 +140,7 @@ fn close_writes_the_front_of_its_part() {
 #[test]
 fn a_close_without_values_needs_no_part() {
     let mut service = Service::open(Layout::black(2, 1)).unwrap();
-    assert_eq!(service.close(&mut []), Ok(0));
+    assert_eq!(service.close(&mut []).unwrap().values, 0);
     assert_eq!(service.close(&mut []), Err(Refusal::ShortBuffer));
     assert_eq!(service.days(), 1);
 }
@@ -150,7 +150,7 @@ fn all_days_of_a_book() {
     let mut service = Service::open(Layout::black(256, 1)).unwrap();
     let mut values = 0;
     for _ in 0..65_536 {
-        values += service.close(&mut [0; VALUE]).unwrap();
+        values += service.close(&mut [0; VALUE]).unwrap().values;
     }
     assert_eq!(values, 256);
     assert_eq!(service.days(), 65_536);
@@ -166,10 +166,10 @@ fn seventeen_values_on_the_last_day_of_a_tree() {
     let mut part = [0; PART];
     let mut values = 0;
     for _ in 1..65_536 {
-        values += service.close(&mut part).unwrap();
+        values += service.close(&mut part).unwrap().values;
     }
     assert_eq!(service.close(&mut part[1..]), Err(Refusal::ShortBuffer));
-    assert_eq!(service.close(&mut part), Ok(17));
+    assert_eq!(service.close(&mut part).unwrap().values, 17);
     // 2 D, less 1 one bit, D / N for black, less 1 + 8
     assert_eq!(values + 17, 131_072 - 1 + 256 - 9);
 }

@@ -3,3 +3,4 @@ pub mod Slots
 pub mod Values
 pub mod Running
 pub mod BookLaws
+pub mod BlockLaws

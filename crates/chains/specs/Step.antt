@@ -2,11 +2,11 @@
 -- There is one for black and seventeen slots: tile chain c(i) in slot i, or the tree's level l in slot l.
 use mathlib.Core.Bool.{Bool, true, false, _&&_, cond}
 use mathlib.Core.List.{List, [], _∷_, _++_, map}
-use Prim.Native.Nat.{ℕ, zero, suc, _^_}
+use Prim.Native.Nat.{ℕ, zero, suc, _+_, _^_}
 use lib.Dec.{leb}
 use lib.ListN.{getD, replicate}
 use Rattle.layouts.specs.Layouts.{divides, lg, Name, black, tile, tree, offset, covers, storesBlackOfTree, namesOfDay}
-use Rattle.sha256.specs.Sha256.{hashed}
+use Rattle.sha256.specs.Sha256.{hashed, hashedBlocks}
 use Rattle.sha256_words.specs.Words.{bytesOf}
 use Rattle.chains.specs.declared.Value.{Value}
 
@@ -14,9 +14,15 @@ use Rattle.chains.specs.declared.Value.{Value}
 unfoldable pub startValue : ℕ → ℕ → Value
 startValue scheme n = record { words = replicate 8 0 }
 
--- 01's link of a value and a digest (SPEC 3.5), as words
+-- 01's link of a value and a digest (SPEC 3.5), as words; and the blocks compressed for it
+abbrev pub linkInput : Value → List ℕ → List ℕ
+linkInput v h = 1 ∷ (bytesOf (v .words) ++ bytesOf h)
+
 unfoldable pub linked : Value → List ℕ → Value
-linked v h = record { words = hashed (1 ∷ (bytesOf (v .words) ++ bytesOf h)) }
+linked v h = record { words = hashed (linkInput v h) }
+
+unfoldable pub linkBlocks : Value → List ℕ → ℕ
+linkBlocks v h = hashedBlocks (linkInput v h)
 
 -- whether day g is linked to slot i: each tile chain that covers it; each level of the tree
 abbrev pub linksSlot : ℕ → ℕ → ℕ → ℕ → Bool
@@ -57,6 +63,12 @@ each f i (v ∷ vs) = f i v ∷ each f (suc i) vs
 unfoldable pub linkedSlots : ℕ → ℕ → ℕ → List ℕ → List Value → List Value
 linkedSlots scheme n g h slots = each (linkSlot scheme n g h) 0 slots
 
+-- the blocks compressed to link day g to the slots from i on
+abbrev pub slotBlocks : ℕ → ℕ → ℕ → List ℕ → ℕ → List Value → ℕ
+slotBlocks scheme n g h i [] = 0
+slotBlocks scheme n g h i (v ∷ vs) =
+    cond (linksSlot scheme n g i) (linkBlocks v h) 0 + slotBlocks scheme n g h (suc i) vs
+
 unfoldable pub restarted : ℕ → ℕ → ℕ → Value → List Value → List Value
 restarted scheme n g start slots = each (restartSlot scheme n g start) 0 slots
 
@@ -74,3 +86,14 @@ dayValues scheme n g b slots = map (current b slots) (namesOfDay scheme n g)
 unfoldable pub valueBytes : List Value → List ℕ
 valueBytes [] = []
 valueBytes (v ∷ vs) = bytesOf (v .words) ++ valueBytes vs
+
+-- ---- 02's links of a day (SPEC 17.2)
+
+-- how many of the first k slots day g is linked to
+abbrev pub slotLinks : ℕ → ℕ → ℕ → ℕ → ℕ
+slotLinks scheme n g zero = 0
+slotLinks scheme n g (suc k) = slotLinks scheme n g k + cond (linksSlot scheme n g k) 1 0
+
+-- black once, and each of the seventeen slots that day g is linked to
+unfoldable pub linksOf : ℕ → ℕ → ℕ → ℕ
+linksOf scheme n g = suc (slotLinks scheme n g 17)

@@ -3,14 +3,14 @@
 pub mod link;
 
 ghost use mathlib.Core.Path.{_≡_};
-ghost use mathlib.Core.Bool.{true};
+ghost use mathlib.Core.Bool.{true, cond};
 ghost use Prim.Native.Nat.{_+_, _≤_, _<_};
 ghost use lib.ListN.{length, take};
 ghost use Rattle.refusals.specs.Refusals.{bookLimit};
 ghost use Rattle.layouts.specs.Layouts.{allowedScheme, allowedN, namesOfDay};
 ghost use Rattle.chains.specs.Step as spec;
 ghost use Rattle.chains.specs.Step.{startValue, linked, linksSlot, storesSlot, storesBlack, linkSlot};
-ghost use Rattle.chains.specs.Step.{restartSlot, linkedSlots, restarted, dayValues};
+ghost use Rattle.chains.specs.Step.{restartSlot, linkedSlots, restarted, dayValues, linksOf};
 ghost use Rattle.chains.specs.Private.{Stepped};
 
 pub struct Value {
@@ -51,6 +51,31 @@ fn links_slot(scheme: u32, n: u32, g: u32, i: u32) -> bool
         return layouts::covers(n, i, (g - 1) % n);
     }
     scheme == 3
+}
+
+// 1 if day g is linked to slot i, else 0.
+fn links_to(scheme: u32, n: u32, g: u32, i: u32) -> u32
+    requires { ⌜ (allowedN n ≡ true) × (1 ≤ g) ⌝ }
+    ensures { λ r. ⌜ r ≡ cond (linksSlot scheme n g i) 1 0 ⌝ }
+{
+    if links_slot(scheme, n, g, i) {
+        return 1;
+    }
+    0
+}
+
+// How often day g is linked: to black, and to slots (SPEC 17.2).
+pub fn link_count(scheme: u32, n: u32, g: u32) -> u32
+    requires { ⌜ (allowedN n ≡ true) × (1 ≤ g) ⌝ }
+    ensures { λ r. ⌜ r ≡ linksOf scheme n g ⌝ }
+{
+    let mut k = 1u32;
+    let mut i = 0u32;
+    while i < 17 {
+        k += links_to(scheme, n, g, i);
+        i += 1;
+    }
+    k
 }
 
 fn stores_slot(scheme: u32, n: u32, g: u32, i: u32) -> bool

@@ -4,3 +4,4 @@ pub mod Detection
 pub mod Meets
 pub mod Seal
 pub mod Records
+pub mod Sizing

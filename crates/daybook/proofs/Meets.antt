@@ -42,7 +42,7 @@ limited-after : (s n : ℕ) (args : List Argument) (j : Journal) → Limited j �
 limited-after s n [] j l = l
 limited-after s n (a ∷ args) j l = limited-after s n args (kept s n j a) (limited-next s n j a l)
 
-limited : (s n : ℕ) (cs : List Call) → Limited (journalOf s n cs)
+pub limited : (s n : ℕ) (cs : List Call) → Limited (journalOf s n cs)
 limited s n cs = limited-after s n (map argumentOf cs) empty (record { entries-limited = λ e m. elim m [ ]; day-limited = omega arith })
 
 pub premises-met : PremisesMet

@@ -95,7 +95,7 @@ same-slots (suc k) v w = (w, same-slots k v w)
 
 -- ---- the chains' words, after each call
 
-record Chained (r : Record) : Type 0 where
+pub record Chained (r : Record) : Type 0 where
   black-fits : Words (r .black .words)
   running-fit : Slots (r .running)
 
@@ -115,7 +115,7 @@ chained-unless : (x : ℕ) (new old : Record) → Chained new → Chained old �
 chained-unless zero new old n o = n
 chained-unless (suc x) new old n o = o
 
-chained-called : (r : Record) (c : Call) → Chained r → Chained (called r c .state)
+pub chained-called : (r : Record) (c : Call) → Chained r → Chained (called r c .state)
 unfolding added closing grown
 chained-called r (add piece) h =
     chained-unless (addRefusal r (length piece)) (grown r piece) r (record { black-fits = h .black-fits; running-fit = h .running-fit }) h
@@ -125,7 +125,7 @@ chained-after : (r : Record) (cs : List Call) → Chained r → Chained (stateAf
 chained-after r [] h = h
 chained-after r (c ∷ cs) h = chained-after (called r c .state) cs (chained-called r c h)
 
-chained-open : (s n f : ℕ) → numberOf (opened s n f .answer) ≡ 0 → Chained (opened s n f .state)
+pub chained-open : (s n f : ℕ) → numberOf (opened s n f .answer) ≡ 0 → Chained (opened s n f .state)
 unfolding opened fresh
 chained-open s n f e =
     rw (sym (opened-number s n f) ∙ e) (record { black-fits = start-words s n; running-fit = same-slots 17 (startValue s n) (start-words s n) })
@@ -140,7 +140,7 @@ setup-small s n f e =
     let c = allowed-f-is s f (u .f-ok) in (omega (arith, a .1), omega (arith, b .most), omega (arith, c .1))
 
 module _ {s n f : ℕ} {j : Journal} {r : Record} (k : Keeps s n f j r) (c : Chained r) where
-  fits-kept : Fits r
+  pub fits-kept : Fits r
   fits-kept =
       let small = setup-small s n f (k .setup-ok) in
       record {

@@ -1,3 +1,4 @@
 pub mod Claim
 pub mod Detection
 pub mod Records
+pub mod Sizing

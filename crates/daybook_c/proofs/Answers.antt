@@ -21,28 +21,36 @@ use Rattle.daybook_c.specs.Contract.{addedBytes, closedBytes, numbersAft
 
 -- ---- add
 
-module _ (b piece : List ℕ) (s : Record) (o : Added) (x : ℕ) (decoded : s ≡ recordOf b) (call : o ≡ added s piece) (number : x ≡ numberOf (o .answer)) where
+module _ (b piece : List ℕ) (old : ℕ) (s : Record) (o : Added) (x : ℕ) (decoded : s ≡ recordOf b) (call : o ≡ added s piece) (number : x ≡ numberOf (o .answer)) where
   given : o ≡ added (recordOf b) piece
   given = call ∙ ap (λ (r : Record). added r piece) decoded
 
   said : x ≡ numberOf (added (recordOf b) piece .answer)
   said = number ∙ ap (λ (a : Added). numberOf (a .answer)) given
 
-  pub add-number : x ≡ addedBytes b piece .number
+  pub add-number : x ≡ addedBytes b piece old .number
   unfolding addedBytes
   add-number = said
 
-  pub add-done : (e : List ℕ) → x ≡ 0 → e ≡ recordBytes (o .state) → e ≡ addedBytes b piece .state
+  pub add-done : (e : List ℕ) → x ≡ 0 → e ≡ recordBytes (o .state) → e ≡ addedBytes b piece old .state
   unfolding addedBytes
   add-done e z enc = enc ∙ ap (λ (a : Added). recordBytes (a .state)) given ∙ new-stands (numberOf (added (recordOf b) piece .answer)) _ b said z
 
-  pub add-kept : (x ≡ 0 → ⊥) → b ≡ addedBytes b piece .state
+  pub add-blocks : x ≡ 0 → o .blocks ≡ addedBytes b piece old .blocks
   unfolding addedBytes
-  add-kept some = old-stays (numberOf (added (recordOf b) piece .answer)) (recordBytes (added (recordOf b) piece .state)) b said some
+  add-blocks z = ap (λ (a : Added). a .blocks) given ∙ new-stands (numberOf (added (recordOf b) piece .answer)) _ old said z
+
+  pub add-kept : (x ≡ 0 → ⊥) → (b ≡ addedBytes b piece old .state) × (old ≡ addedBytes b piece old .blocks)
+  unfolding addedBytes
+  add-kept some =
+      let a = added (recordOf b) piece in (
+        old-stays (numberOf (a .answer)) (recordBytes (a .state)) b said some,
+        old-stays (numberOf (a .answer)) (a .blocks) old said some,
+      )
 
 -- ---- close
 
-module _ (b part : List ℕ) (old : ℕ) (s : Record) (o : Closed) (p : List ℕ) (x : ℕ) (decoded : s ≡ recordOf b) (call : o ≡ closing s part .result) (left : p ≡ closing s part .part)
+module _ (b part : List ℕ) (old was : ℕ) (s : Record) (o : Closed) (p : List ℕ) (x : ℕ) (decoded : s ≡ recordOf b) (call : o ≡ closing s part .result) (left : p ≡ closing s part .part)
     (number : x ≡ writingNumber (o .answer)) where
   abbrev C : Closing
   C = closing (recordOf b) part
@@ -53,27 +61,33 @@ module _ (b part : List ℕ) (old : ℕ) (s : Record) (o : Closed) (p : List ℕ
   number-is : x ≡ writingNumber (closing (recordOf b) part .result .answer)
   number-is = number ∙ ap (λ (c : Closed). writingNumber (c .answer)) result-is
 
-  pub close-number : x ≡ closedBytes b part old .number
+  pub close-number : x ≡ closedBytes b part old was .number
   unfolding closedBytes
   close-number = number-is
 
-  pub close-part : p ≡ closedBytes b part old .part
+  pub close-part : p ≡ closedBytes b part old was .part
   unfolding closedBytes
   close-part = left ∙ ap (λ (r : Record). closing r part .part) decoded
 
-  pub close-done : (e : List ℕ) → x ≡ 0 → e ≡ recordBytes (o .state) → e ≡ closedBytes b part old .state
+  pub close-done : (e : List ℕ) → x ≡ 0 → e ≡ recordBytes (o .state) → e ≡ closedBytes b part old was .state
   unfolding closedBytes
   close-done e z enc = enc ∙ ap (λ (c : Closed). recordBytes (c .state)) result-is ∙ new-stands (writingNumber (C .result .answer)) _ b number-is z
 
-  pub close-count : (k : ℕ) → x ≡ 0 → k ≡ countOf (o .answer) → k ≡ closedBytes b part old .values
+  pub close-count : (k : ℕ) → x ≡ 0 → k ≡ countOf (o .answer) → k ≡ closedBytes b part old was .values
   unfolding closedBytes
   close-count k z e = e ∙ ap (λ (c : Closed). countOf (c .answer)) result-is ∙ new-stands (writingNumber (C .result .answer)) _ old number-is z
 
-  pub close-kept : (x ≡ 0 → ⊥) → (b ≡ closedBytes b part old .state) × (old ≡ closedBytes b part old .values)
+  pub close-blocks : x ≡ 0 → o .blocks ≡ closedBytes b part old was .blocks
+  unfolding closedBytes
+  close-blocks z = ap (λ (c : Closed). c .blocks) result-is ∙ new-stands (writingNumber (C .result .answer)) _ was number-is z
+
+  pub close-kept : (x ≡ 0 → ⊥) →
+      (b ≡ closedBytes b part old was .state) × (old ≡ closedBytes b part old was .values) × (was ≡ closedBytes b part old was .blocks)
   unfolding closedBytes
   close-kept some = (
     old-stays (writingNumber (C .result .answer)) (recordBytes (C .result .state)) b number-is some,
     old-stays (writingNumber (C .result .answer)) (countOf (C .result .answer)) old number-is some,
+    old-stays (writingNumber (C .result .answer)) (C .result .blocks) was number-is some,
   )
 
 -- ---- read

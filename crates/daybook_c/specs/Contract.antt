@@ -1,33 +1,41 @@
 -- What the calls of the C interface (SPEC 15.3) return and leave in the arrays that they are lent, by the calls' own
 -- definitions; for a record, by its bytes. A call returns 0, or 01's number of the refusal. Definitions only.
-use mathlib.Core.List.{List}
+use mathlib.Core.List.{List, [], _∷_}
 use Prim.Native.Nat.{ℕ}
 use Rattle.refusals.specs.Refusals.{numberOf, unlessRefused}
 use Rattle.layouts.specs.Layouts.{layoutRefusal, valueCount}
 use Rattle.reading.specs.Contract.{Report, fiveNumbers}
 use Rattle.record_bytes.specs.Bytes.{recordBytes, recordOf}
+use Rattle.sizing.specs.declared.Sizing.{Sizing}
+use Rattle.sizing.specs.declared.Sizing.the-variants.{Sized, Refused}
 use Rattle.service.specs.Contract.{writingNumber, countOf, added, closing, writtenSoFar}
 
--- add, on a record's bytes
+-- add, on a record's bytes; blocks is what the number of blocks was before
 pub record AddedBytes : Type 0 where
   pub number : ℕ
   pub state : List ℕ
+  pub blocks : ℕ
 
-unfoldable pub addedBytes : List ℕ → List ℕ → AddedBytes
-addedBytes state piece =
+unfoldable pub addedBytes : List ℕ → List ℕ → ℕ → AddedBytes
+addedBytes state piece blocks =
     let call = added (recordOf state) piece in
     let number = numberOf (call .answer) in
-    record { number = number; state = unlessRefused number (recordBytes (call .state)) state }
+    record {
+      number = number;
+      state = unlessRefused number (recordBytes (call .state)) state;
+      blocks = unlessRefused number (call .blocks) blocks;
+    }
 
--- close, on a record's bytes; values is what the number of values was before
+-- close, on a record's bytes; values and blocks are what these numbers were before
 pub record ClosedBytes : Type 0 where
   pub number : ℕ
   pub state : List ℕ
   pub part : List ℕ
   pub values : ℕ
+  pub blocks : ℕ
 
-unfoldable pub closedBytes : List ℕ → List ℕ → ℕ → ClosedBytes
-closedBytes state part values =
+unfoldable pub closedBytes : List ℕ → List ℕ → ℕ → ℕ → ClosedBytes
+closedBytes state part values blocks =
     let call = closing (recordOf state) part in
     let number = writingNumber (call .result .answer) in
     record {
@@ -35,6 +43,7 @@ closedBytes state part values =
       state = unlessRefused number (recordBytes (call .result .state)) state;
       part = call .part;
       values = unlessRefused number (countOf (call .result .answer)) values;
+      blocks = unlessRefused number (call .result .blocks) blocks;
     }
 
 -- the numbers after read: listed, first listed, low, high, last good
@@ -50,6 +59,11 @@ unfoldable pub recordValuesAfter : List ℕ → ℕ → ℕ
 recordValuesAfter state values =
     let answer = writtenSoFar (recordOf state) in unlessRefused (writingNumber answer) (countOf answer) values
 
+-- the sizes after forecast: values, bytes, blocks (SPEC 17)
+unfoldable pub sizesAfter : Sizing → List ℕ → List ℕ
+sizesAfter (Sized s) sizes = s .values ∷ s .bytes ∷ s .blocks ∷ []
+sizesAfter (Refused number) sizes = sizes
+
 -- the version of the calls: 10000 · major + 100 · minor + patch
 abbrev pub version : ℕ
-version = 200
+version = 300

@@ -1,16 +1,18 @@
 // The calls for C and other languages, thin over the Rattle calls. Each returns 0, or the refusal's number.
 // include/daybook.h says what a caller must keep.
 use record_bytes::RECORD_BYTES;
+use sizing::Sizing;
 ghost use mathlib.Core.Path.{_≡_};
 ghost use Rattle.refusals.specs.Refusals.{numberOf};
 ghost use Rattle.layouts.specs.Layouts.{layoutRefusal};
 ghost use Rattle.service.specs.Contract.{opened, writingNumber, writtenSoFar};
 ghost use Rattle.record_bytes.specs.Bytes.{recordBytes, recordOf};
+ghost use Rattle.sizing.specs.Sizing.{forecasted, sizingNumber};
 ghost use Rattle.sealing.specs.Contract.{sealedBook};
 ghost use Rattle.checking.specs.Contract.{checked};
 ghost use Rattle.reading.specs.Contract.{readout};
 ghost use Rattle.daybook_c.specs.Contract.{addedBytes, closedBytes, numbersAfter, valuesAfter};
-ghost use Rattle.daybook_c.specs.Contract.{recordValuesAfter, version};
+ghost use Rattle.daybook_c.specs.Contract.{recordValuesAfter, sizesAfter, version};
 
 #[no_mangle]
 pub extern "C" fn daybook_open(scheme: u32, n: u32, f: u32, state: &mut [u8; RECORD_BYTES]) -> u32
@@ -25,9 +27,16 @@ pub extern "C" fn daybook_open(scheme: u32, n: u32, f: u32, state: &mut [u8; REC
 }
 
 #[no_mangle]
-pub extern "C" fn daybook_add(state: &mut [u8; RECORD_BYTES], piece: &[u8]) -> u32
-    ensures { λ r. ⌜ r ≡ addedBytes (now (state .entry)) (now (piece .entry)) .number ⌝ }
-    ensures { λ r. ⌜ now (state .exit) ≡ addedBytes (now (state .entry)) (now (piece .entry)) .state ⌝ }
+pub extern "C" fn daybook_add(
+    state: &mut [u8; RECORD_BYTES],
+    piece: &[u8],
+    blocks: &mut u32,
+) -> u32
+    ensures { λ r. ⌜ r ≡ addedBytes (now (state .entry)) (now (piece .entry)) (now (blocks .entry)) .number ⌝ }
+    ensures { λ r. ⌜ now (state .exit) ≡
+        addedBytes (now (state .entry)) (now (piece .entry)) (now (blocks .entry)) .state ⌝ }
+    ensures { λ r. ⌜ now (blocks .exit) ≡
+        addedBytes (now (state .entry)) (now (piece .entry)) (now (blocks .entry)) .blocks ⌝ }
 {
     let b = *state;
     let o = service::add(record_bytes::decode(b), piece);
@@ -36,6 +45,7 @@ pub extern "C" fn daybook_add(state: &mut [u8; RECORD_BYTES], piece: &[u8]) -> u
     if x == 0 {
         let grown = o.state;
         *state = record_bytes::encode(grown);
+        *blocks = o.blocks;
     }
     x
 }
@@ -45,14 +55,18 @@ pub extern "C" fn daybook_close(
     state: &mut [u8; RECORD_BYTES],
     part: &mut [u8],
     values: &mut u32,
+    blocks: &mut u32,
 ) -> u32
-    ensures { λ r. ⌜ r ≡ closedBytes (now (state .entry)) (now (part .entry)) (now (values .entry)) .number ⌝ }
+    ensures { λ r. ⌜ r ≡
+        closedBytes (now (state .entry)) (now (part .entry)) (now (values .entry)) (now (blocks .entry)) .number ⌝ }
     ensures { λ r. ⌜ now (state .exit) ≡
-        closedBytes (now (state .entry)) (now (part .entry)) (now (values .entry)) .state ⌝ }
+        closedBytes (now (state .entry)) (now (part .entry)) (now (values .entry)) (now (blocks .entry)) .state ⌝ }
     ensures { λ r. ⌜ now (part .exit) ≡
-        closedBytes (now (state .entry)) (now (part .entry)) (now (values .entry)) .part ⌝ }
+        closedBytes (now (state .entry)) (now (part .entry)) (now (values .entry)) (now (blocks .entry)) .part ⌝ }
     ensures { λ r. ⌜ now (values .exit) ≡
-        closedBytes (now (state .entry)) (now (part .entry)) (now (values .entry)) .values ⌝ }
+        closedBytes (now (state .entry)) (now (part .entry)) (now (values .entry)) (now (blocks .entry)) .values ⌝ }
+    ensures { λ r. ⌜ now (blocks .exit) ≡
+        closedBytes (now (state .entry)) (now (part .entry)) (now (values .entry)) (now (blocks .entry)) .blocks ⌝ }
 {
     let b = *state;
     let o = service::close(record_bytes::decode(b), part);
@@ -62,6 +76,7 @@ pub extern "C" fn daybook_close(
         let next = o.state;
         *state = record_bytes::encode(next);
         *values = service::count_of(a);
+        *blocks = o.blocks;
     }
     x
 }
@@ -162,8 +177,31 @@ pub extern "C" fn daybook_record_values(state: &[u8; RECORD_BYTES], values: &mut
 }
 
 #[no_mangle]
+pub extern "C" fn daybook_forecast(
+    scheme: u32,
+    n: u32,
+    f: u32,
+    d: u32,
+    lengths: &[u32],
+    sizes: &mut [u64; 3],
+) -> u32
+    ensures { λ r. ⌜ r ≡ sizingNumber (forecasted scheme n f d (now (lengths .entry))) ⌝ }
+    ensures { λ r. ⌜ now (sizes .exit) ≡
+        sizesAfter (forecasted scheme n f d (now (lengths .entry))) (now (sizes .entry)) ⌝ }
+{
+    let a = sizing::forecast(scheme, n, f, d, lengths);
+    match a {
+        Sizing::Sized(s) => {
+            *sizes = [s.values as u64, s.bytes as u64, s.blocks];
+            0
+        }
+        Sizing::Refused(x) => x,
+    }
+}
+
+#[no_mangle]
 pub extern "C" fn daybook_version() -> u32
     ensures { λ r. ⌜ r ≡ version ⌝ }
 {
-    200
+    300
 }

@@ -5,13 +5,13 @@ use mathlib.Core.Path.{_≡_, refl, sym, ap, ap₂, _∙_}
 use mathlib.Core.List.{List, [], _∷_, _++_, append-assoc, append-nil}
 use native.Mathlib.Omega.{arith}
 use lib.ListN.{length, take, drop, replicate, length-append, length-drop, drop-of-length-le}
-use lib.Seq.{drop-append-le, drop-drop, take-at}
+use lib.Seq.{drop-append-le, drop-drop, take-at, length-take-le}
 use Rattle.sha256_words.specs.Words.{initial}
 use Rattle.sha256.specs.Sha256.{chunks, blocks, padding, hashed}
-use Rattle.sha256.proofs.Laws.{chunks-append, chunks-add}
+use Rattle.sha256.proofs.Laws.{chunks-append, chunks-add, length-blocks, length-padding}
 use Rattle.hasher.specs.declared.Hasher.{Hasher}
 use Rattle.hasher.specs.Statements.{AnyCutting}
-use Rattle.hasher.specs.Hasher.{rest, filled, onward, begun, absorbed, finished, absorbedAll}
+use Rattle.hasher.specs.Hasher.{rest, filled, onward, begun, absorbed, absorbedBlocks, finished, finishedBlocks, absorbedAll}
 use Rattle.lists.specs.Lists.{joined}
 
 -- ---- the bytes after the last whole block
@@ -93,7 +93,22 @@ pub pieces-hashed : (m : List ℕ) (ps : List (List ℕ))
 pieces-hashed m ps =
     ap₂ finished (absorbedAll-begun m ps) (sym (length-append m (joined ps))) ∙ finished-begun (m ++ joined ps)
 
--- ---- sizes
+-- ---- blocks compressed
+
+held-length : (st : Hasher) (n : ℕ) → length (st .block) ≡ 64 → length (take (n % 64) (st .block)) ≡ n % 64
+held-length st n e = length-take-le (n % 64) (st .block) (omega arith)
+
+pub absorbed-blocks : (st : Hasher) (n : ℕ) (y : List ℕ) → length (st .block) ≡ 64 → absorbedBlocks st n y ≡ (n % 64 + length y) / 64
+unfolding absorbedBlocks
+absorbed-blocks st n y e = rw (length-append, held-length st n e)
+
+pub finished-blocks : (st : Hasher) (n : ℕ) → length (st .block) ≡ 64 → finishedBlocks st n ≡ (n % 64 + 8) / 64 + 1
+unfolding finishedBlocks
+finished-blocks st n e = rw (length-append, held-length st n e, length-padding n) (omega arith)
+
+pub finished-length : (st : Hasher) (n : ℕ) → length (st .words) ≡ 8 → length (finished st n) ≡ 8
+unfolding finished
+finished-length st n e = length-blocks (st .words) (take (n % 64) (st .block) ++ padding n) e
 
 -- ---- as stated
 

@@ -5,7 +5,7 @@ use Prim.Native.Nat.{ℕ, _+_, _-_, _*_, _/_, _%_}
 use mathlib.Core.List.{List, [], _∷_, _++_}
 use lib.ListN.{length, take, drop, replicate}
 use Rattle.sha256_words.specs.Words.{initial}
-use Rattle.sha256.specs.Sha256.{blocks, padding}
+use Rattle.sha256.specs.Sha256.{wholeBlocks, blocks, padding}
 use Rattle.hasher.specs.declared.Hasher.{Hasher}
 
 -- the bytes after the last whole block
@@ -32,9 +32,15 @@ held st n = take (n % 64) (st .block)
 unfoldable pub absorbed : Hasher → ℕ → List ℕ → Hasher
 absorbed st n y = onward (st .words) (held st n ++ y)
 
+unfoldable pub absorbedBlocks : Hasher → ℕ → List ℕ → ℕ  -- the blocks that it compresses
+absorbedBlocks st n y = wholeBlocks (held st n ++ y)
+
 -- the hash value of the whole message, of n bytes
 unfoldable pub finished : Hasher → ℕ → List ℕ
 finished st n = blocks (st .words) (held st n ++ padding n)
+
+unfoldable pub finishedBlocks : Hasher → ℕ → ℕ  -- the blocks that it compresses
+finishedBlocks st n = wholeBlocks (held st n ++ padding n)
 
 -- the pieces ps more, one after the other, after n bytes
 unfoldable pub absorbedAll : Hasher → ℕ → List (List ℕ) → Hasher

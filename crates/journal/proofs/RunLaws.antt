@@ -180,7 +180,7 @@ module _ {s n f : ℕ} {j : Journal} {r : Record} (k : Keeps s n f j r) where
       sym (book-suc s n (j .entries) (j .day))
   book-closed (suc x) part e = append-nil (bookOf s n (j .entries))
 
-  keeps-called : (c : Call) → Keeps s n f (kept s n j (argumentOf c)) (called r c .state)
+  pub keeps-called : (c : Call) → Keeps s n f (kept s n j (argumentOf c)) (called r c .state)
   keeps-called (add piece) = keeps-added piece
   keeps-called (close part) = keeps-closed part
 

@@ -1,9 +1,9 @@
 -- 01's lists of add and close calls (SPEC 5.6), by what the calls' contracts say. Definitions only; the claim on every
 -- such list is in daybook.
 use mathlib.Core.List.{List, [], _∷_, _++_, map}
-use Prim.Native.Nat.{ℕ, _*_}
+use Prim.Native.Nat.{ℕ, zero, suc, _+_, _-_, _*_}
 use lib.ListN.{length, take}
-use Rattle.refusals.specs.Refusals.{numberOf}
+use Rattle.refusals.specs.Refusals.{numberOf, unlessRefused}
 use Rattle.service.specs.declared.Record.{Record}
 use Rattle.service.specs.Contract.{writingNumber, countOf, added, closing}
 use Rattle.journal.specs.Journal.{Journal, empty, Argument, adds, closes, journalAfter}
@@ -17,20 +17,27 @@ abbrev pub argumentOf : Call → Argument
 argumentOf (add piece) = adds piece
 argumentOf (close part) = closes (length part)
 
--- what a call leaves: its answer's number, its record, and what it wrote to the front of its part
+-- what a call leaves: its answer's number, its record, what it wrote to the front of its part, the blocks that it
+-- compressed (02, SPEC 17.3), and the days that it closed, 1 or 0
 pub record Called : Type 0 where
   pub number : ℕ
   pub state : Record
   pub wrote : List ℕ
+  pub blocks : ℕ
+  pub closed : ℕ
 
 abbrev pub called : Record → Call → Called
-called r (add piece) = record { number = numberOf (added r piece .answer); state = added r piece .state; wrote = [] }
+called r (add piece) =
+    let a = added r piece in
+    record { number = numberOf (a .answer); state = a .state; wrote = []; blocks = a .blocks; closed = 0 }
 called r (close part) =
     let c = closing r part in
     record {
       number = writingNumber (c .result .answer);
       state = c .result .state;
       wrote = take (32 * countOf (c .result .answer)) (c .part);
+      blocks = c .result .blocks;
+      closed = unlessRefused (writingNumber (c .result .answer)) 1 0;
     }
 
 -- each call is handed the record that the call before gave back, refused or not (SPEC 5.6)
@@ -47,6 +54,17 @@ answers r (c ∷ cs) = called r c .number ∷ answers (called r c .state) cs
 abbrev pub bookWritten : Record → List Call → List ℕ
 bookWritten r [] = []
 bookWritten r (c ∷ cs) = called r c .wrote ++ bookWritten (called r c .state) cs
+
+-- what each call leaves
+abbrev pub calledAll : Record → List Call → List Called
+calledAll r [] = []
+calledAll r (c ∷ cs) = called r c ∷ calledAll (called r c .state) cs
+
+-- 02's total for the closed days 1 to d (SPEC 17.5): the blocks of the calls up to the d-th accepted close
+abbrev pub blocksTo : List Called → ℕ → ℕ
+blocksTo [] d = 0
+blocksTo (c ∷ made) zero = 0
+blocksTo (c ∷ made) (suc d) = c .blocks + blocksTo made (suc d - c .closed)
 
 -- the journal of the list, from no entry and an empty open day
 abbrev pub journalOf : ℕ → ℕ → List Call → Journal

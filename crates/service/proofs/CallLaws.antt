@@ -8,7 +8,7 @@ use lib.Dec.{leb}
 use lib.ListN.{length, drop}
 use borrow.Author.Tests.{le-leb, lt-leb, leb-true}
 use Rattle.refusals.specs.declared.Answer.the-variants.{Done, Refused}
-use Rattle.refusals.specs.Refusals.{dayLimit, _orRefuse_, numberOf, answerOf}
+use Rattle.refusals.specs.Refusals.{dayLimit, _orRefuse_, numberOf, answerOf, unlessRefused}
 use Rattle.refusals.proofs.TestLaws.{last-fails, last-passes, none-fails, refused-before, answer-refused, answer-done, old-stays, new-stands, front-stands}
 use Rattle.buffers.specs.Private.{Wrote}
 use Rattle.layouts.specs.Layouts.{setupRefusal, chainsOfDay}
@@ -17,8 +17,8 @@ use Rattle.service.specs.declared.Writing.the-variants as writing
 use Rattle.service.specs.declared.Opened.{Opened}
 use Rattle.service.specs.declared.Added.{Added}
 use Rattle.service.specs.declared.Closed.{Closed}
-use Rattle.service.specs.Contract.{fresh, zeros, opened, recordTests, addTests, addRefusal, grown, added, dayCount, closeTests, closeRefusal}
-use Rattle.service.specs.Contract.{dayBytes, nextDay, writingOf, writingNumber, closing}
+use Rattle.service.specs.Contract.{fresh, zeros, opened, recordTests, addTests, addRefusal, grown, grownBlocks, added, dayCount, closeTests, closeRefusal}
+use Rattle.service.specs.Contract.{dayBytes, nextDay, closedBlocks, writingOf, writingNumber, closing}
 use Rattle.service.specs.Private.{recordRefusal}
 use Rattle.service.proofs.RecordLaws.{record-passes}
 
@@ -81,33 +81,37 @@ module _ (s n f : ℕ) {x : ℕ} {state : Record} (e : x ≡ setupRefusal s n f)
   opened-done z q = ap₂ {C = Opened} (λ a t. record { answer = a; state = t }) (answer-done (setupRefusal s n f) e z) (q ∙ new-stands (setupRefusal s n f) (fresh s n f) zeros e z)
 
 module _ (r : Record) (piece : List ℕ) {x : ℕ} (e : x ≡ addRefusal r (length piece)) where
-  pub added-refused : (x ≡ 0 → ⊥) → record { answer = Refused x; state = r } ≡ added r piece
+  pub added-refused : (x ≡ 0 → ⊥) → record { answer = Refused x; state = r; blocks = 0 } ≡ added r piece
   unfolding added
-  added-refused h = ap₂ {C = Added} (λ a t. record { answer = a; state = t }) (answer-refused (addRefusal r (length piece)) e h) (old-stays (addRefusal r (length piece)) (grown r piece) r e h)
+  added-refused h = rw (← e) (refused x h (grown r piece) (grownBlocks r piece))
+    where
+      refused : (x : ℕ) → (x ≡ 0 → ⊥) → (state : Record) (k : ℕ) →
+          _≡_ {A = Added} record { answer = Refused x; state = r; blocks = 0 } record { answer = answerOf x; state = unlessRefused x state r; blocks = unlessRefused x k 0 }
+      refused zero h state k = absurd (h refl)
+      refused (suc x) h state k = refl
 
-  pub added-done : {state : Record} → x ≡ 0 → state ≡ grown r piece → record { answer = Done; state = state } ≡ added r piece
+  pub added-done : {state : Record} {k : ℕ} → x ≡ 0 → state ≡ grown r piece → k ≡ grownBlocks r piece → record { answer = Done; state = state; blocks = k } ≡ added r piece
   unfolding added
-  added-done z q = ap₂ {C = Added} (λ a t. record { answer = a; state = t }) (answer-done (addRefusal r (length piece)) e z) (q ∙ new-stands (addRefusal r (length piece)) (grown r piece) r e z)
-
-writing-refused : {x : ℕ} (r count : ℕ) → x ≡ r → (x ≡ 0 → ⊥) → writing.Refused x ≡ writingOf r count
-writing-refused {x = zero} r count e h = absurd (h refl)
-writing-refused {x = suc y} r count e h = rw (← e)
+  added-done z q b = rw (← e, z, q, b)
 
 module _ (r : Record) (part : List ℕ) {x : ℕ} (e : x ≡ closeRefusal r (length part)) where
-  pub closing-refused : (x ≡ 0 → ⊥) → (record { answer = writing.Refused x; state = r } ≡ closing r part .result) × (part ≡ closing r part .part)
+  pub closing-refused : (x ≡ 0 → ⊥) → (record { answer = writing.Refused x; state = r; blocks = 0 } ≡ closing r part .result) × (part ≡ closing r part .part)
   unfolding closing
-  closing-refused h =
-      let refusal = closeRefusal r (length part) in (
-        ap₂ {C = Closed} (λ a t. record { answer = a; state = t }) (writing-refused refusal (dayCount r) e h) (old-stays refusal (nextDay r) r e h),
-        old-stays refusal
-            (dayBytes r ++ drop (length (dayBytes r)) part) part e h,
-      )
+  closing-refused h = (
+    rw (← e) (refused x h (dayCount r) (nextDay r) (closedBlocks r)),
+    old-stays (closeRefusal r (length part)) (dayBytes r ++ drop (length (dayBytes r)) part) part e h,
+  )
+    where
+      refused : (x : ℕ) → (x ≡ 0 → ⊥) → (count : ℕ) (state : Record) (k : ℕ) →
+          _≡_ {A = Closed} record { answer = writing.Refused x; state = r; blocks = 0 } record { answer = writingOf x count; state = unlessRefused x state r; blocks = unlessRefused x k 0 }
+      refused zero h count state k = absurd (h refl)
+      refused (suc x) h count state k = refl
 
-  pub closing-done : {k : ℕ} {state : Record} {next : List ℕ} → x ≡ 0 → k ≡ dayCount r → state ≡ nextDay r → Wrote 0 (dayBytes r) part (32 * k) next →
-      (record { answer = writing.Wrote k; state = state } ≡ closing r part .result) × (next ≡ closing r part .part)
+  pub closing-done : {k m : ℕ} {state : Record} {next : List ℕ} → x ≡ 0 → k ≡ dayCount r → state ≡ nextDay r → m ≡ closedBlocks r → Wrote 0 (dayBytes r) part (32 * k) next →
+      (record { answer = writing.Wrote k; state = state; blocks = m } ≡ closing r part .result) × (next ≡ closing r part .part)
   unfolding closing
-  closing-done {k} {next = next} z c q w =
-      (rw (← e, z, c, q), front-stands (closeRefusal r (length part)) (dayBytes r) part next (32 * k) e z (omega (arith, w .count)) (w .list))
+  closing-done {k} {next = next} z c q b w =
+      (rw (← e, z, c, q, b), front-stands (closeRefusal r (length part)) (dayBytes r) part next (32 * k) e z (omega (arith, w .count)) (w .list))
 
 -- ---- the number of each answer is the refusal's
 

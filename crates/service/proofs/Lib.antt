@@ -1,3 +1,4 @@
 pub mod RecordLaws
 pub mod CallLaws
 pub mod DayLaws
+pub mod BlockLaws

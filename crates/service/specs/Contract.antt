@@ -8,10 +8,11 @@ use lib.ListN.{length, replicate}
 use Rattle.refusals.specs.Refusals.{bookLimit, dayLimit, Test, _orRefuse_, firstRefusal, answerOf, unlessRefused}
 use Rattle.refusals.specs.Refusals.{frontWritten}
 use Rattle.hasher.specs.declared.Hasher.{Hasher}
-use Rattle.hasher.specs.Hasher.{begun, absorbed, finished}
+use Rattle.hasher.specs.Hasher.{begun, absorbed, absorbedBlocks, finished, finishedBlocks}
 use Rattle.layouts.specs.Layouts.{allowedScheme, allowedN, allowedF, setupRefusal, chainsOfDay, chains}
 use Rattle.chains.specs.declared.Value.{Value}
-use Rattle.chains.specs.Step.{startValue, linked, linkedSlots, restarted, dayValues, valueBytes}
+use Rattle.chains.specs.Step.{startValue, linked, linkBlocks, linkedSlots, slotBlocks, restarted, dayValues}
+use Rattle.chains.specs.Step.{valueBytes}
 use Rattle.service.specs.declared.Record.{Record}
 use Rattle.service.specs.declared.Writing.{Writing}
 use Rattle.service.specs.declared.Writing.the-variants.{Wrote, Refused}
@@ -98,11 +99,19 @@ grown r piece =
       running = r .running;
     }
 
+-- 02's blocks that the piece fills (SPEC 17.3): those that its end of the open day compresses
+unfoldable pub grownBlocks : Record → List ℕ → ℕ
+grownBlocks r piece = absorbedBlocks (openDay r) (r .bytes + 1) piece
+
 -- what add gives
 unfoldable pub added : Record → List ℕ → Added
 added r piece =
     let refusal = addRefusal r (length piece) in
-    record { answer = answerOf refusal; state = unlessRefused refusal (grown r piece) r }
+    record {
+      answer = answerOf refusal;
+      state = unlessRefused refusal (grown r piece) r;
+      blocks = unlessRefused refusal (grownBlocks r piece) 0;
+    }
 
 -- ---- close (SPEC 5.4): 01's tests 6 5 8 (SPEC 11.3)
 
@@ -145,6 +154,12 @@ nextDay r =
       running = restarted (r .scheme) (r .n) (suc (r .days)) (startValue (r .scheme) (r .n)) (linkedOf r);
     }
 
+-- 02's blocks of a close (SPEC 17.3): those that the day's end, its link to black and its links to slots compress
+unfoldable pub closedBlocks : Record → ℕ
+closedBlocks r =
+    finishedBlocks (openDay r) (r .bytes + 1) + linkBlocks (r .black) (digestOf r)
+    + slotBlocks (r .scheme) (r .n) (suc (r .days)) (digestOf r) 0 (r .running)
+
 -- the answer of close: the number of values written, or the refusal
 abbrev pub writingOf : ℕ → ℕ → Writing
 writingOf zero count = Wrote count
@@ -168,7 +183,12 @@ unfoldable pub closing : Record → List ℕ → Closing
 closing r part =
     let refusal = closeRefusal r (length part) in
     record {
-      result = record { answer = writingOf refusal (dayCount r); state = unlessRefused refusal (nextDay r) r };
+      result =
+          record {
+            answer = writingOf refusal (dayCount r);
+            state = unlessRefused refusal (nextDay r) r;
+            blocks = unlessRefused refusal (closedBlocks r) 0;
+          };
       part = frontWritten refusal (dayBytes r) part;
     }
 

@@ -1,5 +1,6 @@
 // The service: open, add to the open day, close the day. A record goes in by value and comes back; a refused call gives
 // it back as it came.
+mod blocks;
 mod day;
 mod records;
 
@@ -33,14 +34,17 @@ pub struct Opened {
     pub state: Record,
 }
 
+// What add and close give: the answer, the record, and the SHA-256 blocks that the call compressed, 0 if it was refused.
 pub struct Added {
     pub answer: Answer,
     pub state: Record,
+    pub blocks: u32,
 }
 
 pub struct Closed {
     pub answer: Writing,
     pub state: Record,
+    pub blocks: u32,
 }
 
 // The refusal's number, 0 if there is none.
@@ -102,11 +106,13 @@ pub fn add(state: Record, piece: &[u8]) -> Added
         return Added {
             answer: Answer::Refused(x),
             state,
+            blocks: 0,
         };
     }
     Added {
         answer: Answer::Done,
         state: day::grow(state, piece),
+        blocks: blocks::of_add(state, piece.len()),
     }
 }
 
@@ -135,6 +141,7 @@ pub fn close(state: Record, part: &mut [u8]) -> Closed
         return Closed {
             answer: Writing::Refused(x),
             state,
+            blocks: 0,
         };
     }
     let step = day::step(state);
@@ -144,6 +151,7 @@ pub fn close(state: Record, part: &mut [u8]) -> Closed
     Closed {
         answer: Writing::Wrote(k),
         state: day::next(state, step),
+        blocks: blocks::of_close(state),
     }
 }
 

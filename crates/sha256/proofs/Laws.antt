@@ -1,13 +1,13 @@
 -- Laws of SHA-256: the successive blocks of a list, and the sizes of hash values and digests.
 -- Assumes nothing.
-use Prim.Native.Nat.{ℕ, zero, suc, _+_, _*_, _/_, _≤_, _<_}
+use Prim.Native.Nat.{ℕ, zero, suc, _+_, _-_, _*_, _/_, _%_, _≤_, _<_}
 use mathlib.Core.{Path._≡_, Path.refl, Path.ap, Path.ap₂, Path._∙_, List.List, List._++_}
 use native.Mathlib.{Omega.arith, Nat.suc-mul, Nat.zero-add, Nat.suc-add}
-use lib.ListN.{length, take, drop, length-append, length-drop}
+use lib.ListN.{length, take, drop, replicate, length-append, length-drop, length-replicate}
 use lib.Seq.{take-append-le, drop-append-le, drop-drop, take-all, take-at, drop-at}
 use Rattle.sha256_words.specs.Words.{initial, words}
 use Rattle.sha256_words.proofs.Laws.{length-initial, length-bytes}
-use Rattle.sha256.specs.Sha256.{summed, compress, chunks, blocks, padding, hashed, sha256}
+use Rattle.sha256.specs.Sha256.{summed, compress, chunks, blocks, wide, padding, hashed, hashedBlocks, sha256}
 
 -- ---- blocks
 
@@ -80,3 +80,15 @@ length-hashed m = length-blocks initial (m ++ padding (length m)) length-initial
 pub sha256-length : (m : List ℕ) → length (sha256 m) ≡ 32
 unfolding sha256
 sha256-length m = omega (arith, length-bytes (hashed m), length-hashed m)
+
+-- ---- blocks compressed
+
+pub length-padding : (n : ℕ) → length (padding n) ≡ 9 + (119 - n % 64) % 64
+unfolding padding wide
+length-padding n =
+    let z : ℕ = (119 - n % 64) % 64 in
+    omega (arith, length-append (replicate z 0) (wide (8 * n)), length-replicate {A = ℕ} z 0)
+
+pub hashed-blocks : (m : List ℕ) → hashedBlocks m ≡ (length m + 8) / 64 + 1
+unfolding hashedBlocks
+hashed-blocks m = omega (arith, length-append m (padding (length m)), length-padding (length m))

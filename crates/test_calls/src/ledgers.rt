@@ -1,7 +1,9 @@
-// The calls on a ledger of 24 days: its values are counted, it is sealed, checked with day 10 altered, and read.
+// The calls on a ledger of 24 days: its values are counted, days of 130 bytes are sized, it is sealed, checked with
+// day 10 altered, and read.
 use crate::lines;
 use test_samples::days;
 use test_samples::lent;
+use test_samples::print;
 ghost use Prim.Native.Nat.{_≤_};
 ghost use lib.ListN.{length};
 
@@ -12,6 +14,24 @@ fn values() {
         daybook_c::daybook_values(2, 8, 3, 24, &mut values),
     );
     lines::numbers(&[values]);
+    lines::end();
+}
+
+fn print_size(x: u64) {
+    print::byte(b' ');
+    io::print_decimal(1, x);
+}
+
+fn forecast() {
+    let lengths = [130u32; 30];
+    let mut sizes = [96u64; 3];
+    lines::head(
+        b"forecast",
+        daybook_c::daybook_forecast(2, 8, 3, 24, &lengths, &mut sizes),
+    );
+    print_size(sizes[0]);
+    print_size(sizes[1]);
+    print_size(sizes[2]);
     lines::end();
 }
 
@@ -62,5 +82,6 @@ pub fn run() {
     let mut ends = [0u32; 24];
     days::put_all(&mut ledger, &mut ends);
     values();
+    forecast();
     seal_check_read(&mut ledger, &ends);
 }

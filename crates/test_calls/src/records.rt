@@ -15,8 +15,13 @@ fn open(state: &mut [u8; 692]) {
 
 fn add(state: &mut [u8; 692], g: usize) {
     let piece = days::bytes(g);
-    lines::head(b"add", daybook_c::daybook_add(state, &piece));
+    let mut blocks = 97u32;
+    lines::head(
+        b"add",
+        daybook_c::daybook_add(state, &piece, &mut blocks),
+    );
     print_numbers(state);
+    lines::numbers(&[blocks]);
     lines::end();
 }
 
@@ -24,11 +29,12 @@ fn add(state: &mut [u8; 692], g: usize) {
 fn close(state: &mut [u8; 692]) {
     let mut part = [170u8; 200];
     let mut values = 99u32;
+    let mut blocks = 97u32;
     lines::head(
         b"close",
-        daybook_c::daybook_close(state, &mut part, &mut values),
+        daybook_c::daybook_close(state, &mut part, &mut values, &mut blocks),
     );
-    lines::numbers(&[values]);
+    lines::numbers(&[values, blocks]);
     lines::bytes(&part[0..32]);
     lines::end();
 }

@@ -20,16 +20,22 @@ next-requires c κs = (
   c .before .before .before .before .before .step .ensures,
 )
 
+of-close-requires : tie.Need-of-close-requires
+of-close-requires c κs =
+    close-passes (c .before .before .before .before .before .before .before .before .before .before .args .state) _
+    (c .before .before .before .before .before .before .before .before .close-refusal .ensures) (c .before .before .before .before .before .before .before .if1 .left) .0
+
 returns-2 : tie.Need-returns-2
 returns-2 c =
-    let r = c .before .before .before .before .before .before .before .before .before .before .args .state in
-    let s = c .before .before .before .before .before .before .step in
-    closing-done r _ (c .before .before .before .before .before .before .before .before .close-refusal .ensures) (c .before .before .before .before .before .before .before .if1 .left)
-    (step-count r (s .result) (s .ensures)) (c .next .ensures)
-    (wrote-as (dayBytes r) (step-bytes r (s .result) (s .ensures)) (c .before .before .before .write .ensures))
+    let b = c .before in
+    let r = b .before .before .before .before .before .before .before .before .before .before .args .state in
+    let s = b .before .before .before .before .before .before .step in
+    closing-done r _ (b .before .before .before .before .before .before .before .before .close-refusal .ensures) (b .before .before .before .before .before .before .before .if1 .left)
+    (step-count r (s .result) (s .ensures)) (b .next .ensures) (c .of-close .ensures)
+    (wrote-as (dayBytes r) (step-bytes r (s .result) (s .ensures)) (b .before .before .before .write .ensures))
 
 pub close-spec : {M : Type 1} → statement M
 close-spec = tie.close (tie.spec (λ c κs. search needs)
     (λ c. closing-refused (c .before .before .before .args .state) _ (c .before .close-refusal .ensures) (c .if1 .taken))
     (λ c κs. close-passes (c .before .before .before .args .state) _ (c .before .close-refusal .ensures) (c .if1 .left) .0)
-    write-requires next-requires (λ c. search needs) returns-2)
+    write-requires next-requires of-close-requires (λ c. search needs) returns-2)

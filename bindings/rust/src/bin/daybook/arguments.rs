@@ -56,6 +56,13 @@ pub enum Command {
         /// The names of the closed days in the state folder's index; none without one.
         sealed: Vec<String>,
     },
+    Forecast {
+        layout: Layout,
+        d: Option<u32>,
+        lengths: Lengths,
+        /// Whether the sizes are one line for programs.
+        line: bool,
+    },
 }
 
 /// Where the days are.
@@ -63,6 +70,14 @@ pub enum Command {
 pub enum Source {
     Folder(PathBuf),
     Ledger { ledger: PathBuf, ends: PathBuf },
+}
+
+/// Where the lengths of the days are.
+#[derive(Debug, PartialEq, Eq)]
+pub enum Lengths {
+    Folder(PathBuf),
+    /// A text, or - for standard input.
+    Text(PathBuf),
 }
 
 /// A command's name, its help, its options, and how it is made of them.
@@ -73,7 +88,7 @@ type Form = (
     fn(&mut Options) -> Result<Command, Stop>,
 );
 
-const FORMS: [Form; 8] = [
+const FORMS: [Form; 9] = [
     (
         "open",
         help::OPEN,
@@ -139,10 +154,24 @@ const FORMS: [Form; 8] = [
         ],
         verify,
     ),
+    (
+        "forecast",
+        help::FORECAST,
+        &[
+            "--scheme",
+            "--n",
+            "--f",
+            "--d",
+            "--days",
+            "--lengths",
+            "--line",
+        ],
+        forecast,
+    ),
 ];
 
 /// Options that have no value.
-const FLAGS: [&str; 2] = ["--force", "--names"];
+const FLAGS: [&str; 3] = ["--force", "--names", "--line"];
 
 /// In the options of a command: it takes words that are no options, a folder and files.
 const WORDS: &str = "DIR";
@@ -230,6 +259,15 @@ fn verify(options: &mut Options) -> Result<Command, Stop> {
         source: options.source()?,
         book: options.needed_path("--book")?,
         sealed: options.sealed.take().unwrap_or_default(),
+    })
+}
+
+fn forecast(options: &mut Options) -> Result<Command, Stop> {
+    Ok(Command::Forecast {
+        layout: options.layout()?,
+        d: options.number("--d")?,
+        lengths: options.lengths()?,
+        line: options.flag("--line"),
     })
 }
 
@@ -411,6 +449,17 @@ impl Options {
         }
     }
 
+    fn lengths(&mut self) -> Result<Lengths, Stop> {
+        match (self.path("--days"), self.path("--lengths")) {
+            (Some(folder), None) => Ok(Lengths::Folder(folder)),
+            (None, Some(text)) => Ok(Lengths::Text(text)),
+            _ => Err(usage(&format!(
+                "{} needs either --days or --lengths",
+                self.command
+            ))),
+        }
+    }
+
     /// A command on the folder that is the first word.
     fn service(
         &mut self,
@@ -553,6 +602,35 @@ mod tests {
     }
 
     #[test]
+    fn forecasts() {
+        let forecast = |d, lengths, line| {
+            Ok(Request::Run(Command::Forecast {
+                layout: Layout::tree(8),
+                d,
+                lengths,
+                line,
+            }))
+        };
+        assert_eq!(
+            parsed("forecast --scheme 3 --n 8 --f 1 --days in"),
+            forecast(None, Lengths::Folder("in".into()), false)
+        );
+        assert_eq!(
+            parsed("forecast --line --scheme 3 --n 8 --f 1 --d 16 --lengths -"),
+            forecast(Some(16), Lengths::Text("-".into()), true)
+        );
+        for words in ["", "--days in --lengths l"] {
+            let line = format!("forecast --scheme 3 --n 8 --f 1 {words}");
+            assert_eq!(message(&line), "forecast needs either --days or --lengths");
+        }
+        assert_eq!(message("forecast --line=yes"), "--line takes no value");
+        assert_eq!(
+            message("forecast --state s"),
+            "forecast has no option --state"
+        );
+    }
+
+    #[test]
     fn services() {
         let service = |folder: &str, service| {
             Ok(Request::Run(Command::Service {
@@ -618,6 +696,7 @@ mod tests {
         assert_eq!(parsed("check -h"), Ok(Request::Help(help::CHECK)));
         assert_eq!(parsed("read --d 1 --help"), Ok(Request::Help(help::READ)));
         assert_eq!(parsed("verify --help"), Ok(Request::Help(help::VERIFY)));
+        assert_eq!(parsed("forecast -h"), Ok(Request::Help(help::FORECAST)));
         assert_eq!(parsed("help"), Ok(Request::Help(help::ALL)));
         assert_eq!(parsed("help read"), Ok(Request::Help(help::READ)));
         assert_eq!(parsed("--version"), Ok(Request::Help(help::VERSION)));

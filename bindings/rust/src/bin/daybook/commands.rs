@@ -16,6 +16,7 @@ use crate::explain::{bad_end, bad_outcome, impossible_value, short_book};
 use crate::figure::Verified;
 use crate::files::{read_front, test_written, Staged};
 use crate::fit::{moved, Fit};
+use crate::forecast::forecast;
 use crate::names::{field, out_of_order};
 use crate::progress::Progress;
 use crate::say;
@@ -91,6 +92,12 @@ pub fn run(command: &Command) -> Result<Done, Stop> {
             };
             verify(&work, book, &view)
         }
+        Command::Forecast {
+            layout,
+            d,
+            lengths,
+            line,
+        } => forecast(*layout, *d, lengths, *line),
     }
 }
 
@@ -237,7 +244,7 @@ impl Work {
     }
 }
 
-fn warn_of_order(names: &[OsString]) {
+pub fn warn_of_order(names: &[OsString]) {
     if let Some((first, second)) = out_of_order(names) {
         say(&format!(
             "warning: days go in byte order of the names, and so {} comes before {}",
@@ -247,7 +254,7 @@ fn warn_of_order(names: &[OsString]) {
     }
 }
 
-fn labels(names: &[OsString]) -> Vec<String> {
+pub fn labels(names: &[OsString]) -> Vec<String> {
     names.iter().map(|name| field(name)).collect()
 }
 
@@ -311,7 +318,8 @@ fn seal_files(work: &Work, files: &[PathBuf]) -> Result<Vec<u8>, Stop> {
 /// Adds a file as a day and closes it; gives the number of its values.
 fn seal_file(service: &mut Service, path: &Path, rest: &mut [u8]) -> Result<u32, Halt> {
     add_file(service, path)?;
-    service.close(rest).map_err(Halt::Refused)
+    let closed = service.close(rest).map_err(Halt::Refused)?;
+    Ok(closed.values)
 }
 
 fn halted(work: &Work, halt: Halt, day: usize, path: &Path) -> Stop {

@@ -82,7 +82,7 @@ impl Days {
 }
 
 /// The files of a folder in byte order of their names. An entry that is no file is a fault.
-fn day_files(folder: &Path) -> Result<Vec<PathBuf>, Stop> {
+pub fn day_files(folder: &Path) -> Result<Vec<PathBuf>, Stop> {
     let mut files = Vec::new();
     for entry in fs::read_dir(folder).map_err(|error| unread(folder, error))? {
         let path = entry.map_err(|error| unread(folder, error))?.path();
@@ -96,7 +96,7 @@ fn day_files(folder: &Path) -> Result<Vec<PathBuf>, Stop> {
     Ok(files)
 }
 
-fn file_names(files: &[PathBuf]) -> Vec<OsString> {
+pub fn file_names(files: &[PathBuf]) -> Vec<OsString> {
     let names = files.iter().filter_map(|path| path.file_name());
     names.map(OsString::from).collect()
 }
@@ -181,7 +181,9 @@ pub fn add_file(service: &mut Service, path: &Path) -> Result<(), Halt> {
     loop {
         match file.read(&mut piece) {
             Ok(0) => return Ok(()),
-            Ok(length) => service.add(&piece[..length]).map_err(Halt::Refused)?,
+            Ok(length) => {
+                service.add(&piece[..length]).map_err(Halt::Refused)?;
+            }
             Err(error) if error.kind() == io::ErrorKind::Interrupted => {}
             Err(error) => return Err(Halt::Stopped(unread(path, error))),
         }

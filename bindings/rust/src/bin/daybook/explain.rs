@@ -25,6 +25,14 @@ pub fn bad_end(ends: &[u32], d: u32, length: u64, names: Option<&[String]>) -> O
     None
 }
 
+/// Refusal 17: the first of `d` days whose length is over the limit.
+pub fn long_day(lengths: &[u32], d: u32, names: Option<&[String]>) -> Option<String> {
+    let mut days = (1..=d).zip(lengths);
+    let (day, _) = days.find(|(_, length)| **length > DAY_LIMIT)?;
+    let name = day_name(day, names);
+    Some(format!("{name} has more than {DAY_LIMIT} bytes"))
+}
+
 /// A day, with its name where it has one.
 pub fn day_name(day: u32, names: Option<&[String]>) -> String {
     let name = (day as usize)
@@ -119,6 +127,21 @@ mod tests {
         assert_eq!(
             said(&[16_777_216, 33_554_433], 2, 40_000_000).unwrap(),
             "day 2 has more than 16777216 bytes"
+        );
+    }
+
+    #[test]
+    fn the_first_long_day() {
+        let lengths = [16_777_216, 16_777_217, u32::MAX];
+        assert_eq!(long_day(&lengths, 1, None), None);
+        assert_eq!(
+            long_day(&lengths, 3, None).unwrap(),
+            "day 2 has more than 16777216 bytes"
+        );
+        let names = ["a".to_string(), "b%2C".to_string()];
+        assert_eq!(
+            long_day(&lengths, 3, Some(&names)).unwrap(),
+            "day 2 (b%2C) has more than 16777216 bytes"
         );
     }
 

@@ -17,6 +17,9 @@ Whole books:
   daybook read    list the days that a file of outcomes tells of
   daybook verify  check and read in one
 
+A season before it is sealed:
+  daybook forecast  say what sealing it will take, from the lengths of the days alone
+
 daybook help COMMAND, or daybook COMMAND --help, says more of each; daybook --version the version.
 An option is written --option value or --option=value.
 
@@ -24,6 +27,7 @@ A command that reads prints the lines
   REF,scheme,listed,first,low,high,lastgood
   DAY,g                 for each day that may have been altered
 on standard output (clean: REF,scheme,0,0,0,0,D). A refusal prints NO,number there.
+forecast prints the sizes there, with --line as SIZE,scheme,values,bytes,blocks.
 Messages go to standard error.
 
 Exit status:
@@ -155,4 +159,24 @@ the figure. On a terminal standard error has a summary in words and a strip of t
 SOURCE is as for seal: --days DIR, or --ledger FILE --ends FILE. The days are held in memory. A folder
 of more than 4,294,967,295 bytes has no 32-bit ends and is a fault. Refusal 14 says that no change of
 days alone gives what was found: the book is altered, or is of other days or of another layout.
+";
+
+pub const FORECAST: &str = "\
+daybook forecast --scheme S --n N --f F [--d D] --days DIR [--line]
+daybook forecast --scheme S --n N --f F [--d D] --lengths FILE [--line]
+
+Says what sealing the days will take: the bytes of the book, the values that go to the notary, and the
+SHA-256 blocks to be hashed. Only the lengths of the days count: no day is read, nothing is hashed and
+no file is written.
+
+  --scheme S --n N --f F   the layout: 1 black, 2 tile, 3 tree; days in an interval; intervals per
+                           validation
+  --d D                    take the first D days (else: all)
+  --days DIR               a folder of days, as for seal: the lengths are those of its files
+  --lengths FILE           the lengths as text, or - for standard input: a decimal number of bytes for
+                           each day, a line each, in plain digits and with nothing beside them
+  --line                   print one line for programs: SIZE,scheme,values,bytes,blocks
+
+A day of b bytes takes (b + 9) / 64 blocks, rounded down, and 1; each link of a chain takes 2. Fewer
+lengths than D is refusal 16; a day over 16,777,216 bytes, among the first D, is refusal 17.
 ";

@@ -178,7 +178,7 @@ fn close_again(mut state: State, day: u32, files: &[OsString], input: &Input) ->
 /// Closes the open day. Where files are given it is empty, and theirs are all of its bytes.
 fn close_open(state: State, day: u32, input: &Input) -> Result<(), Stop> {
     let mut service = state.record.service.clone();
-    let closed = service.add(&input.bytes).and_then(|()| service.close_day());
+    let closed = service.add(&input.bytes).and_then(|_| service.close_day());
     let values = closed.map_err(|refusal| refused(refusal, &state, day, input.bytes.len()))?;
     let whole = match input.bytes[..] {
         [] => state.record.day,
