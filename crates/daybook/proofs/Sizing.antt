@@ -109,6 +109,10 @@ length-at (e ∷ E) day more = length-at E day more
 
 -- ---- every list of calls
 
+none-taken : (made : List Called) → blocksTo made 0 ≡ 0
+none-taken [] = refl
+none-taken (c ∷ made) = refl
+
 module _ (s n : ℕ) where
   abbrev after : Journal → List Call → Journal
   after j cs = journalAfter s n j (map argumentOf cs)
@@ -135,7 +139,8 @@ module _ (s n : ℕ) where
     stays t d l =
         let q = ap length (t .same) in
         let e = later d (rw q l) in
-        rw (t .none) (omega (arith, t .more, rw q at e))
+        let z : suc d - 0 ≡ suc d = omega arith in
+        rw (t .none, z) (omega (arith, t .more, rw q at e))
 
     module _ (t : Closes s n j next (c .blocks) (c .closed)) where
       size : length (next .entries) ≡ suc (length (j .entries))
@@ -154,11 +159,12 @@ module _ (s n : ℕ) where
       closes-day : (d : ℕ) → Goal d
       closes-day zero l =
           let p : length (j .entries) + 1 ≡ suc (length (j .entries)) = omega arith in
-          rw (t .one, p) (omega (arith, t .day-blocks, one-day))
+          rw (t .one, p) (omega (arith, t .day-blocks, one-day, none-taken made))
       closes-day (suc d) l =
           let p : length (j .entries) + suc (suc d) ≡ suc (length (j .entries)) + suc d = omega arith in
           let e = later d (rw (size, ← p) l) in
-          rw (t .one, p) (omega (arith, t .day-blocks, one-day, t .fresh, rw size at e))
+          let z : suc (suc d) - 1 ≡ suc d = omega arith in
+          rw (t .one, p, z) (omega (arith, t .day-blocks, one-day, t .fresh, rw size at e))
 
 taken : {s n f : ℕ} {j : Journal} {r : Record} → Keeps s n f j r → Chained r → (cs : List Call) (d : ℕ) → Taken s n j cs (calledAll r cs) d
 taken k h [] d l = absurd (omega arith)
@@ -174,9 +180,11 @@ taken {s} {n} {j = j} {r = r} k h (c ∷ cs) d l =
 
 forecast-met : (s n f : ℕ) → numberOf (opened s n f .answer) ≡ 0 → (cs : List Call) (d : ℕ) → d ≤ length (journalOf s n cs .entries) →
     blocksTaken s n f cs d ≡ blocksThrough s n (lengths s n f cs) d
-forecast-met s n f opens cs zero l = refl
+forecast-met s n f opens cs zero l = none-taken (calledAll (opened s n f .state) cs)
 forecast-met s n f opens cs (suc d) l =
-    taken (keeps-open s n f (sym (opened-number s n f) ∙ opens)) (chained-open s n f opens) cs d l
+    let z : 0 + suc d ≡ suc d = omega arith in
+    let e = taken (keeps-open s n f (sym (opened-number s n f) ∙ opens)) (chained-open s n f opens) cs d (rw z l) in
+    omega (arith, rw z at e)
 
 -- lengths of a journal pass 16 and 17
 take-enough : (d : ℕ) (l : List ℕ) → length (take d l) ≡ d → d ≤ length l

@@ -177,6 +177,6 @@ no file is written.
                            each day, a line each, in plain digits and with nothing beside them
   --line                   print one line for programs: SIZE,scheme,values,bytes,blocks
 
-A day of b bytes takes (b + 9) / 64 blocks, rounded down, and 1; each link of a chain takes 2. Fewer
+A day of b bytes takes (b + 9) / 64 blocks, rounded down, plus 1; each link of a chain takes 2. Fewer
 lengths than D is refusal 16; a day over 16,777,216 bytes, among the first D, is refusal 17.
 ";
