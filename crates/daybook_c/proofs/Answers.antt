@@ -17,7 +17,11 @@ use Rattle.service.specs.declared.Record.{Record}
 use Rattle.service.specs.declared.Writing.{Writing}
 use Rattle.service.specs.declared.Added.{Added}
 use Rattle.service.specs.declared.Closed.{Closed}
-use Rattle.daybook_c.specs.Contract.{addedBytes, closedBytes, numbersAfter, valuesAfter, recordValuesAfter}
+use Rattle.sizing.specs.declared.Sizes.{Sizes}
+use Rattle.sizing.specs.declared.Sizing.{Sizing}
+use Rattle.sizing.specs.declared.Sizing.the-variants.{Sized, Refused}
+use Rattle.sizing.specs.Sizing.{sizingNumber}
+use Rattle.daybook_c.specs.Contract.{addedBytes, closedBytes, numbersAfter, valuesAfter, recordValuesAfter, sizesAfter}
 
 -- ---- add
 
@@ -134,3 +138,14 @@ module _ (b : List ℕ) (old : ℕ) (s : Record) (a : Writing) (x : ℕ) (decode
   pub record-kept : (x ≡ 0 → ⊥) → old ≡ recordValuesAfter b old
   unfolding recordValuesAfter
   record-kept some = old-stays (writingNumber (writtenSoFar (recordOf b))) (countOf (writtenSoFar (recordOf b))) old record-number some
+
+-- ---- forecast
+
+module _ (answer : Sizing) (old : List ℕ) where
+  pub forecast-given : (s : Sizes) → Sized s ≡ answer → (0 ≡ sizingNumber answer) × (s .values ∷ s .bytes ∷ s .blocks ∷ [] ≡ sizesAfter answer old)
+  unfolding sizesAfter
+  forecast-given s e = (rw (← e), rw (← e))
+
+  pub forecast-kept : (x : ℕ) → Refused x ≡ answer → (x ≡ sizingNumber answer) × (old ≡ sizesAfter answer old)
+  unfolding sizesAfter
+  forecast-kept x e = (rw (← e), rw (← e))

@@ -27,11 +27,7 @@ pub extern "C" fn daybook_open(scheme: u32, n: u32, f: u32, state: &mut [u8; REC
 }
 
 #[no_mangle]
-pub extern "C" fn daybook_add(
-    state: &mut [u8; RECORD_BYTES],
-    piece: &[u8],
-    blocks: &mut u32,
-) -> u32
+pub extern "C" fn daybook_add(state: &mut [u8; RECORD_BYTES], piece: &[u8], blocks: &mut u32) -> u32
     ensures { λ r. ⌜ r ≡ addedBytes (now (state .entry)) (now (piece .entry)) (now (blocks .entry)) .number ⌝ }
     ensures { λ r. ⌜ now (state .exit) ≡
         addedBytes (now (state .entry)) (now (piece .entry)) (now (blocks .entry)) .state ⌝ }

@@ -16,10 +16,7 @@ fn open(state: &mut [u8; 692]) {
 fn add(state: &mut [u8; 692], g: usize) {
     let piece = days::bytes(g);
     let mut blocks = 97u32;
-    lines::head(
-        b"add",
-        daybook_c::daybook_add(state, &piece, &mut blocks),
-    );
+    lines::head(b"add", daybook_c::daybook_add(state, &piece, &mut blocks));
     print_numbers(state);
     lines::numbers(&[blocks]);
     lines::end();

@@ -1,6 +1,6 @@
 //! What sealing a season will take, before it is sealed.
 
-use daybook::{Layout, Refusal, Service, Sizes, VALUE};
+use daybook::{Layout, Refusal, Sizes, VALUE};
 
 use crate::arguments::Lengths;
 use crate::commands::{labels, warn_of_order, Done};
@@ -15,7 +15,7 @@ pub fn forecast(
     source: &Lengths,
     line: bool,
 ) -> Result<Done, Stop> {
-    Service::open(layout).map_err(|refusal| Stop::Refused(refusal, layout.to_string()))?;
+    test_layout(layout)?;
     let found = Found::find(source)?;
     warn_of_order(found.names.as_deref().unwrap_or_default());
     let season = Season {
@@ -34,6 +34,14 @@ pub fn forecast(
         lines,
         changed: false,
     })
+}
+
+/// Tests 1 2 3, before the source is looked at: a season of no days comes to 7, the test behind them.
+fn test_layout(layout: Layout) -> Result<(), Stop> {
+    match daybook::forecast(layout, 0, &[]) {
+        Ok(_) | Err(Refusal::BadD) => Ok(()),
+        Err(refusal) => Err(Stop::Refused(refusal, layout.to_string())),
+    }
 }
 
 /// The days to be sealed.
