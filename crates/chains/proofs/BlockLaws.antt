@@ -20,6 +20,23 @@ pub links-done : (s n g i k : ℕ) → k ≡ suc (slotLinks s n g i) → i ≡ 1
 unfolding linksOf
 links-done s n g i k h e = rw e at h
 
+-- ---- scheme by scheme
+
+pub links-of-tile : (s n g : ℕ) {k : ℕ} → s ≡ 2 → k ≡ linksOf 2 n g → k ≡ linksOf s n g
+links-of-tile s n g e h = rw e h
+
+pub links-of-tree : (s n g : ℕ) → s ≡ 3 → 18 ≡ linksOf s n g
+unfolding linksOf
+links-of-tree s n g e = rw e
+
+pub links-of-black : (s n g : ℕ) → (s ≡ 2 → ⊥) → (s ≡ 3 → ⊥) → 1 ≡ linksOf s n g
+unfolding linksOf
+links-of-black zero n g h k = refl
+links-of-black (suc zero) n g h k = refl
+links-of-black (suc (suc zero)) n g h k = absurd (h refl)
+links-of-black (suc (suc (suc zero))) n g h k = absurd (k refl)
+links-of-black (suc (suc (suc (suc s)))) n g h k = refl
+
 -- at most one for each slot
 pub one-link : (b : Bool) {x : ℕ} → x ≡ cond b 1 0 → x ≤ 1
 one-link true e = omega arith

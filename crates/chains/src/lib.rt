@@ -64,18 +64,32 @@ fn links_to(scheme: u32, n: u32, g: u32, i: u32) -> u32
     0
 }
 
-// How often day g is linked: to black, and to slots (SPEC 17.2).
-pub fn link_count(scheme: u32, n: u32, g: u32) -> u32
+// How often day g is linked under scheme 2: to black, and to the slots of tile chains that cover it.
+fn tile_link_count(n: u32, g: u32) -> u32
     requires { ⌜ (allowedN n ≡ true) × (1 ≤ g) ⌝ }
-    ensures { λ r. ⌜ r ≡ linksOf scheme n g ⌝ }
+    ensures { λ r. ⌜ r ≡ linksOf 2 n g ⌝ }
 {
     let mut k = 1u32;
     let mut i = 0u32;
     while i < 17 {
-        k += links_to(scheme, n, g, i);
+        k += links_to(2, n, g, i);
         i += 1;
     }
     k
+}
+
+// How often day g is linked (SPEC 17.2): to black, to tile chains, to the levels of the tree.
+pub fn link_count(scheme: u32, n: u32, g: u32) -> u32
+    requires { ⌜ (allowedN n ≡ true) × (1 ≤ g) ⌝ }
+    ensures { λ r. ⌜ r ≡ linksOf scheme n g ⌝ }
+{
+    if scheme == 2 {
+        return tile_link_count(n, g);
+    }
+    if scheme == 3 {
+        return 18;
+    }
+    1
 }
 
 fn stores_slot(scheme: u32, n: u32, g: u32, i: u32) -> bool

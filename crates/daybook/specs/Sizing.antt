@@ -22,8 +22,8 @@ module _ (scheme n f : ℕ) (cs : List Call) where
 
   pub record ForecastMet (d : ℕ) : Type 0 where
     pub met : blocksTaken d ≡ blocksThrough scheme n lengths d
-    -- where 01 allows d, the call, lent any lengths that begin with these, is not refused and says so, beside the number
-    -- of the layout's values and 32 bytes for each
+    -- where 01 allows d, the call, lent any lengths that begin with these, is not refused and gives this number, beside
+    -- that of the layout's values and 32 bytes for each
     pub told : allowedD n f d ≡ true → (lent : List ℕ) → take d lent ≡ take d lengths →
         forecasted scheme n f d lent ≡ Sized (record {
           values = length (chains scheme n d);

@@ -34,7 +34,7 @@ pub struct Opened {
     pub state: Record,
 }
 
-// What add and close give: the answer, the record, and the SHA-256 blocks that the call compressed, 0 if it was refused.
+// What add and close give: the answer, the record, and the SHA-256 blocks that the call compressed, 0 if refused.
 pub struct Added {
     pub answer: Answer,
     pub state: Record,

@@ -16,7 +16,7 @@ use Rattle.sizing.specs.declared.Sizing.the-variants.{Sized, Refused}
 abbrev pub dayBlocks : ℕ → ℕ
 dayBlocks b = (b + 9) / 64 + 1
 
--- 02's blocks of the days 1 to d, by their lengths (SPEC 17.4): a link takes 2; the length of day i + 1 stands at place i
+-- 02's blocks of the days 1 to d, by their lengths (SPEC 17.4): a link takes 2; the length of day i + 1 is at place i
 abbrev pub blocksThrough : ℕ → ℕ → List ℕ → ℕ → ℕ
 blocksThrough scheme n lengths zero = 0
 blocksThrough scheme n lengths (suc i) =
