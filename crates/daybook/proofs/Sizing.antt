@@ -3,7 +3,7 @@ use mathlib.Core.Path.{_≡_, refl, sym, ap, _∙_}
 use mathlib.Core.Logic.{_⊎_, inl, inr}
 use mathlib.Core.Bool.{true}
 use mathlib.Core.List.{List, [], _∷_, _++_, map, append-assoc, append-nil, List·Memᴰ·head, List·Memᴰ·tail}
-use Prim.Native.Nat.{ℕ, zero, suc, _+_, _-_, _*_, _/_, _%_, _≤_, _<_}
+use Prim.Native.Nat.{ℕ, zero, suc, _+_, _-_, _*_, _/_, _%_, _≤_}
 use native.Mathlib.Nat.{le-refl}
 use native.Mathlib.Omega.{arith}
 use lib.ListN.{length, getD, take, length-append, length-map}
@@ -17,10 +17,10 @@ use Rattle.chains.specs.declared.Value.{Value}
 use Rattle.chains.specs.Step.{linksOf}
 use Rattle.chains.proofs.BlockLaws.{Eights}
 use Rattle.service.specs.declared.Record.{Record}
-use Rattle.service.specs.Contract.{opened, addRefusal, added, grownBlocks, closeRefusal, closing, closedBlocks}
+use Rattle.service.specs.Contract.{opened, added, grownBlocks, closing, closedBlocks}
 use Rattle.service.proofs.BlockLaws.{Sized, grown-blocks, closed-blocks}
 use Rattle.service.proofs.CallLaws.{opened-number, closing-number}
-use Rattle.journal.specs.Journal.{Journal, empty, Argument, adds, closes, refusalOf, entered, kept, journalAfter}
+use Rattle.journal.specs.Journal.{Journal, Argument, adds, closes, refusalOf, entered, kept, journalAfter}
 use Rattle.journal.specs.Run.{Call, add, close, argumentOf, Called, called, calledAll, blocksTo, journalOf}
 use Rattle.journal.proofs.RunLaws.{Keeps, keeps-open, keeps-called, add-same, close-same}
 use Rattle.record_bytes.specs.Bytes.{Slots, Fits}

@@ -1,26 +1,24 @@
 -- Laws of the days' lengths, of the refusals 16 and 17, and of the blocks forecast.
 use mathlib.Core.Path.{_≡_, refl, sym, ap, _∙_}
 use mathlib.Core.Logic.{inl, inr}
-use mathlib.Core.Bool.{Bool, true, false}
+use mathlib.Core.Bool.{true, false}
 use mathlib.Core.List.{List, _++_}
-use Prim.Native.Nat.{ℕ, zero, suc, _+_, _*_, _/_, _≤_, _<_}
-use native.Mathlib.Nat.{eq-or-lt-of-le, le-refl}
+use Prim.Native.Nat.{ℕ, zero, suc, _+_, _*_, _≤_, _<_}
+use native.Mathlib.Nat.{eq-or-lt-of-le}
 use native.Mathlib.Numerals.{add-one}
 use native.Mathlib.Omega.{arith}
 use lib.Dec.{leb}
 use lib.ListN.{length, getD, take}
 use lib.Seq.{getD-take}
 use borrow.Author.Tests.{leb-true, le-leb, lt-leb}
-use Rattle.lists.proofs.Laws.{split, true-or-false, and-both}
+use Rattle.lists.proofs.Laws.{split, and-both}
 use Rattle.refusals.specs.Refusals.{bookLimit, dayLimit}
-use Rattle.refusals.proofs.TestLaws.{none-fails, all-pass, pass-split, pass-both, refused-before, refused-after}
+use Rattle.refusals.proofs.TestLaws.{none-fails, all-pass, pass-split, refused-before, refused-after}
 use Rattle.layouts.specs.Layouts.{layoutTests, layoutRefusal, chains}
 use Rattle.chains.specs.Step.{linksOf}
 use Rattle.chains.proofs.BlockLaws.{links-most}
-use Rattle.sizing.specs.declared.Sizes.{Sizes}
-use Rattle.sizing.specs.declared.Sizing.{Sizing}
 use Rattle.sizing.specs.declared.Sizing.the-variants.{Sized, Refused}
-use Rattle.sizing.specs.Sizing.{dayBlocks, blocksThrough, shortDays, lengthsTests, lengthsRefusal, sizingRefusal, sizesOf, sizingOf, forecasted}
+use Rattle.sizing.specs.Sizing.{dayBlocks, blocksThrough, shortDays, lengthsTests, lengthsRefusal, sizingRefusal, forecasted}
 
 -- ---- the first d lengths
 

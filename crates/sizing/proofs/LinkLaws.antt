@@ -9,7 +9,7 @@ use lib.ListN.{length, length-append}
 use borrow.Author.Tests.{le-leb, lt-leb}
 use Rattle.lists.specs.Lists.{keep, upFrom}
 use Rattle.lists.proofs.Laws.{keep-append, upFrom-snoc}
-use Rattle.layouts.specs.Layouts.{allowedN, lg, offset, covers}
+use Rattle.layouts.specs.Layouts.{lg, offset, covers}
 use Rattle.layouts.proofs.AllowedLaws.{allowed-n-is}
 use Rattle.chains.specs.Step.{slotLinks, linksOf}
 use Rattle.sizing.specs.Statements.{LinksTold}

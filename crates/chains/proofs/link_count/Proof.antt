@@ -1,5 +1,4 @@
 -- `chains::link_count` meets its contract.
-use mathlib.Core.Path.{sym, ap, _∙_}
 use borrow.Author.Needs.{needs}
 use Rattle.chains.proofs.BlockLaws.{links-of-tile, links-of-tree, links-of-black}
 use Rattle.chains.proofs.link_count.Statement.{statement}
