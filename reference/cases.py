@@ -529,18 +529,19 @@ def sizes(case):
     """Forecasts: days of all lengths, some over the limit, some lacking."""
     rng, scheme = case.rng, case.scheme
     n, f, d = layout(scheme, rng)
-    lengths = [rng.choice((day_length(rng), day_length(rng),
-                           rng.randrange(LIMIT + 1), LIMIT))
-               for _ in range(d)]
-    if rng.random() < 0.2:
-        lengths[rng.randrange(d)] = rng.choice((LIMIT + 1, TOP))
-    if rng.random() < 0.2:
-        lengths = lengths[:bad_length(rng, d)]
-    lengths += random_words(rng, rng.randrange(3))
     settings = scheme, n, f, d
-    if rng.random() < 0.1:
-        settings = bad_settings(rng, *settings)
-    case.call("forecast", *settings, lengths, random_words(rng, 3))
+    good = [rng.choice((day_length(rng), day_length(rng),
+                        rng.randrange(LIMIT + 1), LIMIT)) for _ in range(d)]
+    long = list(good)
+    long[rng.randrange(d)] = rng.choice((LIMIT + 1, TOP))
+    few = rng.choice((good, long))[:rng.randrange(d)]
+    if few and rng.random() < 0.5:
+        few[rng.randrange(len(few))] = rng.choice((LIMIT + 1, TOP))
+    behind = random_words(rng, rng.randint(1, 3))
+    for lengths in (good, good + behind, long, long + behind, few):
+        case.call("forecast", *settings, lengths, random_words(rng, 3))
+    case.call("forecast", *bad_settings(rng, *settings), good + behind,
+              random_words(rng, 3))
 
 
 def record_of(rng, scheme, n, f, days, count=0):
