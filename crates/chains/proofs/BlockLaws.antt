@@ -9,7 +9,7 @@ use Rattle.sha256_words.specs.Words.{bytesOf}
 use Rattle.sha256_words.proofs.Laws.{length-bytes}
 use Rattle.sha256.proofs.Laws.{hashed-blocks}
 use Rattle.chains.specs.declared.Value.{Value}
-use Rattle.chains.specs.Step.{linkInput, linkBlocks, linksSlot, slotBlocks, slotLinks, linksOf}
+use Rattle.chains.specs.Step.{linkBytes, linkBlocks, linksSlot, slotBlocks, slotLinks, linksOf}
 
 -- ---- counted by a loop
 
@@ -56,9 +56,9 @@ links-most s n g = omega (arith, slot-links-most s n g 17)
 pub link-blocks : (v : Value) (h : List ℕ) → length (v .words) ≡ 8 → length h ≡ 8 → linkBlocks v h ≡ 2
 unfolding linkBlocks
 link-blocks v h ev eh =
-    let m : length (linkInput v h) ≡ 65 =
+    let m : length (linkBytes v h) ≡ 65 =
     omega (arith, length-append (bytesOf (v .words)) (bytesOf h), length-bytes (v .words), length-bytes h) in
-    hashed-blocks (linkInput v h) ∙ rw m
+    hashed-blocks (linkBytes v h) ∙ rw m
 
 -- values of eight words
 abbrev pub Eights : List Value → Type 0

@@ -15,14 +15,14 @@ unfoldable pub startValue : ℕ → ℕ → Value
 startValue scheme n = record { words = replicate 8 0 }
 
 -- 01's link of a value and a digest (SPEC 3.5), as words; and the blocks compressed for it
-abbrev pub linkInput : Value → List ℕ → List ℕ
-linkInput v h = 1 ∷ (bytesOf (v .words) ++ bytesOf h)
+abbrev pub linkBytes : Value → List ℕ → List ℕ
+linkBytes v h = 1 ∷ (bytesOf (v .words) ++ bytesOf h)
 
 unfoldable pub linked : Value → List ℕ → Value
-linked v h = record { words = hashed (linkInput v h) }
+linked v h = record { words = hashed (linkBytes v h) }
 
 unfoldable pub linkBlocks : Value → List ℕ → ℕ
-linkBlocks v h = hashedBlocks (linkInput v h)
+linkBlocks v h = hashedBlocks (linkBytes v h)
 
 -- whether day g is linked to slot i: each tile chain that covers it; each level of the tree
 abbrev pub linksSlot : ℕ → ℕ → ℕ → ℕ → Bool
