@@ -9,7 +9,7 @@ use native.Mathlib.Omega.{arith}
 use lib.ListN.{length, getD, take, length-append, length-map}
 use lib.Seq.{length-take-le}
 use borrow.Author.Tests.{le-leb}
-use Rattle.lists.specs.Lists.{_among_}
+use Rattle.lists.specs.Lists.{_among_, every}
 use Rattle.refusals.specs.Refusals.{dayLimit, numberOf, unlessRefused}
 use Rattle.layouts.specs.Layouts.{allowedD, layoutRefusal}
 use Rattle.layouts.proofs.AllowedLaws.{layout-0}
@@ -18,14 +18,14 @@ use Rattle.chains.specs.Step.{linksOf}
 use Rattle.chains.proofs.BlockLaws.{Eights}
 use Rattle.service.specs.declared.Record.{Record}
 use Rattle.service.specs.Contract.{opened, added, grownBlocks, closing, closedBlocks}
-use Rattle.service.proofs.BlockLaws.{Sized, grown-blocks, closed-blocks}
+use Rattle.service.proofs.BlockLaws.{Typed, grown-blocks, closed-blocks}
 use Rattle.service.proofs.CallLaws.{opened-number, closing-number}
 use Rattle.journal.specs.Journal.{Journal, Argument, adds, closes, refusalOf, entered, kept, journalAfter}
 use Rattle.journal.specs.Run.{Call, add, close, argumentOf, Called, called, calledAll, blocksTo, journalOf}
 use Rattle.journal.proofs.RunLaws.{Keeps, keeps-open, keeps-called, add-same, close-same}
 use Rattle.record_bytes.specs.Bytes.{Slots, Fits}
-use Rattle.sizing.specs.Sizing.{dayBlocks, blocksThrough, shortDays}
-use Rattle.sizing.proofs.LengthLaws.{Passed, blocks-front, short-front, forecast-sized, passes-sizing}
+use Rattle.sizing.specs.Sizing.{dayBlocks, blocksThrough, shortDay}
+use Rattle.sizing.proofs.LengthLaws.{Passed, blocks-front, forecast-sized, passes-sizing}
 use Rattle.daybook.specs.Sizing.{lengths, blocksTaken, ForecastMet, ForecastsMet}
 use Rattle.daybook.proofs.Meets.{limited}
 use Rattle.daybook.proofs.Records.{Chained, chained-open, chained-called, fits-kept}
@@ -36,7 +36,7 @@ eights : (l : List Value) → Slots l → Eights l
 eights [] s = tt
 eights (v ∷ vs) s = (s .0 .0, eights vs (s .1))
 
-sized : (r : Record) → Fits r → Sized r
+sized : (r : Record) → Fits r → Typed r
 sized r z =
     record {
       hash-many = z .hash-fits .0;
@@ -64,7 +64,7 @@ record Closes (s n : ℕ) (j next : Journal) (blocks closed : ℕ) : Type 0 wher
   fresh : whole next ≡ 0
   day-blocks : whole j + blocks ≡ dayBlocks (length (j .day)) + 2 * linksOf s n (suc (length (j .entries)))
 
-module _ {s n f : ℕ} {j : Journal} {r : Record} (k : Keeps s n f j r) (z : Sized r) where
+module _ {s n f : ℕ} {j : Journal} {r : Record} (k : Keeps s n f j r) (z : Typed r) where
   moved-add : (piece : List ℕ) (x : ℕ) → Stays j (unlessRefused x (entered j (adds piece)) j) (unlessRefused x (grownBlocks r piece) 0) 0
   moved-add piece zero =
       let e = grown-blocks r piece (z .block-many) in
@@ -192,14 +192,10 @@ take-enough zero l e = omega arith
 take-enough (suc d) [] e = absurd (omega arith)
 take-enough (suc d) (x ∷ l) e = omega (arith, take-enough d l (omega arith))
 
-get-limited : (E : List (List ℕ)) → ((e : List ℕ) → e among E → length e ≤ dayLimit) → (i : ℕ) → getD (map length E) i 0 ≤ dayLimit
-get-limited [] h i = omega arith
-get-limited (e ∷ E) h zero = h e (List·Memᴰ·head refl)
-get-limited (e ∷ E) h (suc i) = get-limited E (λ x m. h x (List·Memᴰ·tail m)) i
-
-all-short : (l : List ℕ) → ((i : ℕ) → getD l i 0 ≤ dayLimit) → (d : ℕ) → shortDays d l ≡ true
-all-short l h zero = refl
-all-short l h (suc d) = rw (all-short l h d, le-leb (getD l d 0) dayLimit (h d))
+all-short : (E : List (List ℕ)) → ((e : List ℕ) → e among E → length e ≤ dayLimit) → (d : ℕ) → every shortDay (take d (map length E)) ≡ true
+all-short E h zero = refl
+all-short [] h (suc d) = refl
+all-short (e ∷ E) h (suc d) = rw (le-leb (length e) dayLimit (h e (List·Memᴰ·head refl))) (all-short E (λ x m. h x (List·Memᴰ·tail m)) d)
 
 module _ (s n f : ℕ) (opens : numberOf (opened s n f .answer) ≡ 0) (cs : List Call) (d : ℕ) (l : d ≤ length (journalOf s n cs .entries)) where
   passes : allowedD n f d ≡ true → (lent : List ℕ) → take d lent ≡ take d (lengths s n f cs) → Passed s n f d lent
@@ -211,7 +207,7 @@ module _ (s n f : ℕ) (opens : numberOf (opened s n f .answer) ≡ 0) (cs : Lis
       record {
         layout = sym (layout-0 s n f d refl (sym (opened-number s n f) ∙ opens) refl (rw a));
         enough = take-enough d lent c;
-        short = short-front lent L d e d (le-refl d) ∙ all-short L (get-limited (journalOf s n cs .entries) (limited s n cs .entries-limited)) d;
+        short = ap (every shortDay) e ∙ all-short (journalOf s n cs .entries) (limited s n cs .entries-limited) d;
       }
 
   forecast-told : ForecastMet s n f cs d

@@ -22,7 +22,7 @@ unfolding grownBlocks
 grown-blocks r piece e = absorbed-blocks (openDay r) (r .bytes + 1) piece e
 
 -- a record of the sizes of its type
-pub record Sized (r : Record) : Type 0 where
+pub record Typed (r : Record) : Type 0 where
   pub hash-many : length (r .hash) ≡ 8
   pub block-many : length (r .block) ≡ 64
   pub black-many : length (r .black .words) ≡ 8
@@ -35,7 +35,7 @@ eights-of [] us s = tt
 eights-of (v ∷ vs) [] s = absurd s
 eights-of (v ∷ vs) (u ∷ us) s = (length-unmapped ℕ (v .words) 8 (s .0 .1 .1 .0 .1 .0 .1), eights-of vs us (s .1))
 
-pub closed-blocks : (r : Record) → Sized r → closedBlocks r ≡ ((r .bytes + 1) % 64 + 8) / 64 + 1 + 2 * linksOf (r .scheme) (r .n) (suc (r .days))
+pub closed-blocks : (r : Record) → Typed r → closedBlocks r ≡ ((r .bytes + 1) % 64 + 8) / 64 + 1 + 2 * linksOf (r .scheme) (r .n) (suc (r .days))
 unfolding closedBlocks
 closed-blocks r z =
     let h = finished-length (openDay r) (r .bytes + 1) (z .hash-many) in
@@ -43,7 +43,7 @@ closed-blocks r z =
     let b = links-blocks (r .scheme) (r .n) (suc (r .days)) (digestOf r) h (r .black) (r .running) (z .black-many) (z .running-many) (z .eights) in
     omega (arith, a, b)
 
-pub counted-blocks : (r : Record) → Sized r → {k : ℕ} → k ≡ linksOf (r .scheme) (r .n) (r .days + 1) → ((r .bytes + 1) % 64 + 8) / 64 + 1 + 2 * k ≡ closedBlocks r
+pub counted-blocks : (r : Record) → Typed r → {k : ℕ} → k ≡ linksOf (r .scheme) (r .n) (r .days + 1) → ((r .bytes + 1) % 64 + 8) / 64 + 1 + 2 * k ≡ closedBlocks r
 counted-blocks r z {k} e =
     let q : k ≡ linksOf (r .scheme) (r .n) (suc (r .days)) = e ∙ ap (linksOf (r .scheme) (r .n)) (add-one (r .days)) in
     omega (arith, q, closed-blocks r z)

@@ -2,37 +2,36 @@
 use mathlib.Core.Path.{_≡_, refl, sym, ap, _∙_}
 use mathlib.Core.Logic.{inl, inr}
 use mathlib.Core.Bool.{true, false}
-use mathlib.Core.List.{List, _++_}
+use mathlib.Core.List.{List, [], _∷_, _++_}
 use Prim.Native.Nat.{ℕ, zero, suc, _+_, _*_, _≤_, _<_}
-use native.Mathlib.Nat.{eq-or-lt-of-le}
 use native.Mathlib.Numerals.{add-one}
 use native.Mathlib.Omega.{arith}
-use lib.Dec.{leb}
 use lib.ListN.{length, getD, take}
-use lib.Seq.{getD-take}
+use lib.Seq.{getD-take, take-suc}
 use borrow.Author.Tests.{leb-true, le-leb, lt-leb}
-use Rattle.lists.proofs.Laws.{split, and-both}
+use Rattle.lists.specs.Lists.{every}
+use Rattle.lists.proofs.Laws.{split, and-both, every-append}
 use Rattle.refusals.specs.Refusals.{bookLimit, dayLimit}
 use Rattle.refusals.proofs.TestLaws.{none-fails, all-pass, pass-split, refused-before, refused-after}
 use Rattle.layouts.specs.Layouts.{layoutTests, layoutRefusal, chains}
 use Rattle.chains.specs.Step.{linksOf}
 use Rattle.chains.proofs.BlockLaws.{links-most}
 use Rattle.sizing.specs.declared.Sizing.the-variants.{Sized, Refused}
-use Rattle.sizing.specs.Sizing.{dayBlocks, blocksThrough, shortDays, lengthsTests, lengthsRefusal, sizingRefusal, forecasted}
+use Rattle.sizing.specs.Sizing.{dayBlocks, blocksThrough, shortDay, lengthsTests, lengthsRefusal, sizingRefusal, forecasted}
 
 -- ---- the first d lengths
 
-pub short-at : (d : ℕ) (l : List ℕ) (i : ℕ) → shortDays d l ≡ true → i < d → getD l i 0 ≤ dayLimit
+pub short-at : (d : ℕ) (l : List ℕ) (i : ℕ) → every shortDay (take d l) ≡ true → i < d → getD l i 0 ≤ dayLimit
 short-at zero l i h m = absurd (omega arith)
-short-at (suc d) l i h m =
-    let b = and-both (shortDays d l) (leb (getD l d 0) dayLimit) h in
-    elim (eq-or-lt-of-le m) [ inl e ↦ let q : i ≡ d = omega arith in rw q (leb-true (getD l d 0) dayLimit (b .1)) | inr o ↦ short-at d l i (b .0) (omega arith) ]
+short-at (suc d) [] i h m = omega arith
+short-at (suc d) (x ∷ l) zero h m = leb-true x dayLimit (and-both (shortDay x) (every shortDay (take d l)) h .0)
+short-at (suc d) (x ∷ l) (suc i) h m = short-at d l i (and-both (shortDay x) (every shortDay (take d l)) h .1) (omega arith)
 
-pub short-more : (l : List ℕ) (i b : ℕ) → b ≡ getD l i 0 → b ≤ dayLimit → shortDays i l ≡ true → shortDays (i + 1) l ≡ true
-short-more l i b e m h = rw (add-one i, h, ← e, le-leb b dayLimit m)
+pub short-more : (l : List ℕ) (i b : ℕ) → b ≡ getD l i 0 → b ≤ dayLimit → i < length l → every shortDay (take i l) ≡ true → every shortDay (take (i + 1) l) ≡ true
+short-more l i b e m o h = rw (add-one i, take-suc l i 0 o, every-append shortDay (take i l) (getD l i 0 ∷ []), h, ← e, le-leb b dayLimit m)
 
-long-at : (d : ℕ) (l : List ℕ) (i : ℕ) → i < d → dayLimit < getD l i 0 → shortDays d l ≡ false
-long-at d l i m o = elim (split (shortDays d l)) [ inl h ↦ let q = short-at d l i h m in absurd (omega arith) | inr h ↦ h ]
+long-at : (d : ℕ) (l : List ℕ) (i : ℕ) → i < d → dayLimit < getD l i 0 → every shortDay (take d l) ≡ false
+long-at d l i m o = elim (split (every shortDay (take d l))) [ inl h ↦ let q = short-at d l i h m in absurd (omega arith) | inr h ↦ h ]
 
 -- ---- the refusals
 
@@ -44,7 +43,7 @@ pub lengths-17 : (d : ℕ) (l : List ℕ) (i b : ℕ) → b ≡ getD l i 0 → d
 unfolding lengthsRefusal
 lengths-17 d l i b e o m enough = rw (le-leb d (length l) enough, long-at d l i m (rw e at o))
 
-pub lengths-0 : (d : ℕ) (l : List ℕ) (i : ℕ) → shortDays i l ≡ true → i ≡ d → d ≤ length l → 0 ≡ lengthsRefusal d l
+pub lengths-0 : (d : ℕ) (l : List ℕ) (i : ℕ) → every shortDay (take i l) ≡ true → i ≡ d → d ≤ length l → 0 ≡ lengthsRefusal d l
 unfolding lengthsRefusal
 lengths-0 d l i h e enough = rw (le-leb d (length l) enough, ← e, h)
 
@@ -61,7 +60,7 @@ module _ (s n f d : ℕ) (l : List ℕ) where
   pub record Passed : Type 0 where
     pub layout : layoutRefusal s n f d ≡ 0
     pub enough : d ≤ length l
-    pub short : shortDays d l ≡ true
+    pub short : every shortDay (take d l) ≡ true
 
   pub sizing-passes : {x : ℕ} → x ≡ sizingRefusal s n f d l → x ≡ 0 → Passed
   unfolding layoutRefusal sizingRefusal
@@ -92,7 +91,7 @@ module _ (s n f d : ℕ) (l : List ℕ) where
 day-most : (s n g b : ℕ) → b ≤ dayLimit → dayBlocks b + 2 * linksOf s n g ≤ 262181
 day-most s n g b m = omega (arith, links-most s n g)
 
-pub blocks-most : (s n : ℕ) (l : List ℕ) (d : ℕ) → shortDays d l ≡ true → (i : ℕ) → i ≤ d → blocksThrough s n l i ≤ i * 262181
+pub blocks-most : (s n : ℕ) (l : List ℕ) (d : ℕ) → every shortDay (take d l) ≡ true → (i : ℕ) → i ≤ d → blocksThrough s n l i ≤ i * 262181
 blocks-most s n l d h zero m = omega arith
 blocks-most s n l d h (suc i) m = omega (arith, blocks-most s n l d h i (omega arith), day-most s n (suc i) (getD l i 0) (short-at d l i h m))
 
@@ -109,7 +108,7 @@ pub record Small (sum own k : ℕ) : Type 0 where
   pub own-most : own ≤ 262145
   pub links-few : k ≤ 18
 
-pub loop-small : (s n : ℕ) (l : List ℕ) (d i : ℕ) {sum w own k : ℕ} → shortDays d l ≡ true → d ≤ bookLimit → i < d → sum ≡ blocksThrough s n l i → w ≡ i →
+pub loop-small : (s n : ℕ) (l : List ℕ) (d i : ℕ) {sum w own k : ℕ} → every shortDay (take d l) ≡ true → d ≤ bookLimit → i < d → sum ≡ blocksThrough s n l i → w ≡ i →
     own ≡ dayBlocks (getD l w 0) → k ≡ linksOf s n (i + 1) → Small sum own k
 loop-small s n l d i {sum} {w} {own} {k} h m o e ew eo ek =
     let a = blocks-most s n l d h i (omega arith) in
@@ -129,9 +128,3 @@ blocks-front s n l m d e zero o = refl
 blocks-front s n l m d e (suc i) o =
     let q : getD l i 0 ≡ getD m i 0 = sym (getD-take d l i 0 o) ∙ ap (λ (x : List ℕ). getD x i 0) e ∙ getD-take d m i 0 o in
     rw (blocks-front s n l m d e i (omega arith), q)
-
-pub short-front : (l m : List ℕ) (d : ℕ) → take d l ≡ take d m → (i : ℕ) → i ≤ d → shortDays i l ≡ shortDays i m
-short-front l m d e zero o = refl
-short-front l m d e (suc i) o =
-    let q : getD l i 0 ≡ getD m i 0 = sym (getD-take d l i 0 o) ∙ ap (λ (x : List ℕ). getD x i 0) e ∙ getD-take d m i 0 o in
-    rw (short-front l m d e i (omega arith), q)

@@ -1,10 +1,11 @@
 -- 02's sizing of a season (C-11, SPEC 17): values, bytes of the book and SHA-256 blocks, by the days' lengths alone.
 -- Definitions only.
-use mathlib.Core.Bool.{Bool, true, _&&_}
+use mathlib.Core.Bool.{Bool}
 use mathlib.Core.List.{List, [], _∷_, _++_}
 use Prim.Native.Nat.{ℕ, zero, suc, _+_, _*_, _/_}
 use lib.Dec.{leb}
-use lib.ListN.{length, getD}
+use lib.ListN.{length, getD, take}
+use Rattle.lists.specs.Lists.{every}
 use Rattle.refusals.specs.Refusals.{dayLimit, Test, _orRefuse_, firstRefusal}
 use Rattle.layouts.specs.Layouts.{layoutTests, chains}
 use Rattle.chains.specs.Step.{linksOf}
@@ -22,14 +23,13 @@ blocksThrough scheme n lengths zero = 0
 blocksThrough scheme n lengths (suc i) =
     blocksThrough scheme n lengths i + (dayBlocks (getD lengths i 0) + 2 * linksOf scheme n (suc i))
 
--- none of the first d lengths is over the day's limit
-abbrev pub shortDays : ℕ → List ℕ → Bool
-shortDays zero lengths = true
-shortDays (suc i) lengths = shortDays i lengths && leb (getD lengths i 0) dayLimit
+-- a length that is not over the day's limit
+abbrev pub shortDay : ℕ → Bool
+shortDay b = leb b dayLimit
 
 -- 02's tests 16 17 (SPEC 10.16, 10.17), after 1 2 3 7
 abbrev pub lengthsTests : ℕ → List ℕ → List Test
-lengthsTests d lengths = leb d (length lengths) orRefuse 16 ∷ shortDays d lengths orRefuse 17 ∷ []
+lengthsTests d lengths = leb d (length lengths) orRefuse 16 ∷ every shortDay (take d lengths) orRefuse 17 ∷ []
 
 unfoldable pub lengthsRefusal : ℕ → List ℕ → ℕ
 lengthsRefusal d lengths = firstRefusal (lengthsTests d lengths)

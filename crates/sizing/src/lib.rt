@@ -2,10 +2,11 @@
 ghost use mathlib.Core.Path.{_≡_};
 ghost use mathlib.Core.Bool.{true};
 ghost use Prim.Native.Nat.{_≤_};
-ghost use lib.ListN.{length};
+ghost use lib.ListN.{length, take};
+ghost use Rattle.lists.specs.Lists.{every};
 ghost use Rattle.refusals.specs.Refusals.{dayLimit, bookLimit};
 ghost use Rattle.layouts.specs.Layouts.{allowedN};
-ghost use Rattle.sizing.specs.Sizing.{dayBlocks, shortDays, blocksThrough, lengthsRefusal, sizingRefusal};
+ghost use Rattle.sizing.specs.Sizing.{dayBlocks, shortDay, blocksThrough, lengthsRefusal, sizingRefusal};
 ghost use Rattle.sizing.specs.Sizing.{forecasted};
 
 pub struct Sizes {
@@ -59,7 +60,7 @@ fn day_blocks(b: u32) -> u32
 // The blocks of the days 1 to d.
 fn blocks(scheme: u32, n: u32, d: u32, lengths: &[u32]) -> u64
     requires { ⌜ (allowedN n ≡ true) × (d ≤ bookLimit) × (d ≤ length (now lengths))
-        × (shortDays d (now lengths) ≡ true) ⌝ }
+        × (every shortDay (take d (now lengths)) ≡ true) ⌝ }
     ensures { λ r. ⌜ r ≡ blocksThrough scheme n (now (lengths .entry)) d ⌝ }
 {
     let mut sum = 0u64;

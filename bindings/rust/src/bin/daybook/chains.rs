@@ -17,6 +17,15 @@ pub enum Kind {
     Root(u32),
 }
 
+/// The name of a scheme that is allowed.
+pub fn scheme_name(scheme: u32) -> &'static str {
+    match scheme {
+        Layout::BLACK => "black",
+        Layout::TILE => "tile",
+        _ => "tree",
+    }
+}
+
 /// A chain, by its name.
 #[derive(Clone, Copy, Debug, PartialEq, Eq)]
 pub struct Chain {

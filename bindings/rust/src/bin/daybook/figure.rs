@@ -4,7 +4,7 @@ use std::fmt::Write;
 
 use daybook::{Layout, Reading};
 
-use crate::chains::{chains, Chain, Kind};
+use crate::chains::{chains, scheme_name, Chain, Kind};
 use crate::summary::{runs_of, when};
 
 /// Days drawn at most; of more, as many of them around the listed days.
@@ -113,11 +113,7 @@ impl Verified<'_> {
     }
 
     fn title(&self, (first, last): (u32, u32)) -> String {
-        let scheme = match self.layout.scheme {
-            Layout::BLACK => "black",
-            Layout::TILE => "tile",
-            _ => "tree",
-        };
+        let scheme = scheme_name(self.layout.scheme);
         let (n, f, d) = (self.layout.n, self.layout.f, self.d);
         let number = self.layout.scheme;
         let mut text = format!("Day book: scheme {number} ({scheme}), N {n}, F {f}, {d} days");

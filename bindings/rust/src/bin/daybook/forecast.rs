@@ -3,6 +3,7 @@
 use daybook::{Layout, Refusal, Sizes, VALUE};
 
 use crate::arguments::Lengths;
+use crate::chains::scheme_name;
 use crate::commands::{labels, warn_of_order, Done};
 use crate::explain::long_day;
 use crate::fit::Fit;
@@ -119,14 +120,6 @@ fn line_of(scheme: u32, sizes: &Sizes) -> String {
         blocks,
     } = sizes;
     format!("SIZE,{scheme},{values},{bytes},{blocks}\n")
-}
-
-fn scheme_name(scheme: u32) -> &'static str {
-    match scheme {
-        Layout::BLACK => "black",
-        Layout::TILE => "tile",
-        _ => "tree",
-    }
 }
 
 /// So many of a thing.
