@@ -1,13 +1,13 @@
 -- Every record that a list of calls leaves has the sizes and numbers of its type, and counts the values written.
 use mathlib.Core.Path.{_≡_, refl, sym, ap, _∙_}
 use mathlib.Core.Bool.{Bool, true, false, cond}
-use mathlib.Core.List.{List, [], _∷_, _++_}
-use Prim.Native.Nat.{ℕ, zero, suc, _+_, _-_, _*_, _^_, _≤_, _<_}
+use mathlib.Core.List.{List, [], _∷_}
+use Prim.Native.Nat.{ℕ, zero, suc, _-_, _^_, _<_}
 use native.Mathlib.Omega.{arith}
 use lib.ListN.{length, getD, take, drop, replicate, length-append}
 use Rattle.refusals.specs.Refusals.{numberOf, unlessRefused}
 use Rattle.sha256_words.specs.Words.{add32, initial, words}
-use Rattle.sha256.specs.Sha256.{schedule, rounds, summed, compress, chunks, blocks, padding, hashed}
+use Rattle.sha256.specs.Sha256.{schedule, rounds, summed, compress, chunks, blocks, hashed}
 use Rattle.hasher.specs.declared.Hasher.{Hasher}
 use Rattle.hasher.specs.Hasher.{rest, filled, onward, begun}
 use Rattle.hasher.proofs.Laws.{length-rest}
@@ -21,7 +21,7 @@ use Rattle.service.specs.declared.Record.{Record}
 use Rattle.service.specs.Contract.{fresh, opened, grown, digestOf, nextDay, added, addRefusal, closing, closeRefusal, writtenSoFar}
 use Rattle.service.proofs.CallLaws.{opened-number}
 use Rattle.journal.specs.Journal.{Journal}
-use Rattle.journal.specs.Run.{Call, add, close, called, stateAfter, bookWritten}
+use Rattle.journal.specs.Run.{Call, add, close, called, stateAfter}
 use Rattle.journal.proofs.RunLaws.{Keeps, record-allowed, from-open, open-book}
 use Rattle.record_bytes.specs.Bytes.{Words, Slots, Fits}
 use Rattle.record_bytes.proofs.Laws.{record-round-trip}

@@ -2,7 +2,7 @@
 -- them, whoever sealed them: the premises (SPEC 9.3 p to t), and what then holds (SPEC 9.3 c to f). Definitions only.
 use mathlib.Core.Path.{_≡_}
 use mathlib.Core.Logic.{_↔_}
-use mathlib.Core.Bool.{Bool, true, not, _&&_}
+use mathlib.Core.Bool.{true, not, _&&_}
 use mathlib.Core.List.{List, [], _++_}
 use Prim.Native.Nat.{ℕ, _*_, _≤_}
 use lib.ListN.{length, take, drop}
@@ -15,7 +15,7 @@ use Rattle.sha256.specs.Sha256.{sha256}
 use Rattle.chains.specs.Book.{inputsOf}
 use Rattle.checking.specs.Contract.{Checked, checked, digestsOf}
 use Rattle.reading.specs.Numbers.{lastGood}
-use Rattle.reading.specs.Contract.{Report, found, Readout, readout}
+use Rattle.reading.specs.Contract.{found, Readout, readout}
 
 -- what is handed to checking and reading: the altered ledger with its ends, the book, and the buffers, with any
 -- contents

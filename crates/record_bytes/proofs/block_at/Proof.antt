@@ -1,7 +1,4 @@
 -- `record_bytes::block_at` meets its contract.
-use Prim.Native.Nat.{_≤_}
-use lib.ListN.{length}
-use native.Mathlib.Omega.{arith}
 use borrow.Author.Needs.{needs}
 use Rattle.buffers.proofs.Writes.{wrote-end}
 use Rattle.record_bytes.proofs.block_at.Statement.{statement}
