@@ -1,8 +1,10 @@
 #include "timing.h"
+#include "report.h"
 
 #include <time.h>
 
 #define ROUNDS_LEAST 8
+#define JOBS_LIMIT 16
 
 static double clock_seconds(clockid_t clock) {
   struct timespec t;
@@ -10,19 +12,43 @@ static double clock_seconds(clockid_t clock) {
   return (double)t.tv_sec + 1e-9 * (double)t.tv_nsec;
 }
 
-static double time_of(const struct job *job) {
-  double start = clock_seconds(CLOCK_THREAD_CPUTIME_ID);
+/* One turn, by two clocks. On some virtual machines the processor's own clock now and then stands still for a turn, or
+ * jumps; and a turn in which the job was put aside has cold caches. In both the clocks differ. */
+struct turn {
+  double processor;
+  double elapsed;
+};
+
+static struct turn turn_of(const struct job *job) {
+  double start = clock_seconds(CLOCK_MONOTONIC), processor = clock_seconds(CLOCK_THREAD_CPUTIME_ID);
   for (int i = 0; i < job->times; i++)
     job->run(job->arg);
-  return (clock_seconds(CLOCK_THREAD_CPUTIME_ID) - start) / job->times;
+  processor = clock_seconds(CLOCK_THREAD_CPUTIME_ID) - processor;
+  return (struct turn){processor / job->times, (clock_seconds(CLOCK_MONOTONIC) - start) / job->times};
+}
+
+static int undisturbed(struct turn t) {
+  return t.processor > 0.9 * t.elapsed && t.processor <= t.elapsed * 1.01;
+}
+
+static void keep_least(double t, double *least) {
+  if (t > 0 && (*least == 0 || t < *least))
+    *least = t;
 }
 
 void least_times(const struct job *jobs, int count, double seconds, double *least) {
-  double end = clock_seconds(CLOCK_MONOTONIC) + seconds;
+  double any[JOBS_LIMIT] = {0}, end = clock_seconds(CLOCK_MONOTONIC) + seconds;
+  require(count <= JOBS_LIMIT, "too many jobs");
+  for (int j = 0; j < count; j++)
+    least[j] = 0;
   for (int round = 0; round < ROUNDS_LEAST || clock_seconds(CLOCK_MONOTONIC) < end; round++)
     for (int j = 0; j < count; j++) {
-      double t = time_of(&jobs[j]);
-      if (round == 0 || t < least[j])
-        least[j] = t;
+      struct turn t = turn_of(&jobs[j]);
+      if (undisturbed(t))
+        keep_least(t.processor, &least[j]);
+      keep_least(t.elapsed, &any[j]);
     }
+  for (int j = 0; j < count; j++)
+    if (least[j] == 0)
+      least[j] = any[j];
 }
