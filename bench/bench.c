@@ -1,4 +1,5 @@
 /* Ratios of the library's times to those of plain C and to each other. Run by bench/run. */
+#include "peers.h"
 #include "report.h"
 #include "sha256.h"
 
@@ -19,10 +20,13 @@ static void print_openssl(void) {
            has_sha_instructions() ? "yes" : "no");
 }
 
-int main(void) {
+int main(int count, char **words) {
+  if (count == 2)
+    return peer(words[1]);
   setvbuf(stdout, NULL, _IOLBF, 0);
   print_openssl();
   long_days();
+  peers();
   short_days();
   reading();
   growth();

@@ -12,6 +12,7 @@ void print_targets(void);
 
 /* The sections, in their order. */
 void long_days(void);
+void peers(void);
 void short_days(void);
 void reading(void);
 void growth(void);

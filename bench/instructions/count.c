@@ -1,0 +1,36 @@
+/* One call on D days, for a count of its instructions. Words: call, scheme, D. */
+#include "../calls.h"
+#include "../report.h"
+#include "../tables.h"
+
+#include <stdlib.h>
+#include <string.h>
+
+#define N 8
+#define SIZE 40
+
+static void on_books(void (*job)(void *), uint32_t scheme, uint32_t days) {
+  struct ledger ledger = make_ledger(days, SIZE);
+  struct books books = make_books(scheme, N, ledger);
+  job(&books);
+  drop_books(&books);
+  drop_ledger(&ledger);
+}
+
+static void on_table(enum changes changes, uint32_t scheme, uint32_t days) {
+  struct tables tables = make_tables(scheme, N, days, 1, changes);
+  read_job(&tables);
+  drop_tables(&tables);
+}
+
+int main(int count, char **words) {
+  require(count == 4, "words: call scheme days");
+  uint32_t scheme = (uint32_t)atoi(words[2]), days = (uint32_t)atoi(words[3]);
+  if (strcmp(words[1], "seal") == 0)
+    on_books(seal_job, scheme, days);
+  else if (strcmp(words[1], "check") == 0)
+    on_books(check_job, scheme, days);
+  else
+    on_table(strcmp(words[1], "clean") == 0 ? CLEAN : SECOND, scheme, days);
+  return 0;
+}
