@@ -8,7 +8,7 @@ use lib.Seq.{getD-set-same, getD-set-other, ext-getD}
 use Rattle.lists.specs.Lists.{upFrom}
 use Rattle.lists.proofs.Laws.{length-upFrom}
 use Rattle.lanes.specs.Lanes.{wordOf, lane, placeOf, rows}
-use Rattle.lanes.specs.Private.{puts, Lanes}
+use Rattle.lanes.specs.Private.{puts, fills, Lanes}
 
 -- ---- words of lanes and of rows
 
@@ -100,6 +100,37 @@ puts-next i s j v e = let q : i + 1 ≡ suc i = omega arith in rw (q, e)
 
 pub puts-all : (n : ℕ) (s : List ℕ) (j : ℕ) (v : List ℕ) (i : ℕ) {r : List ℕ} → r ≡ puts i s j v → i ≤ n → n ≤ i → r ≡ puts n s j v
 puts-all n s j v i e a b = let q : i ≡ n = omega arith in rw q at e
+
+-- ---- a row filled with one word
+
+pub length-fills : (n : ℕ) (s : List ℕ) (a x : ℕ) → length (fills n s a x) ≡ length s
+unfolding fills
+length-fills zero s a x = refl
+length-fills (suc n) s a x = rw length-set (length-fills n s a x)
+
+pub fills-in : (n : ℕ) (s : List ℕ) (a x i : ℕ) → i < n → a + n ≤ length s → getD (fills n s a x) (a + i) 0 ≡ x
+unfolding fills
+fills-in zero s a x i l b = absurd (omega arith)
+fills-in (suc n) s a x i l b = ⊎-elim
+    (λ e. rw e (getD-set-same (fills n s a x) (a + n) x 0 (omega (arith, length-fills n s a x))))
+    (λ k. getD-set-other (fills n s a x) (a + n) (a + i) x 0 (λ e. omega arith) ∙ fills-in n s a x i k (omega arith))
+    (eq-or-lt-of-le (le-of-suc-le-suc l))
+
+pub fills-before : (n : ℕ) (s : List ℕ) (a x q : ℕ) → q < a → getD (fills n s a x) q 0 ≡ getD s q 0
+unfolding fills
+fills-before zero s a x q l = refl
+fills-before (suc n) s a x q l = getD-set-other (fills n s a x) (a + n) q x 0 (λ e. omega arith) ∙ fills-before n s a x q l
+
+pub fills-none : (s : List ℕ) (a x : ℕ) → s ≡ fills 0 s a x
+unfolding fills
+fills-none s a x = refl
+
+pub fills-next : (i : ℕ) (s : List ℕ) (a x : ℕ) {r : List ℕ} → r ≡ fills i s a x → set r (a + i) x ≡ fills (i + 1) s a x
+unfolding fills
+fills-next i s a x e = let q : i + 1 ≡ suc i = omega arith in rw (q, e)
+
+pub fills-all : (n : ℕ) (s : List ℕ) (a x i : ℕ) {r : List ℕ} → r ≡ fills i s a x → i ≤ n → n ≤ i → r ≡ fills n s a x
+fills-all n s a x i e l h = let q : i ≡ n = omega arith in rw q at e
 
 -- ---- a loop over all lanes: those below j are f's, the others are as they were
 

@@ -1,17 +1,18 @@
 -- The schedules and the rounds of all lanes, up to a block's compression in each.
 -- Assumes nothing.
 use Prim.Native.Nat.{ℕ, suc, _+_, _-_, _*_, _/_, _%_, _≤_, _<_}
-use mathlib.Core.{Path._≡_, Path.refl, Path.sym, Path.ap, Path.ap₂, Path._∙_, List.List, List.[], List._∷_}
-use native.Mathlib.Omega.{arith}
-use lib.ListN.{length, getD}
-use lib.Seq.{getD-take, take-all}
+use mathlib.Core.{Path._≡_, Path.refl, Path.sym, Path.ap, Path.ap₂, Path._∙_, List.List, List.[], List._∷_, List._++_, Logic.⊎-elim}
+use native.Mathlib.{Omega.arith, Nat.eq-or-lt-of-le, Nat.le-of-suc-le-suc}
+use borrow.Author.Tests.{lt-ltb, le-ltb}
+use lib.ListN.{length, getD, length-append, List·getD-append}
+use lib.Seq.{getD-take, take-all, getD-at}
 use Rattle.sha256_words.specs.Words.{kTable}
-use Rattle.sha256.specs.Sha256.{schedule, round, rounds, summed, compress}
+use Rattle.sha256.specs.Sha256.{later, scheduled, grown, schedule, round, rounds, summed, compress}
 use Rattle.sha256.specs.Private.{mixed, roundsOn}
 use Rattle.sha256.proofs.Steps.{length-schedule, begins, before, recurs}
-use Rattle.lanes.specs.Lanes.{lane, placeOf, compressed, laneAfter}
-use Rattle.lanes.specs.Private.{puts, Lanes, fourRows, fourFrom, fourOn, sumOf, scheduleOf}
-use Rattle.lanes.proofs.LaneLaws.{length-lane, at-lane, at-place, lane-same, by-lanes, Through, through-next}
+use Rattle.lanes.specs.Lanes.{lane, placeOf, laneAfter, compressed, laneAfterSame, compressedSame}
+use Rattle.lanes.specs.Private.{puts, fills, Lanes, fourRows, fourFrom, fourOn, sumOf, scheduleOf, always, workedBy}
+use Rattle.lanes.proofs.LaneLaws.{length-lane, at-lane, at-place, lane-same, by-lanes, fills-in, fills-before, Through, through-next}
 
 pub state-of : (s : List ℕ) (j : ℕ)
     → getD s j 0 ∷ getD s (16 + j) 0 ∷ getD s (32 + j) 0 ∷ getD s (48 + j) 0 ∷ getD s (64 + j) 0 ∷ getD s (80 + j) 0 ∷ getD s (96 + j) 0 ∷ getD s (112 + j) 0 ∷ []
@@ -64,6 +65,44 @@ schedules-all m w₀ w p h g l e =
           (λ i c. let x : (i * 16 + j) % 16 ≡ j = omega arith in let y : (i * 16 + j) / 16 ≡ i = omega arith in h (i * 16 + j) (omega arith) ∙ rw (x, y))
           ∙ ap (λ (z : List ℕ). schedule z 64) (lane-same 16 w₀ (lane 16 m j) j (length-lane 16 m j) (λ i c. g (i * 16 + j) (omega arith) ∙ sym (at-lane 16 m j i c)));
     }
+
+-- ---- one schedule in every lane, row by row
+
+pub word-first : (m l : List ℕ) (i : ℕ) → i < 16 → getD m i 0 ≡ scheduled m l i
+unfolding scheduled
+word-first m l i h = rw (lt-ltb i 16 h)
+
+at-first : (w : List ℕ) (i k : ℕ) → k < i → getD (lane i w 0) k 0 ≡ getD w (k * 16) 0
+at-first w i k l = let e : k * 16 + 0 ≡ k * 16 = omega arith in at-lane i w 0 k l ∙ ap (λ (q : ℕ). getD w q 0) e
+
+pub word-later : (w m : List ℕ) (i : ℕ) {x : ℕ} → x ≡ mixed (getD w ((i - 2) * 16) 0) (getD w ((i - 7) * 16) 0) (getD w ((i - 15) * 16) 0) (getD w ((i - 16) * 16) 0)
+    → 16 ≤ i → x ≡ scheduled m (lane i w 0) i
+unfolding scheduled later mixed
+word-later w m i e h = e
+    ∙ rw (le-ltb i 16 h, at-first w i (i - 2) (omega arith), at-first w i (i - 7) (omega arith), at-first w i (i - 15) (omega arith), at-first w i (i - 16) (omega arith))
+
+pub same-none : (m w : List ℕ) (j : ℕ) → j < 16 → lane 0 w j ≡ schedule m 0
+unfolding lane schedule
+same-none m w j l = refl
+
+row-more : (w : List ℕ) (i x j : ℕ) → j < 16 → i * 16 + 16 ≤ length w → lane (suc i) (fills 16 w (i * 16) x) j ≡ lane i w j ++ x ∷ []
+row-more w i x j l b = lane-same (suc i) (fills 16 w (i * 16) x) (lane i w j ++ x ∷ []) j
+    (length-append (lane i w j) (x ∷ []) ∙ omega (arith, length-lane i w j))
+    (λ k h. ⊎-elim
+    (λ e. rw e (fills-in 16 w (i * 16) x j l b ∙ sym (getD-at (lane i w j) x [] 0 i (length-lane i w j))))
+    (λ c. fills-before 16 w (i * 16) x (k * 16 + j) (omega arith) ∙ sym (at-lane i w j k c) ∙ sym (List·getD-append (lane i w j) (x ∷ []) 0 k (omega (arith, length-lane i w j))))
+    (eq-or-lt-of-le (le-of-suc-le-suc h)))
+
+pub same-next : (m w : List ℕ) (i x : ℕ) (r : List ℕ) → ((j : ℕ) → j < 16 → lane i w j ≡ schedule m i) → x ≡ scheduled m (lane i w 0) i → r ≡ fills 16 w (i * 16) x
+    → i * 16 + 16 ≤ length w → (j : ℕ) → j < 16 → lane (i + 1) r j ≡ schedule m (i + 1)
+unfolding schedule grown
+same-next m w i x r h ex er b j l =
+    let p : i + 1 ≡ suc i = omega arith in
+    let o : 0 < 16 = omega arith in
+    rw (p, er, row-more w i x j l b, h j l) (ap (λ (y : ℕ). schedule m i ++ y ∷ []) (ex ∙ ap (λ (z : List ℕ). scheduled m z i) (h 0 o)))
+
+pub same-all : (m w : List ℕ) (i : ℕ) → ((j : ℕ) → j < 16 → lane i w j ≡ schedule m i) → i ≤ 64 → 64 ≤ i → length w ≡ 1024 → Lanes 64 (always (schedule m 64)) w
+same-all m w i h a b e = let q : i ≡ 64 = omega arith in record { size = e; each = λ j l. rw q at (h j l) }
 
 -- ---- the rounds, four at a time
 
@@ -133,13 +172,26 @@ before-next s w t b l ek ec lu =
           lu .each j h ∙ rw (b .value j h, rows-four w t j p, ec, ek) (four-more (lane 8 s j) (lane 64 w j) t);
     }
 
-pub compressed-by : (s m w : List ℕ) (t : ℕ) (v : List ℕ) {r : List ℕ} → Lanes 64 (scheduleOf m) w → Before s w t v → 64 ≤ t → Lanes 8 (sumOf s v) r
-    → r ≡ compressed s m
-unfolding compressed compress sumOf scheduleOf
-compressed-by s m w t v lw b l lr = by-lanes 8 (laneAfter s m) _
+pub worked-by : (s w : List ℕ) (t : ℕ) (v : List ℕ) {r : List ℕ} → Before s w t v → 64 ≤ t → Lanes 8 (sumOf s v) r → Lanes 8 (workedBy s w) r
+unfolding sumOf workedBy
+worked-by s w t v b l lr =
     record {
       size = lr .size;
       each = λ j h.
           let q : t ≡ 64 = let i = b .within in omega arith in
-          lr .each j h ∙ ap (summed (lane 8 s j)) (b .value j h ∙ ap₂ (rounds (lane 8 s j)) (lw .each j h) q);
+          lr .each j h ∙ ap (summed (lane 8 s j)) (b .value j h ∙ ap (rounds (lane 8 s j) (lane 64 w j)) q);
     }
+
+compress-by : (h w m : List ℕ) → w ≡ schedule m 64 → summed h (rounds h w 64) ≡ compress h m
+unfolding compress
+compress-by h w m e = rw e
+
+pub compressed-by : (s m w r : List ℕ) → Lanes 64 (scheduleOf m) w → Lanes 8 (workedBy s w) r → r ≡ compressed s m
+unfolding compressed workedBy scheduleOf
+compressed-by s m w r lw lr = by-lanes 8 (laneAfter s m) r
+    record { size = lr .size; each = λ j h. lr .each j h ∙ compress-by (lane 8 s j) (lane 64 w j) (lane 16 m j) (lw .each j h) }
+
+pub compressed-same : (s m w r : List ℕ) → Lanes 64 (always (schedule m 64)) w → Lanes 8 (workedBy s w) r → r ≡ compressedSame s m
+unfolding compressedSame workedBy
+compressed-same s m w r lw lr = by-lanes 8 (laneAfterSame s m) r
+    record { size = lr .size; each = λ j h. lr .each j h ∙ compress-by (lane 8 s j) (lane 64 w j) m (lw .each j h) }

@@ -27,3 +27,10 @@ laneAfter s m j = compress (lane 8 s j) (lane 16 m j)
 
 unfoldable pub compressed : List ℕ → List ℕ → List ℕ
 compressed s m = rows 8 (laneAfter s m)
+
+-- and by one block for all lanes, whose words are m
+abbrev pub laneAfterSame : List ℕ → List ℕ → ℕ → List ℕ
+laneAfterSame s m j = compress (lane 8 s j) m
+
+unfoldable pub compressedSame : List ℕ → List ℕ → List ℕ
+compressedSame s m = rows 8 (laneAfterSame s m)

@@ -3,7 +3,7 @@ use Prim.Native.Nat.{ℕ, zero, suc, _+_, _*_, _<_}
 use mathlib.Core.Path.{_≡_}
 use mathlib.Core.List.{List, [], _∷_}
 use lib.ListN.{length, getD, set}
-use Rattle.sha256.specs.Sha256.{schedule, summed}
+use Rattle.sha256.specs.Sha256.{schedule, rounds, summed}
 use Rattle.sha256.specs.Private.{roundsOn}
 use Rattle.lanes.specs.Lanes.{lane}
 
@@ -11,6 +11,11 @@ use Rattle.lanes.specs.Lanes.{lane}
 unfoldable pub puts : ℕ → List ℕ → ℕ → List ℕ → List ℕ
 puts zero s j v = s
 puts (suc n) s j v = set (puts n s j v) (n * 16 + j) (getD v n 0)
+
+-- n words from place a on made x
+unfoldable pub fills : ℕ → List ℕ → ℕ → ℕ → List ℕ
+fills zero s a x = s
+fills (suc n) s a x = set (fills n s a x) (a + n) x
 
 -- l is n rows, whose lanes are f 0 to f 15
 pub record Lanes (n : ℕ) (f : ℕ → List ℕ) (l : List ℕ) : Type 0 where
@@ -33,3 +38,10 @@ sumOf h s j = summed (lane 8 h j) (lane 8 s j)
 
 unfoldable pub scheduleOf : List ℕ → ℕ → List ℕ
 scheduleOf m j = schedule (lane 16 m j) 64
+
+abbrev pub always : List ℕ → ℕ → List ℕ  -- the same in every lane
+always l j = l
+
+-- lane j of s after the block whose schedule is lane j of w
+unfoldable pub workedBy : List ℕ → List ℕ → ℕ → List ℕ
+workedBy s w j = summed (lane 8 s j) (rounds (lane 8 s j) (lane 64 w j) 64)

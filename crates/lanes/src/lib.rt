@@ -3,6 +3,7 @@
 ghost use mathlib.Core.Path.{_≡_};
 ghost use Prim.Native.Nat.{ℕ, _+_, _*_, _≤_, _<_};
 ghost use lib.ListN.{length, getD};
+ghost use Rattle.sha256.specs.Sha256.{scheduled, schedule};
 ghost use Rattle.sha256.specs.Private.{roundsOn};
 ghost use Rattle.lanes.specs.Lanes as spec;
 ghost use Rattle.lanes.specs.Lanes.{lane};
@@ -131,12 +132,53 @@ fn schedules(m: [u32; 256]) -> [u32; 1024]
     w
 }
 
-// The hash value of each lane after that of s, by the block of the lane.
-pub fn compress(s: [u32; 128], m: [u32; 256]) -> [u32; 128]
-    ensures { λ r. ⌜ r ≡ spec.compressed s m ⌝ }
+// Word i of the schedule of the block m, from the rows before.
+fn next_word(w: &[u32; 1024], m: [u32; 16], i: usize) -> u32
+    requires { ⌜ i < 64 ⌝ }
+    ensures { λ r. ⌜ r ≡ scheduled m (lane i (now (w .entry)) 0) i ⌝ }
+{
+    if i < 16 {
+        return m[i];
+    }
+    sha256::mixed(
+        w[(i - 2) * 16],
+        w[(i - 7) * 16],
+        w[(i - 15) * 16],
+        w[(i - 16) * 16],
+    )
+}
+
+// The sixteen words from place a on made x.
+fn put_row(w: &mut [u32; 1024], a: usize, x: u32)
+    requires { ⌜ a + 16 ≤ 1024 ⌝ }
+    ensures { λ r. ⌜ now (w .exit) ≡ form.fills 16 (now (w .entry)) a x ⌝ }
+{
+    let mut j = 0usize;
+    while j < 16 {
+        w[a + j] = x;
+        j += 1;
+    }
+}
+
+// The schedule of the block m in every lane.
+fn same_schedules(m: [u32; 16]) -> [u32; 1024]
+    ensures { λ r. ⌜ form.Lanes 64 (form.always (schedule m 64)) r ⌝ }
+{
+    let mut w = [0u32; 1024];
+    let mut i = 0usize;
+    while i < 64 {
+        let x = next_word(&w, m, i);
+        put_row(&mut w, i * 16, x);
+        i += 1;
+    }
+    w
+}
+
+// The hash value of each lane after that of s, by the lane's schedule.
+fn worked(s: [u32; 128], w: [u32; 1024]) -> [u32; 128]
+    ensures { λ r. ⌜ form.Lanes 8 (form.workedBy s w) r ⌝ }
 {
     let k = sha256_words::constants::table();
-    let w = schedules(m);
     let mut v = s;
     let mut t = 0usize;
     while t < 64 {
@@ -146,4 +188,18 @@ pub fn compress(s: [u32; 128], m: [u32; 256]) -> [u32; 128]
     }
     summed(&mut v, &s);
     v
+}
+
+// The hash value of each lane after that of s, by the block of the lane.
+pub fn compress(s: [u32; 128], m: [u32; 256]) -> [u32; 128]
+    ensures { λ r. ⌜ r ≡ spec.compressed s m ⌝ }
+{
+    worked(s, schedules(m))
+}
+
+// The hash value of each lane after that of s, by the same block for all.
+pub fn compress_same(s: [u32; 128], m: [u32; 16]) -> [u32; 128]
+    ensures { λ r. ⌜ r ≡ spec.compressedSame s m ⌝ }
+{
+    worked(s, same_schedules(m))
 }

@@ -1,22 +1,9 @@
 -- `lanes::compress` meets its contract.
-use Prim.Native.Nat.{_-_}
-use native.Mathlib.Omega.{arith}
-use Rattle.lanes.proofs.Steps.{Before, before-first, before-next, compressed-by}
+use Rattle.lanes.proofs.Steps.{compressed-by}
 use borrow.Author.Needs.{needs}
 use Rattle.lanes.proofs.compress.Statement.{statement}
 use Rattle.lanes.proofs.compress.Tie as tie
 
-abbrev Inv-loop : tie.InvT-loop
-Inv-loop s k w v₀ t₀ v t = Before s w t v
-
-abbrev μ-loop : tie.MeasureT-loop
-μ-loop s k w v₀ t₀ v t = 64 - t
-
 pub compress-spec : {M : Type 1} → statement M
-compress-spec = tie.close (tie.spec Inv-loop μ-loop (λ c κs. search needs) (λ c κs. search needs)
-    (λ c. before-first _ _ (search needs)) (λ c κs. let f = c .before .before .loop .inv .fours in omega arith)
-    (λ c κs. let l = c .before .before .before .before .before .loop in (let f = l .inv .fours in omega arith, l .inv .size))
-    (λ c. search needs) (λ c. search needs)
-    (λ c. let a = c .before .before .before .before .before .before in before-next _ _ _ (a .loop .inv) (search needs) (a .before .before .table .ensures) (c .before .before .before .four-constants .ensures) (c .rounds .ensures))
-    (λ c κs. c .before .before .before .loop .inv .size)
-    (λ c. let a = c .before .before .before .before in compressed-by _ (a .before .before .before .args .m) _ (a .loop .t) (a .loop .v) (a .before .schedules .ensures) (a .loop .inv) (search needs) (c .summed .ensures)))
+compress-spec = tie.close (tie.spec (λ c κs. search needs) (λ c κs. search needs)
+    (λ c. compressed-by _ (c .before .before .args .m) (c .before .schedules .result) _ (c .before .schedules .ensures) (c .worked .ensures)))
