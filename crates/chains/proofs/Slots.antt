@@ -117,7 +117,7 @@ upto-next z f i l r w e q h =
     let o : 0 + i ≡ i = omega arith in
     rw (p, q, e) (ap (λ (x : ℕ). set (upto f 0 i l) i (f x (getD (upto f 0 i l) i z))) (sym o) ∙ upto-step z f 0 i l h)
 
-upto-all : (f : ℕ → Value → Value) (j k : ℕ) (l : List Value) → length l ≤ k → upto f j k l ≡ each f j l
+pub upto-all : (f : ℕ → Value → Value) (j k : ℕ) (l : List Value) → length l ≤ k → upto f j k l ≡ each f j l
 upto-all f j zero [] h = refl
 upto-all f j zero (x ∷ l) h = absurd (omega arith)
 upto-all f j (suc k) [] h = refl

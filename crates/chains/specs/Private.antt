@@ -1,12 +1,15 @@
--- What private contracts cite: what one day more gives, and the form of the code of `link_words`. Definitions only.
+-- What private contracts cite: what one day more gives, and the form of the code of links. Definitions only.
 use mathlib.Core.Path.{_≡_}
-use mathlib.Core.List.{List, [], _∷_}
-use Prim.Native.Nat.{ℕ, _+_, _*_, _/_, _%_, _^_}
+use mathlib.Core.List.{List, [], _∷_, _++_}
+use Prim.Native.Nat.{ℕ, _+_, _*_, _/_, _%_, _^_, _<_}
 use lib.ListN.{length, getD, take}
 use Rattle.layouts.specs.Layouts.{namesOfDay}
+use Rattle.sha256_words.specs.Words.{bytesOf}
+use Rattle.sha256.specs.Sha256.{hashed}
+use Rattle.lanes.specs.Private.{Lanes}
 use Rattle.chains.specs.declared.DayStep.{DayStep}
 use Rattle.chains.specs.declared.Value.{Value}
-use Rattle.chains.specs.Step.{linked, linkedSlots, restarted, dayValues}
+use Rattle.chains.specs.Step.{linked, each, linkedSlots, restarted, dayValues}
 
 -- what one more day gives: the running hashes after it, the values of the day at the front of a list, and their number
 pub record Stepped (scheme n g : ℕ) (start b : Value) (slots : List Value) (h : List ℕ) (r : DayStep) : Type 0 where
@@ -44,3 +47,29 @@ front v h =
 
 unfoldable pub back : List ℕ → List ℕ
 back h = across (getD h 7 0) 0x80000000 ∷ 0 ∷ 0 ∷ 0 ∷ 0 ∷ 0 ∷ 0 ∷ 0 ∷ 0 ∷ 0 ∷ 0 ∷ 0 ∷ 0 ∷ 0 ∷ 0 ∷ 520 ∷ []
+
+-- ---- the links of the slots 0 to 15 in lanes
+
+abbrev pub none : Value
+none = record { words = [] }
+
+abbrev pub wordsAt : List Value → ℕ → List ℕ
+wordsAt slots j = getD slots j none .words
+
+abbrev pub frontOf : List Value → List ℕ → ℕ → List ℕ
+frontOf slots h j = front (wordsAt slots j) h
+
+-- r has the first block of the link of slot j in lane j
+pub record Fronts (slots : List Value) (h r : List ℕ) : Type 0 where
+  pub blocks-are : Lanes 16 (frontOf slots h) r
+  pub eights : (j : ℕ) → j < 16 → length (wordsAt slots j) ≡ 8
+
+abbrev pub linkOf : List Value → List ℕ → ℕ → List ℕ
+linkOf slots h j = hashed (1 ∷ (bytesOf (wordsAt slots j) ++ bytesOf h))
+
+-- every slot linked
+abbrev pub linkEach : List ℕ → ℕ → Value → Value
+linkEach h i v = linked v h
+
+unfoldable pub levelsLinked : List ℕ → List Value → List Value
+levelsLinked h slots = each (linkEach h) 0 slots

@@ -11,7 +11,7 @@ ghost use Rattle.layouts.specs.Layouts.{allowedScheme, allowedN, namesOfDay};
 ghost use Rattle.chains.specs.Step as spec;
 ghost use Rattle.chains.specs.Step.{startValue, linked, linksSlot, storesSlot, storesBlack, linkSlot};
 ghost use Rattle.chains.specs.Step.{restartSlot, linkedSlots, restarted, dayValues, linksOf};
-ghost use Rattle.chains.specs.Private.{Stepped};
+ghost use Rattle.chains.specs.Private.{Stepped, levelsLinked};
 
 pub struct Value {
     pub words: [u32; 8],
@@ -141,10 +141,31 @@ fn slot_restarted(scheme: u32, n: u32, g: u32, start: Value, i: usize, v: Value)
     v
 }
 
+// Every slot linked, as the tree's levels are each day: 0 to 15 side by side, 16 by itself.
+fn link_levels(slots: [Value; 17], h: [u32; 8]) -> [Value; 17]
+    ensures { λ r. ⌜ r ≡ levelsLinked h slots ⌝ }
+{
+    let s = link::links(slots, h);
+    let mut r = slots;
+    let mut i = 0usize;
+    while i < 16 {
+        let u = lanes::state(&s, i);
+        r[i] = Value { words: u };
+        i += 1;
+    }
+    let v = r[16];
+    let w = link_value(v, h);
+    r[16] = w;
+    r
+}
+
 fn link_slots(scheme: u32, n: u32, g: u32, slots: [Value; 17], h: [u32; 8]) -> [Value; 17]
     requires { ⌜ (allowedN n ≡ true) × (1 ≤ g) ⌝ }
     ensures { λ r. ⌜ r ≡ linkedSlots scheme n g h slots ⌝ }
 {
+    if scheme == 3 {
+        return link_levels(slots, h);
+    }
     let mut r = slots;
     let mut i = 0usize;
     while i < 17 {

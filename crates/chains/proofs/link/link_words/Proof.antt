@@ -5,7 +5,7 @@ use Rattle.chains.proofs.link.link_words.Statement.{statement}
 use Rattle.chains.proofs.link.link_words.Tie as tie
 
 returns : tie.Need-returns
-returns c = link-of _ _ (c .before .before .before .before .front .ensures) (c .before .before .before .back .ensures) (c .before .before .initial .ensures) (c .before .compress .ensures)
+returns c = link-of _ _ (c .before .before .before .before .front .ensures .0) (c .before .before .before .back .ensures) (c .before .before .initial .ensures) (c .before .compress .ensures)
     (c .compress2 .ensures) (search needs) (search needs)
 
 pub link-words-spec : {M : Type 1} → statement M
