@@ -40,6 +40,9 @@ pub eight-more : (slots : List Value) (z : Value) (j : ℕ) → ((i : ℕ) → i
 eight-more slots z j h e l n =
     below-more _ _ h (ap (λ (v : Value). length (v .words)) (any-default slots j none z (omega arith)) ∙ e)
 
+pub firsts-are : (v r : List ℕ) → Lanes 8 (always v) r → v ≡ initial → Lanes 8 (always initial) r
+firsts-are v r h e = record { size = h .size; each = λ j l. h .each j l ∙ e }
+
 -- ---- both blocks
 
 pub links-of : (slots : List Value) (h s m : List ℕ) {g n r : List ℕ} → Lanes 8 (always initial) s → Fronts slots h m → g ≡ compressed s m → n ≡ back h

@@ -1,64 +1,24 @@
+-- `chains::link::fronts` meets its contract.
+use Prim.Native.Nat.{ℕ, _-_, _≤_, _<_}
+use mathlib.Core.Path.{_≡_}
+use native.Mathlib.Omega.{arith}
+use lib.ListN.{length}
+use Rattle.chains.specs.Private.{wordsAt, frontOf}
+use Rattle.lanes.proofs.LaneLaws.{Through, through-none, through-all}
+use Rattle.chains.proofs.Levels.{fronts-turn, eight-more}
+use borrow.Author.Needs.{needs}
 use Rattle.chains.proofs.link.fronts.Statement.{statement}
 use Rattle.chains.proofs.link.fronts.Tie as tie
-use Rattle.chains.proofs.link.fronts.Reads as reads
-use Rattle.chains.proofs.link.fronts.Lts as lts
-use Rattle.chains.proofs.link.front_of.Reads as front-of-reads
-use Rattle.lanes.proofs.put_block.Reads as put-block-reads
 
 abbrev Inv-loop : tie.InvT-loop
-Inv-loop h slots w₀ j₀ w j = ?
+Inv-loop h slots w₀ j₀ w j = (j ≤ 16) × (length slots ≡ 17) × Through 16 (frontOf slots h) j w₀ w × ((i : ℕ) → i < j → length (wordsAt slots i) ≡ 8)
 
 abbrev μ-loop : tie.MeasureT-loop
-μ-loop h slots w₀ j₀ w j = ?
-
--- src/link.rt:104:5
-loop-holds : tie.Need-loop-holds Inv-loop μ-loop
-loop-holds c = ?
-
--- src/link.rt:105:17
-mul-v : tie.Need-mul-v Inv-loop μ-loop
-mul-v c = ?
-
--- src/link.rt:105:17
-array-copy-out-v : tie.Need-array-copy-out-v Inv-loop μ-loop
-array-copy-out-v c = ?
-
--- src/link.rt:106:13
-front-of-requires : tie.Need-front-of-requires Inv-loop μ-loop
-front-of-requires c κs = ?
-
--- src/link.rt:107:9
-put-block-requires : tie.Need-put-block-requires Inv-loop μ-loop
-put-block-requires c κs = ?
-
--- src/link.rt:108:9
-add-j : tie.Need-add-j Inv-loop μ-loop
-add-j c = ?
-
--- src/link.rt:104:5
-loop-less : tie.Need-loop-less Inv-loop μ-loop
-loop-less c = ?
-
--- src/link.rt:104:5
-loop-again : tie.Need-loop-again Inv-loop μ-loop
-loop-again c = ?
-
--- src/link.rt:99:1
-returns : tie.Need-returns Inv-loop μ-loop
-returns c = ?
+μ-loop h slots w₀ j₀ w j = 16 - j
 
 pub fronts-spec : {M : Type 1} → statement M
-fronts-spec =
-    tie.close
-    (tie.spec
-    Inv-loop
-    μ-loop
-    loop-holds
-    mul-v
-    array-copy-out-v
-    front-of-requires
-    put-block-requires
-    add-j
-    loop-less
-    loop-again
-    returns)
+fronts-spec = tie.close (tie.spec Inv-loop μ-loop
+    (λ c. (search needs, search needs, through-none 16 _ _ (search needs), λ i l. absurd (omega arith))) (λ c. search needs)
+    (λ c. search needs) (λ c κs. search needs) (λ c κs. search needs) (λ c. search needs) (λ c. search needs)
+    (λ c. let d = c .before .before in let l = d .before .before .before .loop in let a = d .before .before .before .before .args in (search needs, l .inv .1, fronts-turn (a .t1) _ (a .h) (l .j) _ (l .w) (l .inv .2) (d .front-of .ensures .0) (c .put-block .ensures) (search needs) (l .inv .1), eight-more (a .t1) _ (l .j) (l .inv .3) (d .front-of .ensures .1) (search needs) (l .inv .1)))
+    (λ c. let l = c .before .loop in record { blocks-are = through-all 16 _ (l .j) _ _ (l .inv .2) (search needs); eights = λ i b. l .inv .3 i (omega arith) }))
