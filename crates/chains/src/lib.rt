@@ -159,24 +159,6 @@ fn link_levels(slots: [Value; 17], h: [u32; 8]) -> [Value; 17]
     r
 }
 
-fn link_slots(scheme: u32, n: u32, g: u32, slots: [Value; 17], h: [u32; 8]) -> [Value; 17]
-    requires { ⌜ (allowedN n ≡ true) × (1 ≤ g) ⌝ }
-    ensures { λ r. ⌜ r ≡ linkedSlots scheme n g h slots ⌝ }
-{
-    if scheme == 3 {
-        return link_levels(slots, h);
-    }
-    let mut r = slots;
-    let mut i = 0usize;
-    while i < 17 {
-        let v = r[i];
-        let w = slot_linked(scheme, n, g, i, v, h);
-        r[i] = w;
-        i += 1;
-    }
-    r
-}
-
 fn restart_slots(scheme: u32, n: u32, g: u32, start: Value, slots: [Value; 17]) -> [Value; 17]
     requires { ⌜ allowedN n ≡ true ⌝ }
     ensures { λ r. ⌜ r ≡ restarted scheme n g start slots ⌝ }
@@ -206,7 +188,57 @@ fn day_values(scheme: u32, n: u32, g: u32, k: u32, black: Value, slots: [Value; 
     r
 }
 
-// One more day, g, whose digest is h.
+// Day g under scheme 2: each tile chain's slot is linked, and started again if it is a value of the day. One loop, so
+// that the slots are copied as rarely as can be; those behind c(lg N) stay.
+fn tile_step(n: u32, g: u32, start: Value, black: Value, slots: [Value; 17], h: [u32; 8]) -> DayStep
+    requires { ⌜ (allowedN n ≡ true) × (1 ≤ g) × (g ≤ bookLimit) ⌝ }
+    ensures { λ r. ⌜ Stepped 2 n g start black slots h r ⌝ }
+{
+    let b = link_value(black, h);
+    let k = layouts::values_of_day(2, n, g);
+    let m = layouts::lg(n) as usize + 1;
+    let mut values = slots;
+    let mut next = slots;
+    let mut i = 0usize;
+    while i < m {
+        let v = next[i];
+        let w = slot_linked(2, n, g, i, v, h);
+        let s = slot_restarted(2, n, g, start, i, w);
+        values[i] = w;
+        next[i] = s;
+        i += 1;
+    }
+    if stores_black(2, n, g) {
+        let at = (k - 1) as usize;
+        values[at] = b;
+    }
+    DayStep {
+        black: b,
+        slots: next,
+        values,
+        count: k,
+    }
+}
+
+// Day g under scheme 3.
+fn tree_step(n: u32, g: u32, start: Value, black: Value, slots: [Value; 17], h: [u32; 8]) -> DayStep
+    requires { ⌜ (allowedN n ≡ true) × (1 ≤ g) × (g ≤ bookLimit) ⌝ }
+    ensures { λ r. ⌜ Stepped 3 n g start black slots h r ⌝ }
+{
+    let b = link_value(black, h);
+    let linked = link_levels(slots, h);
+    let k = layouts::values_of_day(3, n, g);
+    let values = day_values(3, n, g, k, b, linked);
+    let next = restart_slots(3, n, g, start, linked);
+    DayStep {
+        black: b,
+        slots: next,
+        values,
+        count: k,
+    }
+}
+
+// One more day, g, whose digest is h. Under scheme 1 no slot is in use.
 pub fn step(
     scheme: u32,
     n: u32,
@@ -219,15 +251,18 @@ pub fn step(
     requires { ⌜ (allowedScheme scheme ≡ true) × (allowedN n ≡ true) × (1 ≤ g) × (g ≤ bookLimit) ⌝ }
     ensures { λ r. ⌜ Stepped scheme n g start black slots h r ⌝ }
 {
+    if scheme == 2 {
+        return tile_step(n, g, start, black, slots, h);
+    }
+    if scheme == 3 {
+        return tree_step(n, g, start, black, slots, h);
+    }
     let b = link_value(black, h);
-    let linked = link_slots(scheme, n, g, slots, h);
     let k = layouts::values_of_day(scheme, n, g);
-    let values = day_values(scheme, n, g, k, b, linked);
-    let next = restart_slots(scheme, n, g, start, linked);
     DayStep {
         black: b,
-        slots: next,
-        values,
+        slots,
+        values: [b; 17],
         count: k,
     }
 }
