@@ -6,15 +6,14 @@ use mathlib.Core.List.{List, [], _∷_}
 use native.Mathlib.Omega.{arith}
 use borrow.Author.Count.{below-more}
 use lib.ListN.{length, getD, set}
-use Rattle.sha256_words.specs.Words.{initial}
-use Rattle.sha256.proofs.Laws.{length-compress}
-use Rattle.lanes.specs.Lanes.{lane, laneAfter, compressed, laneAfterSame, compressedSame}
-use Rattle.lanes.specs.Private.{puts, Lanes, always}
-use Rattle.lanes.proofs.LaneLaws.{length-rows, lane-rows, Through, through-next}
+use Rattle.lanes.specs.Lanes.{lane}
+use Rattle.lanes.specs.Private.{puts, Lanes}
+use Rattle.lanes.proofs.LaneLaws.{Through, through-next}
+use Rattle.links.specs.Private.{front, linkOf}
+use Rattle.links.proofs.Links.{link-of}
 use Rattle.chains.specs.declared.Value.{Value}
 use Rattle.chains.specs.Step.{linked, each, linkedSlots}
-use Rattle.chains.specs.Private.{front, back, none, wordsAt, frontOf, Fronts, linkOf, linkEach, levelsLinked}
-use Rattle.chains.proofs.Links.{link-of}
+use Rattle.chains.specs.Private.{none, wordsAt, frontOf, Fronts, linkEach, levelsLinked}
 use Rattle.chains.proofs.Slots.{upto, upto-next, upto-all}
 
 -- an element that is there, whatever stands for one that is not
@@ -40,22 +39,12 @@ pub eight-more : (slots : List Value) (z : Value) (j : ℕ) → ((i : ℕ) → i
 eight-more slots z j h e l n =
     below-more _ _ h (ap (λ (v : Value). length (v .words)) (any-default slots j none z (omega arith)) ∙ e)
 
-pub firsts-are : (v r : List ℕ) → Lanes 8 (always v) r → v ≡ initial → Lanes 8 (always initial) r
-firsts-are v r h e = record { size = h .size; each = λ j l. h .each j l ∙ e }
-
 -- ---- both blocks
 
-pub links-of : (slots : List Value) (h s m : List ℕ) {g n r : List ℕ} → Lanes 8 (always initial) s → Fronts slots h m → g ≡ compressed s m → n ≡ back h
-    → r ≡ compressedSame g n → length h ≡ 8 → Lanes 8 (linkOf slots h) r
-unfolding compressed compressedSame
-links-of slots h s m {g} {n} {r} ls fm eg en er lh =
-    record {
-      size = ap length er ∙ length-rows 8 (laneAfterSame g n);
-      each = λ j l.
-          link-of (wordsAt slots j) h (fm .blocks-are .each j l) en (ls .each j l)
-          (ap (λ (x : List ℕ). lane 8 x j) eg ∙ lane-rows 8 (laneAfter s m) j l (length-compress (lane 8 s j) (lane 16 m j)))
-          (ap (λ (x : List ℕ). lane 8 x j) er ∙ lane-rows 8 (laneAfterSame g n) j l (length-compress (lane 8 g j) n)) (fm .eights j l) lh;
-    }
+pub links-are : (slots : List Value) (h m s : List ℕ) → Fronts slots h m → Lanes 8 (linkOf m h) s → length h ≡ 8 → (j : ℕ) → j < 16
+    → lane 8 s j ≡ linked (getD slots j none) h .words
+unfolding linked
+links-are slots h m s f ls lh j l = link-of (wordsAt slots j) h (f .blocks-are .each j l) refl refl refl (ls .each j l) (f .eights j l) lh
 
 -- ---- the links as values, one by one
 
@@ -68,13 +57,13 @@ value-of : (v : Value) (h : List ℕ) {u : List ℕ} → u ≡ linked v h .words
 unfolding linked
 value-of v h e = rw e
 
-pub levels-next : (z : Value) (h s : List ℕ) (i : ℕ) (l r : List Value) {u : List ℕ} → r ≡ upto (linkEach h) 0 i l → u ≡ lane 8 s i → Lanes 8 (linkOf l h) s
+pub levels-next : (z : Value) (h s : List ℕ) (i : ℕ) (l r : List Value) {u : List ℕ} → r ≡ upto (linkEach h) 0 i l → u ≡ lane 8 s i → lane 8 s i ≡ linked (getD l i none) h .words
     → i < 16 → length l ≡ 17 → set r i (record { words = u }) ≡ upto (linkEach h) 0 (i + 1) l
 unfolding linked
 levels-next z h s i l r e eu ls b n =
     upto-next z (linkEach h) i l r _ e
     (value-of (getD r i z) h
-    (eu ∙ ls .each i b ∙ ap (λ (v : Value). linked v h .words)
+    (eu ∙ ls ∙ ap (λ (v : Value). linked v h .words)
     (any-default l i none z (omega arith) ∙ sym (upto-at z (linkEach h) 0 i l) ∙ ap (λ (x : List Value). getD x i z) (sym e))))
     (omega arith)
 

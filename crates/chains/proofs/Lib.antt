@@ -1,4 +1,3 @@
-pub mod Links
 pub mod Slots
 pub mod Levels
 pub mod Values

@@ -1,7 +1,5 @@
 // The running hashes of a service: what one more day does to black, to the tile chains and to the tree's levels, and
 // which of them are values of that day. Closing a day and checking one use the same step.
-pub mod link;
-
 ghost use mathlib.Core.Path.{_≡_};
 ghost use mathlib.Core.Bool.{true, cond};
 ghost use Prim.Native.Nat.{_+_, _≤_, _<_};
@@ -11,7 +9,8 @@ ghost use Rattle.layouts.specs.Layouts.{allowedScheme, allowedN, namesOfDay};
 ghost use Rattle.chains.specs.Step as spec;
 ghost use Rattle.chains.specs.Step.{startValue, linked, linksSlot, storesSlot, storesBlack, linkSlot};
 ghost use Rattle.chains.specs.Step.{restartSlot, linkedSlots, restarted, dayValues, linksOf};
-ghost use Rattle.chains.specs.Private.{Stepped, levelsLinked};
+ghost use Rattle.links.specs.Private.{front};
+ghost use Rattle.chains.specs.Private.{Stepped, Fronts, levelsLinked};
 
 pub struct Value {
     pub words: [u32; 8],
@@ -36,7 +35,7 @@ fn link_value(v: Value, h: [u32; 8]) -> Value
 {
     let w = v.words;
     Value {
-        words: link::link_words(w, h),
+        words: links::link_words(w, h),
     }
 }
 
@@ -141,11 +140,34 @@ fn slot_restarted(scheme: u32, n: u32, g: u32, start: Value, i: usize, v: Value)
     v
 }
 
+// The first block of the link of a value.
+fn front_of(v: Value, h: [u32; 8]) -> [u32; 16]
+    ensures { λ r. ⌜ (r ≡ front (v .words) h) × (length (v .words) ≡ 8) ⌝ }
+{
+    let w = v.words;
+    links::front(w, h)
+}
+
+// The first blocks of the links of the slots 0 to 15, in lanes.
+fn fronts(slots: [Value; 17], h: [u32; 8]) -> [u32; 256]
+    ensures { λ r. ⌜ Fronts slots h r ⌝ }
+{
+    let mut w = [0u32; 256];
+    let mut j = 0usize;
+    while j < 16 {
+        let v = slots[j];
+        let m = front_of(v, h);
+        lanes::put_block(&mut w, j, m);
+        j += 1;
+    }
+    w
+}
+
 // Every slot linked, as the tree's levels are each day: 0 to 15 side by side, 16 by itself.
 fn link_levels(slots: [Value; 17], h: [u32; 8]) -> [Value; 17]
     ensures { λ r. ⌜ r ≡ levelsLinked h slots ⌝ }
 {
-    let s = link::links(slots, h);
+    let s = links::link_lanes(fronts(slots, h), h);
     let mut r = slots;
     let mut i = 0usize;
     while i < 16 {

@@ -45,6 +45,9 @@ pub lane-same : (n : ℕ) (l v : List ℕ) (j : ℕ) → length v ≡ n → ((i 
 lane-same n l v j e h = ext-getD 0 (lane n l j) v (length-lane n l j ∙ sym e)
     (λ i k. let b : i < n = omega (arith, length-lane n l j) in at-lane n l j i b ∙ h i b)
 
+pub lane-read : (n : ℕ) (l : List ℕ) (j : ℕ) (v : List ℕ) (i : ℕ) → ((q : ℕ) → q < i → getD v q 0 ≡ wordOf l j q) → n ≤ i → length v ≡ n → v ≡ lane n l j
+lane-read n l j v i h b e = sym (lane-same n l v j e (λ q k. sym (h q (omega arith))))
+
 pub lane-rows : (n : ℕ) (f : ℕ → List ℕ) (j : ℕ) → j < 16 → length (f j) ≡ n → lane n (rows n f) j ≡ f j
 lane-rows n f j h e = lane-same n (rows n f) (f j) j e
     (λ i b. let x : (i * 16 + j) % 16 ≡ j = omega arith in let y : (i * 16 + j) / 16 ≡ i = omega arith in

@@ -14,12 +14,6 @@ use Rattle.lanes.specs.Lanes.{lane, placeOf, laneAfter, compressed, lane
 use Rattle.lanes.specs.Private.{puts, fills, Lanes, fourRows, fourFrom, fourOn, sumOf, scheduleOf, always, workedBy}
 use Rattle.lanes.proofs.LaneLaws.{length-lane, at-lane, at-place, lane-same, by-lanes, fills-in, fills-before, Through, through-next}
 
-pub state-of : (s : List ℕ) (j : ℕ)
-    → getD s j 0 ∷ getD s (16 + j) 0 ∷ getD s (32 + j) 0 ∷ getD s (48 + j) 0 ∷ getD s (64 + j) 0 ∷ getD s (80 + j) 0 ∷ getD s (96 + j) 0 ∷ getD s (112 + j) 0 ∷ []
-    ≡ lane 8 s j
-unfolding lane
-state-of s j = let e : 0 + j ≡ j = omega arith in rw e
-
 -- ---- the schedules: the words below place p are theirs
 
 schedule-begins : (b : List ℕ) (i : ℕ) → length b ≡ 16 → i < 16 → getD (schedule b 64) i 0 ≡ getD b i 0
@@ -72,14 +66,20 @@ pub word-first : (m l : List ℕ) (i : ℕ) → i < 16 → getD m i 0 ≡ schedu
 unfolding scheduled
 word-first m l i h = rw (lt-ltb i 16 h)
 
-at-first : (w : List ℕ) (i k : ℕ) → k < i → getD (lane i w 0) k 0 ≡ getD w (k * 16) 0
-at-first w i k l = let e : k * 16 + 0 ≡ k * 16 = omega arith in at-lane i w 0 k l ∙ ap (λ (q : ℕ). getD w q 0) e
+at-first : (w : List ℕ) (i k q : ℕ) → k < i → q ≡ k * 16 + 0 → getD (lane i w 0) k 0 ≡ getD w q 0
+at-first w i k q l e = at-lane i w 0 k l ∙ ap (λ (x : ℕ). getD w x 0) (sym e)
 
-pub word-later : (w m : List ℕ) (i : ℕ) {x : ℕ} → x ≡ mixed (getD w ((i - 2) * 16) 0) (getD w ((i - 7) * 16) 0) (getD w ((i - 15) * 16) 0) (getD w ((i - 16) * 16) 0)
+pub word-later : (w m : List ℕ) (i : ℕ) {x : ℕ} → x ≡ mixed (getD w (i * 16 - 32) 0) (getD w (i * 16 - 112) 0) (getD w (i * 16 - 240) 0) (getD w (i * 16 - 256) 0)
     → 16 ≤ i → x ≡ scheduled m (lane i w 0) i
 unfolding scheduled later mixed
 word-later w m i e h = e
-    ∙ rw (le-ltb i 16 h, at-first w i (i - 2) (omega arith), at-first w i (i - 7) (omega arith), at-first w i (i - 15) (omega arith), at-first w i (i - 16) (omega arith))
+    ∙ rw (
+      le-ltb i 16 h,
+      at-first w i (i - 2) (i * 16 - 32) (omega arith) (omega arith),
+      at-first w i (i - 7) (i * 16 - 112) (omega arith) (omega arith),
+      at-first w i (i - 15) (i * 16 - 240) (omega arith) (omega arith),
+      at-first w i (i - 16) (i * 16 - 256) (omega arith) (omega arith),
+    )
 
 pub same-none : (m w : List ℕ) (j : ℕ) → j < 16 → lane 0 w j ≡ schedule m 0
 unfolding lane schedule

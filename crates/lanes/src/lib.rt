@@ -14,16 +14,13 @@ pub fn state(s: &[u32; 128], j: usize) -> [u32; 8]
     requires { ⌜ j < 16 ⌝ }
     ensures { λ r. ⌜ r ≡ lane 8 (now (s .entry)) j ⌝ }
 {
-    [
-        s[j],
-        s[16 + j],
-        s[32 + j],
-        s[48 + j],
-        s[64 + j],
-        s[80 + j],
-        s[96 + j],
-        s[112 + j],
-    ]
+    let mut v = [0u32; 8];
+    let mut i = 0usize;
+    while i < 8 {
+        v[i] = s[i * 16 + j];
+        i += 1;
+    }
+    v
 }
 
 // Lane j made v.
@@ -140,12 +137,8 @@ fn next_word(w: &[u32; 1024], m: [u32; 16], i: usize) -> u32
     if i < 16 {
         return m[i];
     }
-    sha256::mixed(
-        w[(i - 2) * 16],
-        w[(i - 7) * 16],
-        w[(i - 15) * 16],
-        w[(i - 16) * 16],
-    )
+    let a = i * 16;
+    sha256::mixed(w[a - 32], w[a - 112], w[a - 240], w[a - 256])
 }
 
 // The sixteen words from place a on made x.

@@ -1,9 +1,9 @@
--- `chains::link::across` meets its contract.
-use Rattle.chains.proofs.Links.{across-of}
+-- `links::across` meets its contract.
+use Rattle.links.proofs.Links.{across-of}
 use native.Mathlib.Omega.{arith}
 use borrow.Author.Needs.{needs}
-use Rattle.chains.proofs.link.across.Statement.{statement}
-use Rattle.chains.proofs.link.across.Tie as tie
+use Rattle.links.proofs.across.Statement.{statement}
+use Rattle.links.proofs.across.Tie as tie
 
 pub across-spec : {M : Type 1} → statement M
 across-spec = tie.close (tie.spec (λ c. search needs) (λ c. search needs)

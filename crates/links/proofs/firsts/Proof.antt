@@ -1,12 +1,12 @@
--- `chains::link::firsts` meets its contract.
+-- `links::firsts` meets its contract.
 use Prim.Native.Nat.{_-_, _≤_}
 use mathlib.Core.Path.{refl}
 use Rattle.lanes.specs.Private.{always}
 use Rattle.lanes.proofs.LaneLaws.{Through, through-none, through-next, through-all}
-use Rattle.chains.proofs.Levels.{firsts-are}
+use Rattle.links.proofs.Links.{firsts-are}
 use borrow.Author.Needs.{needs}
-use Rattle.chains.proofs.link.firsts.Statement.{statement}
-use Rattle.chains.proofs.link.firsts.Tie as tie
+use Rattle.links.proofs.firsts.Statement.{statement}
+use Rattle.links.proofs.firsts.Tie as tie
 
 abbrev Inv-loop : tie.InvT-loop
 Inv-loop v s₀ j₀ s j = (j ≤ 16) × Through 8 (always v) j s₀ s

@@ -1,4 +1,4 @@
--- The two blocks of the byte 1 and sixteen words.
+-- The two blocks of the byte 1 and sixteen words, one by themselves and in lanes.
 -- Assumes nothing.
 use Prim.Native.Nat.{ℕ, zero, suc, _+_, _*_, _/_, _%_, _^_, _<_}
 use mathlib.Core.Path.{_≡_, refl, sym, ap, ap₂, _∙_}
@@ -8,7 +8,11 @@ use lib.ListN.{length, getD, drop, drop-of-length-le}
 use lib.Seq.{drop-cons}
 use Rattle.sha256_words.specs.Words.{initial, wordAt, words, bytesOf}
 use Rattle.sha256.specs.Sha256.{compress, chunks, blocks, wide, padding, hashed}
-use Rattle.chains.specs.Private.{across, front, back}
+use Rattle.sha256.proofs.Laws.{length-compress}
+use Rattle.lanes.specs.Lanes.{lane, laneAfter, compressed, laneAfterSame, compressedSame}
+use Rattle.lanes.specs.Private.{Lanes, always}
+use Rattle.lanes.proofs.LaneLaws.{length-rows, lane-rows}
+use Rattle.links.specs.Private.{across, front, back, linkOf}
 
 pub across-of : (a b : ℕ) → b < 2 ^ 32 → a % 256 * 16777216 + b / 256 ≡ across a b
 unfolding across
@@ -70,3 +74,19 @@ link-of v h em en ei eg er lv lh =
     ∙ two-blocks (getD v 0 0) (getD v 1 0) (getD v 2 0) (getD v 3 0) (getD v 4 0) (getD v 5 0) (getD v 6 0) (getD v 7 0) (getD h 0 0) (getD h 1 0) (getD h 2 0) (getD h 3 0) (getD h 4 0)
     (getD h 5 0) (getD h 6 0) (getD h 7 0)
     ∙ sym (ap₂ (λ (a b : List ℕ). hashed (1 ∷ (bytesOf a ++ bytesOf b))) (eight v lv) (eight h lh))
+
+-- ---- links in lanes
+
+pub firsts-are : (v r : List ℕ) → Lanes 8 (always v) r → v ≡ initial → Lanes 8 (always initial) r
+firsts-are v r h e = record { size = h .size; each = λ j l. h .each j l ∙ e }
+
+pub lanes-of : (h s m : List ℕ) {g n r : List ℕ} → Lanes 8 (always initial) s → g ≡ compressed s m → n ≡ back h → r ≡ compressedSame g n → Lanes 8 (linkOf m h) r
+unfolding compressed compressedSame
+lanes-of h s m {g} {n} ls eg en er =
+    record {
+      size = ap length er ∙ length-rows 8 (laneAfterSame g n);
+      each = λ j l.
+          ap (λ (x : List ℕ). lane 8 x j) er ∙ lane-rows 8 (laneAfterSame g n) j l (length-compress (lane 8 g j) n)
+          ∙ ap₂ compress (ap (λ (x : List ℕ). lane 8 x j) eg ∙ lane-rows 8 (laneAfter s m) j l (length-compress (lane 8 s j) (lane 16 m j))
+          ∙ ap (λ (x : List ℕ). compress x (lane 16 m j)) (ls .each j l)) en;
+    }

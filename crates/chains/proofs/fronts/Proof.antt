@@ -1,4 +1,4 @@
--- `chains::link::fronts` meets its contract.
+-- `chains::fronts` meets its contract.
 use Prim.Native.Nat.{ℕ, _-_, _≤_, _<_}
 use mathlib.Core.Path.{_≡_}
 use native.Mathlib.Omega.{arith}
@@ -7,8 +7,8 @@ use Rattle.chains.specs.Private.{wordsAt, frontOf}
 use Rattle.lanes.proofs.LaneLaws.{Through, through-none, through-all}
 use Rattle.chains.proofs.Levels.{fronts-turn, eight-more}
 use borrow.Author.Needs.{needs}
-use Rattle.chains.proofs.link.fronts.Statement.{statement}
-use Rattle.chains.proofs.link.fronts.Tie as tie
+use Rattle.chains.proofs.fronts.Statement.{statement}
+use Rattle.chains.proofs.fronts.Tie as tie
 
 abbrev Inv-loop : tie.InvT-loop
 Inv-loop h slots w₀ j₀ w j = (j ≤ 16) × (length slots ≡ 17) × Through 16 (frontOf slots h) j w₀ w × ((i : ℕ) → i < j → length (wordsAt slots i) ≡ 8)

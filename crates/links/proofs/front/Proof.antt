@@ -1,8 +1,8 @@
--- `chains::link::front` meets its contract.
-use Rattle.chains.proofs.Links.{front-of}
+-- `links::front` meets its contract.
+use Rattle.links.proofs.Links.{front-of}
 use borrow.Author.Needs.{needs}
-use Rattle.chains.proofs.link.front.Statement.{statement}
-use Rattle.chains.proofs.link.front.Tie as tie
+use Rattle.links.proofs.front.Statement.{statement}
+use Rattle.links.proofs.front.Tie as tie
 
 returns : tie.Need-returns
 returns c = (

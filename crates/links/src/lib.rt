@@ -1,13 +1,12 @@
 // The link of a chain: SHA-256 of the byte 1, a value and a digest, 65 bytes, as two blocks of words. One by itself, or
 // sixteen to the same digest side by side.
-use crate::Value;
 ghost use mathlib.Core.Path.{_≡_};
 ghost use mathlib.Core.List.{_∷_, _++_};
 ghost use Rattle.sha256.specs.Sha256.{hashed};
 ghost use Rattle.sha256_words.specs.Words.{initial, bytesOf};
 ghost use Rattle.lanes.specs.Private.{Lanes, always};
 ghost use lib.ListN.{length};
-ghost use Rattle.chains.specs.Private as form;
+ghost use Rattle.links.specs.Private as form;
 
 // The word of the last byte of a and the first three bytes of b.
 fn across(a: u32, b: u32) -> u32
@@ -17,7 +16,8 @@ fn across(a: u32, b: u32) -> u32
 }
 
 // The words of the first block of the byte 1 and the bytes of v and of h; and of the second, the padding with them.
-fn front(v: [u32; 8], h: [u32; 8]) -> [u32; 16]
+// That v has eight words, which its type says, is told to callers that need it of a list.
+pub fn front(v: [u32; 8], h: [u32; 8]) -> [u32; 16]
     ensures { λ r. ⌜ (r ≡ form.front v h) × (length v ≡ 8) ⌝ }
 {
     [
@@ -73,14 +73,6 @@ pub fn link_words(v: [u32; 8], h: [u32; 8]) -> [u32; 8]
     sha256::compress(g, n)
 }
 
-// The first block of the link of a value.
-fn front_of(v: Value, h: [u32; 8]) -> [u32; 16]
-    ensures { λ r. ⌜ (r ≡ form.front (v .words) h) × (length (v .words) ≡ 8) ⌝ }
-{
-    let w = v.words;
-    front(w, h)
-}
-
 // The first hash value in every lane.
 fn firsts() -> [u32; 128]
     ensures { λ r. ⌜ Lanes 8 (always initial) r ⌝ }
@@ -95,26 +87,10 @@ fn firsts() -> [u32; 128]
     s
 }
 
-// The first blocks of the links of the slots 0 to 15, in lanes.
-fn fronts(slots: [Value; 17], h: [u32; 8]) -> [u32; 256]
-    ensures { λ r. ⌜ form.Fronts slots h r ⌝ }
+// The links in lanes to the digest h, whose first blocks are m. Their second blocks are one.
+pub fn link_lanes(m: [u32; 256], h: [u32; 8]) -> [u32; 128]
+    ensures { λ r. ⌜ Lanes 8 (form.linkOf m h) r ⌝ }
 {
-    let mut w = [0u32; 256];
-    let mut j = 0usize;
-    while j < 16 {
-        let v = slots[j];
-        let m = front_of(v, h);
-        lanes::put_block(&mut w, j, m);
-        j += 1;
-    }
-    w
-}
-
-// The links of the slots 0 to 15 to the digest h, in lanes. Their second blocks are one.
-pub fn links(slots: [Value; 17], h: [u32; 8]) -> [u32; 128]
-    ensures { λ r. ⌜ Lanes 8 (form.linkOf slots h) r ⌝ }
-{
-    let m = fronts(slots, h);
     let g = lanes::compress(firsts(), m);
     lanes::compress_same(g, back(h))
 }

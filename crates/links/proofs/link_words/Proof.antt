@@ -1,8 +1,8 @@
--- `chains::link::link_words` meets its contract.
-use Rattle.chains.proofs.Links.{link-of}
+-- `links::link_words` meets its contract.
+use Rattle.links.proofs.Links.{link-of}
 use borrow.Author.Needs.{needs}
-use Rattle.chains.proofs.link.link_words.Statement.{statement}
-use Rattle.chains.proofs.link.link_words.Tie as tie
+use Rattle.links.proofs.link_words.Statement.{statement}
+use Rattle.links.proofs.link_words.Tie as tie
 
 returns : tie.Need-returns
 returns c = link-of _ _ (c .before .before .before .before .front .ensures .0) (c .before .before .before .back .ensures) (c .before .before .initial .ensures) (c .before .compress .ensures)
