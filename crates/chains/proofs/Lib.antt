@@ -1,5 +1,5 @@
-pub mod Links
 pub mod Slots
+pub mod Levels
 pub mod Values
 pub mod Running
 pub mod BookLaws

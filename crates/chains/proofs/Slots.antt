@@ -1,5 +1,5 @@
 -- The cases of the tests on slots, and the loops over them.
-use mathlib.Core.Path.{_≡_, refl, sym, ap, _∙_}
+use mathlib.Core.Path.{_≡_, refl, sym, ap, ap₂, _∙_}
 use mathlib.Core.Bool.{Bool, true, false, not}
 use mathlib.Core.Logic.{_⊎_, inl, inr}
 use mathlib.Core.List.{List, [], _∷_}
@@ -117,16 +117,76 @@ upto-next z f i l r w e q h =
     let o : 0 + i ≡ i = omega arith in
     rw (p, q, e) (ap (λ (x : ℕ). set (upto f 0 i l) i (f x (getD (upto f 0 i l) i z))) (sym o) ∙ upto-step z f 0 i l h)
 
-upto-all : (f : ℕ → Value → Value) (j k : ℕ) (l : List Value) → length l ≤ k → upto f j k l ≡ each f j l
+pub upto-all : (f : ℕ → Value → Value) (j k : ℕ) (l : List Value) → length l ≤ k → upto f j k l ≡ each f j l
 upto-all f j zero [] h = refl
 upto-all f j zero (x ∷ l) h = absurd (omega arith)
 upto-all f j (suc k) [] h = refl
 upto-all f j (suc k) (x ∷ l) h = ap (λ (r : List Value). f j x ∷ r) (upto-all f (suc j) k l (omega arith))
 
-pub linked-done : (s n g : ℕ) (h : List ℕ) (i : ℕ) (l : List Value) {r : List Value} → r ≡ upto (linkSlot s n g h) 0 i l → 17 ≤ i → length l ≡ 17 → r ≡ linkedSlots s n g h l
-unfolding linkedSlots
-linked-done s n g h i l e p q = e ∙ upto-all (linkSlot s n g h) 0 i l (omega arith)
-
 pub restarted-done : (s n g : ℕ) (start : Value) (i : ℕ) (l : List Value) {r : List Value} → r ≡ upto (restartSlot s n g start) 0 i l → 17 ≤ i → length l ≡ 17 → r ≡ restarted s n g start l
 unfolding restarted
 restarted-done s n g start i l e p q = e ∙ upto-all (restartSlot s n g start) 0 i l (omega arith)
+
+-- ---- scheme 1: no slot is linked, none starts again
+
+each-same : (f : ℕ → Value → Value) → ((i : ℕ) (v : Value) → f i v ≡ v) → (j : ℕ) (l : List Value) → each f j l ≡ l
+each-same f h j [] = refl
+each-same f h j (x ∷ l) = ap₂ (λ (v : Value) (r : List Value). v ∷ r) (h j x) (each-same f h (suc j) l)
+
+pub black-slots : (n g : ℕ) (start : Value) (h : List ℕ) (l : List Value) → l ≡ restarted 1 n g start (linkedSlots 1 n g h l)
+unfolding linkedSlots restarted
+black-slots n g start h l =
+    sym (each-same (restartSlot 1 n g start) (λ i v. refl) 0 (each (linkSlot 1 n g h) 0 l) ∙ each-same (linkSlot 1 n g h) (λ i v. refl) 0 l)
+
+-- ---- scheme 2: the slots of the tile chains, linked and started again in one loop
+
+-- a slot linked, and then started again if its chain is a value
+abbrev pub turnSlot : ℕ → ℕ → ℕ → Value → List ℕ → ℕ → Value → Value
+turnSlot s n g start h i v = restartSlot s n g start i (linkSlot s n g h i v)
+
+-- the element that a loop comes to is as it was
+upto-at : (z : Value) (f : ℕ → Value → Value) (j k : ℕ) (l : List Value) → getD (upto f j k l) k z ≡ getD l k z
+upto-at z f j zero l = refl
+upto-at z f j (suc k) [] = refl
+upto-at z f j (suc k) (x ∷ l) = upto-at z f (suc j) k l
+
+-- a turn of the loop: the slot that it comes to, linked in the one list and turned in the other
+pub turn-links : (z : Value) (s n g : ℕ) (start : Value) (h : List ℕ) (i : ℕ) (l vs next : List Value) (w : Value) → vs ≡ upto (linkSlot s n g h) 0 i l → next ≡ upto (turnSlot s n g start h) 0 i l →
+    w ≡ linkSlot s n g h i (getD next i z) → i < length l → set vs i w ≡ upto (linkSlot s n g h) 0 (i + 1) l
+turn-links z s n g start h i l vs next w ev en q p =
+    upto-next z (linkSlot s n g h) i l vs w ev (q ∙ ap (linkSlot s n g h i) (as-was next (turnSlot s n g start h) en ∙ sym (as-was vs (linkSlot s n g h) ev))) p
+  where
+    as-was : (r : List Value) (f : ℕ → Value → Value) → r ≡ upto f 0 i l → getD r i z ≡ getD l i z
+    as-was r f e = ap (λ (x : List Value). getD x i z) e ∙ upto-at z f 0 i l
+
+pub turn-restarts : (z : Value) (s n g : ℕ) (start : Value) (h : List ℕ) (i : ℕ) (l next : List Value) (w v : Value) → next ≡ upto (turnSlot s n g start h) 0 i l → w ≡ linkSlot s n g h i (getD next i z) →
+    v ≡ restartSlot s n g start i w → i < length l → set next i v ≡ upto (turnSlot s n g start h) 0 (i + 1) l
+turn-restarts z s n g start h i l next w v en q e p = upto-next z (turnSlot s n g start h) i l next v en (e ∙ ap (restartSlot s n g start i) q) p
+
+-- a function that leaves the slots from m on is done after m of them
+upto-used : (f : ℕ → Value → Value) (m : ℕ) → ((i : ℕ) (v : Value) → m ≤ i → f i v ≡ v) → (j k : ℕ) (l : List Value) → m ≤ j + k → upto f j k l ≡ each f j l
+upto-used f m h j zero [] p = refl
+upto-used f m h j zero (x ∷ l) p = ap₂ (λ (v : Value) (r : List Value). v ∷ r) (sym (h j x (omega arith))) (upto-used f m h (suc j) zero l (omega arith))
+upto-used f m h j (suc k) [] p = refl
+upto-used f m h j (suc k) (x ∷ l) p = ap (λ (r : List Value). f j x ∷ r) (upto-used f m h (suc j) k l (omega arith))
+
+each-after : (f e : ℕ → Value → Value) (j : ℕ) (l : List Value) → each (λ i v. f i (e i v)) j l ≡ each f j (each e j l)
+each-after f e j [] = refl
+each-after f e j (x ∷ l) = ap (λ (r : List Value). f j (e j x) ∷ r) (each-after f e (suc j) l)
+
+module _ (n g : ℕ) (start : Value) (h : List ℕ) (i : ℕ) (l : List Value) (past : lg n < i) where
+  link-stays : (j : ℕ) (v : Value) → suc (lg n) ≤ j → linkSlot 2 n g h j v ≡ v
+  link-stays j v p = rw (lt-leb j (lg n) p)
+
+  turn-stays : (j : ℕ) (v : Value) → suc (lg n) ≤ j → turnSlot 2 n g start h j v ≡ v
+  turn-stays j v p = rw (lt-leb j (lg n) p)
+
+  pub tiles-linked : {r : List Value} → r ≡ upto (linkSlot 2 n g h) 0 i l → r ≡ linkedSlots 2 n g h l
+  unfolding linkedSlots
+  tiles-linked e = e ∙ upto-used (linkSlot 2 n g h) (suc (lg n)) link-stays 0 i l (omega arith)
+
+  pub tiles-turned : {r : List Value} → r ≡ upto (turnSlot 2 n g start h) 0 i l → r ≡ restarted 2 n g start (linkedSlots 2 n g h l)
+  unfolding linkedSlots restarted
+  tiles-turned e =
+      e ∙ upto-used (turnSlot 2 n g start h) (suc (lg n)) turn-stays 0 i l (omega arith)
+      ∙ each-after (restartSlot 2 n g start) (linkSlot 2 n g h) 0 l

@@ -6,7 +6,7 @@ use mathlib.Core.List.{List, [], _∷_, _++_, map, map-append, append-nil}
 use Prim.Native.Nat.{ℕ, zero, suc, _+_, _-_, _^_, _≤_, _<_}
 use native.Mathlib.Omega.{arith}
 use lib.Dec.{leb}
-use lib.ListN.{length, getD, take, set, length-map, length-append}
+use lib.ListN.{length, getD, take, set, replicate, length-map, length-append}
 use lib.Pow.{pow-mono}
 use lib.Seq.{take-suc, take-suc-set}
 use borrow.Author.Tests.{leb-true, leb-false}
@@ -18,8 +18,9 @@ use Rattle.layouts.proofs.Coverage.{divisor-le}
 use Rattle.layouts.proofs.Counts.{of-power}
 use Rattle.layouts.proofs.Positions.{levels-run}
 use Rattle.chains.specs.declared.Value.{Value}
-use Rattle.chains.specs.Step.{linked, storesBlack, linkedSlots, restarted, current, dayValues}
+use Rattle.chains.specs.Step.{linked, storesBlack, linkSlot, linkedSlots, restarted, current, dayValues}
 use Rattle.chains.specs.Private.{Stepped}
+use Rattle.chains.proofs.Slots.{upto, turnSlot, black-slots, tiles-linked, tiles-turned}
 
 -- the names of a day: m of slots, in order, then black where it is a value of its own
 pub record InSlots (s n g : ℕ) : Type 0 where
@@ -159,3 +160,27 @@ stepped s n g start old slots h {b} {l} {v} {next} {k} eb el ek ev en =
       count-is = ek ∙ chainsOfDay-length s n g;
       values-are = ev ∙ ap₂ (dayValues s n g) eb el;
     }
+
+-- scheme 1: black alone, at most
+pub black-stepped : (n g : ℕ) (start old : Value) (slots : List Value) (h : List ℕ) {b : Value} {k : ℕ} → b ≡ linked old h → k ≡ length (chainsOfDay 1 n g) →
+    Stepped 1 n g start old slots h (record { black = b; slots = slots; values = replicate 17 b; count = k })
+unfolding dayValues
+black-stepped n g start old slots h {b} {k} eb ek =
+    record {
+      black-is = eb;
+      slots-are = black-slots n g start h slots;
+      count-is = ek ∙ chainsOfDay-length 1 n g;
+      values-are = go (divides n g) refl;
+    }
+  where
+    go : (c : Bool) → divides n g ≡ c → take k (replicate 17 b) ≡ map (current (linked old h) (linkedSlots 1 n g h slots)) (namesOfDay 1 n g)
+    go true e = rw (ek ∙ chainsOfDay-length 1 n g, e, eb)
+    go false e = rw (ek ∙ chainsOfDay-length 1 n g, e)
+
+-- scheme 2: the lists of the loop over the slots of the tile chains
+pub tile-stepped : (n g : ℕ) (start old : Value) (slots : List Value) (h : List ℕ) (i : ℕ) {b : Value} {l v next : List Value} {k : ℕ} → lg n < i → b ≡ linked old h →
+    l ≡ upto (linkSlot 2 n g h) 0 i slots → next ≡ upto (turnSlot 2 n g start h) 0 i slots → k ≡ length (chainsOfDay 2 n g) → take k v ≡ dayValues 2 n g b l →
+    Stepped 2 n g start old slots h (record { black = b; slots = next; values = v; count = k })
+tile-stepped n g start old slots h i {l = l} past eb el en ek ev =
+    let linked-is : l ≡ linkedSlots 2 n g h slots = tiles-linked n g start h i slots past el in
+    stepped 2 n g start old slots h eb linked-is ek ev (tiles-turned n g start h i slots past en ∙ ap (restarted 2 n g start) (sym linked-is))

@@ -1,17 +1,15 @@
 // The running hashes of a service: what one more day does to black, to the tile chains and to the tree's levels, and
 // which of them are values of that day. Closing a day and checking one use the same step.
-pub mod link;
-
 ghost use mathlib.Core.Path.{_≡_};
 ghost use mathlib.Core.Bool.{true, cond};
 ghost use Prim.Native.Nat.{_+_, _≤_, _<_};
 ghost use lib.ListN.{length, take};
 ghost use Rattle.refusals.specs.Refusals.{bookLimit};
 ghost use Rattle.layouts.specs.Layouts.{allowedScheme, allowedN, namesOfDay};
-ghost use Rattle.chains.specs.Step as spec;
 ghost use Rattle.chains.specs.Step.{startValue, linked, linksSlot, storesSlot, storesBlack, linkSlot};
 ghost use Rattle.chains.specs.Step.{restartSlot, linkedSlots, restarted, dayValues, linksOf};
-ghost use Rattle.chains.specs.Private.{Stepped};
+ghost use Rattle.links.specs.Private.{front};
+ghost use Rattle.chains.specs.Private.{Stepped, Fronts, levelsLinked};
 
 pub struct Value {
     pub words: [u32; 8],
@@ -36,7 +34,7 @@ fn link_value(v: Value, h: [u32; 8]) -> Value
 {
     let w = v.words;
     Value {
-        words: link::link_words(w, h),
+        words: links::link_words(w, h),
     }
 }
 
@@ -141,18 +139,44 @@ fn slot_restarted(scheme: u32, n: u32, g: u32, start: Value, i: usize, v: Value)
     v
 }
 
-fn link_slots(scheme: u32, n: u32, g: u32, slots: [Value; 17], h: [u32; 8]) -> [Value; 17]
-    requires { ⌜ (allowedN n ≡ true) × (1 ≤ g) ⌝ }
-    ensures { λ r. ⌜ r ≡ linkedSlots scheme n g h slots ⌝ }
+// The first block of the link of a value.
+fn front_of(v: Value, h: [u32; 8]) -> [u32; 16]
+    ensures { λ r. ⌜ (r ≡ front (v .words) h) × (length (v .words) ≡ 8) ⌝ }
 {
+    let w = v.words;
+    links::front(w, h)
+}
+
+// The first blocks of the links of the slots 0 to 15, in lanes.
+fn fronts(slots: [Value; 17], h: [u32; 8]) -> [u32; 256]
+    ensures { λ r. ⌜ Fronts slots h r ⌝ }
+{
+    let mut w = [0u32; 256];
+    let mut j = 0usize;
+    while j < 16 {
+        let v = slots[j];
+        let m = front_of(v, h);
+        lanes::put_block(&mut w, j, m);
+        j += 1;
+    }
+    w
+}
+
+// Every slot linked, as the tree's levels are each day: 0 to 15 side by side, 16 by itself.
+fn link_levels(slots: [Value; 17], h: [u32; 8]) -> [Value; 17]
+    ensures { λ r. ⌜ r ≡ levelsLinked h slots ⌝ }
+{
+    let s = links::link_lanes(fronts(slots, h), h);
     let mut r = slots;
     let mut i = 0usize;
-    while i < 17 {
-        let v = r[i];
-        let w = slot_linked(scheme, n, g, i, v, h);
-        r[i] = w;
+    while i < 16 {
+        let u = lanes::state(&s, i);
+        r[i] = Value { words: u };
         i += 1;
     }
+    let v = r[16];
+    let w = link_value(v, h);
+    r[16] = w;
     r
 }
 
@@ -185,7 +209,57 @@ fn day_values(scheme: u32, n: u32, g: u32, k: u32, black: Value, slots: [Value; 
     r
 }
 
-// One more day, g, whose digest is h.
+// Day g under scheme 2: each tile chain's slot is linked, and started again if it is a value of the day. One loop, so
+// that the slots are copied as rarely as can be; those behind c(lg N) stay.
+fn tile_step(n: u32, g: u32, start: Value, black: Value, slots: [Value; 17], h: [u32; 8]) -> DayStep
+    requires { ⌜ (allowedN n ≡ true) × (1 ≤ g) × (g ≤ bookLimit) ⌝ }
+    ensures { λ r. ⌜ Stepped 2 n g start black slots h r ⌝ }
+{
+    let b = link_value(black, h);
+    let k = layouts::values_of_day(2, n, g);
+    let m = layouts::lg(n) as usize + 1;
+    let mut values = slots;
+    let mut next = slots;
+    let mut i = 0usize;
+    while i < m {
+        let v = next[i];
+        let w = slot_linked(2, n, g, i, v, h);
+        let s = slot_restarted(2, n, g, start, i, w);
+        values[i] = w;
+        next[i] = s;
+        i += 1;
+    }
+    if stores_black(2, n, g) {
+        let at = (k - 1) as usize;
+        values[at] = b;
+    }
+    DayStep {
+        black: b,
+        slots: next,
+        values,
+        count: k,
+    }
+}
+
+// Day g under scheme 3.
+fn tree_step(n: u32, g: u32, start: Value, black: Value, slots: [Value; 17], h: [u32; 8]) -> DayStep
+    requires { ⌜ (allowedN n ≡ true) × (1 ≤ g) × (g ≤ bookLimit) ⌝ }
+    ensures { λ r. ⌜ Stepped 3 n g start black slots h r ⌝ }
+{
+    let b = link_value(black, h);
+    let linked = link_levels(slots, h);
+    let k = layouts::values_of_day(3, n, g);
+    let values = day_values(3, n, g, k, b, linked);
+    let next = restart_slots(3, n, g, start, linked);
+    DayStep {
+        black: b,
+        slots: next,
+        values,
+        count: k,
+    }
+}
+
+// One more day, g, whose digest is h. Under scheme 1 no slot is in use.
 pub fn step(
     scheme: u32,
     n: u32,
@@ -198,15 +272,18 @@ pub fn step(
     requires { ⌜ (allowedScheme scheme ≡ true) × (allowedN n ≡ true) × (1 ≤ g) × (g ≤ bookLimit) ⌝ }
     ensures { λ r. ⌜ Stepped scheme n g start black slots h r ⌝ }
 {
+    if scheme == 2 {
+        return tile_step(n, g, start, black, slots, h);
+    }
+    if scheme == 3 {
+        return tree_step(n, g, start, black, slots, h);
+    }
     let b = link_value(black, h);
-    let linked = link_slots(scheme, n, g, slots, h);
     let k = layouts::values_of_day(scheme, n, g);
-    let values = day_values(scheme, n, g, k, b, linked);
-    let next = restart_slots(scheme, n, g, start, linked);
     DayStep {
         black: b,
-        slots: next,
-        values,
+        slots,
+        values: [b; 17],
         count: k,
     }
 }

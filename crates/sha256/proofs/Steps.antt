@@ -12,14 +12,14 @@ use Rattle.sha256.specs.Private.{window, mixed, slid, slides, roundsOn}
 
 -- ---- the schedule's words
 
-length-schedule : (m : List ℕ) (n : ℕ) → length (schedule m n) ≡ n
+pub length-schedule : (m : List ℕ) (n : ℕ) → length (schedule m n) ≡ n
 unfolding schedule grown
 length-schedule m zero = refl
 length-schedule m (suc n) =
     length-append (schedule m n) (scheduled m (schedule m n) n ∷ []) ∙ omega (arith, length-schedule m n)
 
 -- its first sixteen are the block's
-begins : (m : List ℕ) (t : ℕ) → length m ≡ 16 → t ≤ 16 → schedule m t ≡ take t m
+pub begins : (m : List ℕ) (t : ℕ) → length m ≡ 16 → t ≤ 16 → schedule m t ≡ take t m
 unfolding schedule grown scheduled
 begins m zero e l = refl
 begins m (suc t) e l =
@@ -34,7 +34,7 @@ prefix m i (suc k) =
     (take-append-le i (schedule m (i + k)) (scheduled m (schedule m (i + k)) (i + k) ∷ []) (omega (arith, length-schedule m (i + k)))
     ∙ prefix m i k)
 
-before : (m : List ℕ) (i n : ℕ) → i ≤ n → take i (schedule m n) ≡ schedule m i
+pub before : (m : List ℕ) (i n : ℕ) → i ≤ n → take i (schedule m n) ≡ schedule m i
 before m i n l = let e : n ≡ i + (n - i) = omega arith in rw e (prefix m i (n - i))
 
 later-take : (w : List ℕ) (t : ℕ) → 16 ≤ t → later (take t w) t ≡ later w t
@@ -47,7 +47,7 @@ unfolding schedule grown
 last m i = getD-at (schedule m i) (scheduled m (schedule m i) i) [] 0 i (length-schedule m i)
 
 -- word i + 16 of a schedule of more words, by the words before it
-recurs : (m : List ℕ) (i n : ℕ) → i + 16 < n
+pub recurs : (m : List ℕ) (i n : ℕ) → i + 16 < n
     → getD (schedule m n) (i + 16) 0
     ≡ mixed (getD (schedule m n) (i + 14) 0) (getD (schedule m n) (i + 9) 0) (getD (schedule m n) (i + 1) 0) (getD (schedule m n) i 0)
 unfolding scheduled later mixed

@@ -27,7 +27,7 @@ fn t2(a: u32, b: u32, c: u32) -> u32
 }
 
 // The next word of the schedule.
-fn mixed(a: u32, b: u32, c: u32, d: u32) -> u32
+pub fn mixed(a: u32, b: u32, c: u32, d: u32) -> u32
     ensures { λ r. ⌜ r ≡ form.mixed a b c d ⌝ }
 {
     sha256_words::add32(
@@ -73,7 +73,7 @@ fn slides(w: [u32; 16]) -> [u32; 16]
 }
 
 // One round, with the constant k and the word w.
-fn round(v: [u32; 8], k: u32, w: u32) -> [u32; 8]
+pub fn round(v: [u32; 8], k: u32, w: u32) -> [u32; 8]
     ensures { λ r. ⌜ r ≡ spec.round v k w ⌝ }
 {
     let x = t1(v[4], v[5], v[6], v[7], k, w);
@@ -91,7 +91,7 @@ fn round(v: [u32; 8], k: u32, w: u32) -> [u32; 8]
 }
 
 // The working variables v added to the hash value h.
-fn summed(h: [u32; 8], v: [u32; 8]) -> [u32; 8]
+pub fn summed(h: [u32; 8], v: [u32; 8]) -> [u32; 8]
     ensures { λ r. ⌜ r ≡ spec.summed h v ⌝ }
 {
     [

@@ -109,7 +109,7 @@ fn words(k: usize) -> [u32; 8]
 fn links() {
     let mut k = 0;
     while k < 16 {
-        print(chains::link::link_words(words(2 * k), words(2 * k + 1)));
+        print(links::link_words(words(2 * k), words(2 * k + 1)));
         k += 1;
     }
 }

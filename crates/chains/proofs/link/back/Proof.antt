@@ -1,8 +1,0 @@
--- `chains::link::back` meets its contract.
-use Rattle.chains.proofs.Links.{back-of}
-use borrow.Author.Needs.{needs}
-use Rattle.chains.proofs.link.back.Statement.{statement}
-use Rattle.chains.proofs.link.back.Tie as tie
-
-pub back-spec : {M : Type 1} → statement M
-back-spec = tie.close (tie.spec (λ c. search needs) (λ c. λ κs. search needs) (λ c. back-of _ (c .across .ensures)))

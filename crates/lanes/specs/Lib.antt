@@ -1,0 +1,3 @@
+-- Sixteen compressions side by side.
+pub mod Lanes
+pub mod Private
