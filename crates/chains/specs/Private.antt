@@ -19,6 +19,7 @@ pub record Stepped (scheme n g : ℕ) (start b : Value) (slots : List Value) (h 
 
 -- ---- the links of the slots 0 to 15 in lanes
 
+-- what stands for a slot that is not there; the words of slot j
 abbrev pub none : Value
 none = record { words = [] }
 

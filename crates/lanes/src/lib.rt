@@ -1,5 +1,5 @@
-// SHA-256's compression of sixteen hash values by a block each, side by side, so that the compiler takes several at a
-// time. The words stand in rows of sixteen: word i of lane j at i * 16 + j.
+// SHA-256's compression of sixteen hash values side by side, by a block each or by one for all. The words stand in rows
+// of sixteen, word i of lane j at i * 16 + j, so that the compiler makes vector code of a loop over the lanes.
 ghost use mathlib.Core.Path.{_≡_};
 ghost use Prim.Native.Nat.{ℕ, _+_, _*_, _≤_, _<_};
 ghost use lib.ListN.{length, getD};
@@ -63,7 +63,8 @@ fn four_constants(k: &[u32; 64], t: usize) -> [u32; 4]
     [k[t], k[t + 1], k[t + 2], k[t + 3]]
 }
 
-// Four rounds in one lane.
+// Four rounds in one lane. It is called in one place, so that the compiler puts it there: a call in the loop over the
+// lanes would keep that loop from becoming vector code. More rounds in a turn are no faster.
 fn four_rounds(v: [u32; 8], w: [u32; 4], k: [u32; 4]) -> [u32; 8]
     ensures { λ r. ⌜ r ≡ roundsOn v w k 0 4 ⌝ }
 {

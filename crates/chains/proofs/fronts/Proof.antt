@@ -20,5 +20,16 @@ pub fronts-spec : {M : Type 1} → statement M
 fronts-spec = tie.close (tie.spec Inv-loop μ-loop
     (λ c. (search needs, search needs, through-none 16 _ _ (search needs), λ i l. absurd (omega arith))) (λ c. search needs)
     (λ c. search needs) (λ c κs. search needs) (λ c κs. search needs) (λ c. search needs) (λ c. search needs)
-    (λ c. let d = c .before .before in let l = d .before .before .before .loop in let a = d .before .before .before .before .args in (search needs, l .inv .1, fronts-turn (a .t1) _ (a .h) (l .j) _ (l .w) (l .inv .2) (d .front-of .ensures .0) (c .put-block .ensures) (search needs) (l .inv .1), eight-more (a .t1) _ (l .j) (l .inv .3) (d .front-of .ensures .1) (search needs) (l .inv .1)))
-    (λ c. let l = c .before .loop in record { blocks-are = through-all 16 _ (l .j) _ _ (l .inv .2) (search needs); eights = λ i b. l .inv .3 i (omega arith) }))
+    (λ c. let d = c .before .before in let l = d .before .before .before .loop in let a = d .before .before .before .before .args in (
+      search needs,
+      l .inv .1,
+      fronts-turn (a .t1) _ (a .h) (l .j) _ (l .w) (l .inv .2) (d .front-of .ensures .0)
+          (c .put-block .ensures) (search needs) (l .inv .1),
+      eight-more (a .t1) _ (l .j) (l .inv .3) (d .front-of .ensures .1)
+          (search needs) (l .inv .1),
+    ))
+    (λ c. let l = c .before .loop in record {
+      blocks-are = through-all 16 _ (l .j) _ _ (l .inv .2)
+          (search needs);
+      eights = λ i b. l .inv .3 i (omega arith);
+    }))

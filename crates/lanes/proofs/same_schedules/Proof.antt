@@ -20,5 +20,11 @@ abbrev μ-loop : tie.MeasureT-loop
 pub same-schedules-spec : {M : Type 1} → statement M
 same-schedules-spec = tie.close (tie.spec Inv-loop μ-loop (λ c. (search needs, search needs, same-none _ _))
     (λ c κs. search needs) (λ c. search needs) (λ c κs. search needs) (λ c. search needs) (λ c. search needs)
-    (λ c. let d = c .before .before in let l = d .before .before .before .loop in (search needs, ap length (c .put-row .ensures) ∙ length-fills 16 (l .w) _ _ ∙ l .inv .1, same-next _ (l .w) (l .i) _ _ (l .inv .2) (d .next-word .ensures) (c .put-row .ensures) (omega (arith, l .inv .1))))
+    (λ c. let d = c .before .before in let l = d .before .before .before .loop in (
+      search needs,
+      ap length
+          (c .put-row .ensures) ∙ length-fills 16 (l .w) _ _ ∙ l .inv .1,
+      same-next _ (l .w) (l .i) _ _ (l .inv .2) (d .next-word .ensures)
+          (c .put-row .ensures) (omega (arith, l .inv .1)),
+    ))
     (λ c. same-all _ _ (c .before .loop .i) (c .before .loop .inv .2) (search needs) (search needs) (c .before .loop .inv .1)))

@@ -1,7 +1,6 @@
 -- `lanes::schedules` meets its contract.
 use Prim.Native.Nat.{ℕ, _-_, _≤_, _<_}
 use mathlib.Core.Path.{_≡_, refl}
-use native.Mathlib.Omega.{arith}
 use lib.ListN.{length, getD}
 use Rattle.lanes.specs.Lanes.{placeOf}
 use Rattle.lanes.specs.Private.{scheduleOf}
@@ -23,5 +22,14 @@ schedules-spec = tie.close (tie.spec Inv-loop μ-loop (λ c κs. search needs)
     (λ c. search needs) (λ c. search needs) (λ c. search needs) (λ c. search needs) (λ c. search needs) (λ c. search needs)
     (λ c. search needs) (λ c. search needs) (λ c. search needs) (λ c. search needs) (λ c. search needs) (λ c. search needs)
     (λ c κs. search needs) (λ c. search needs) (λ c. search needs) (λ c. search needs) (λ c. search needs)
-    (λ c. let l = c .before .before .loop in (search needs, search needs, search needs, stored (placeOf (scheduleOf (c .before .before .before .loaded .result))) (l .w) (l .p) _ (l .inv .3) (schedules-next (c .before .before .before .loaded .result) (l .w) (l .p) (l .inv .3) (search needs) (search needs) (c .mixed .ensures)) (search needs)))
-    (λ c. let l = c .before .loop in schedules-all (c .before .before .before .args .m) (c .before .before .loaded .result) (l .w) (l .p) (l .inv .3) (c .before .before .loaded .ensures) (search needs) (l .inv .2)))
+    (λ c. let l = c .before .before .loop in (
+      search needs,
+      search needs,
+      search needs,
+      stored (placeOf (scheduleOf
+          (c .before .before .before .loaded .result))) (l .w) (l .p) _ (l .inv .3) (schedules-next
+          (c .before .before .before .loaded .result) (l .w) (l .p) (l .inv .3) (search needs) (search needs) (c .mixed .ensures))
+          (search needs),
+    ))
+    (λ c. let l = c .before .loop in schedules-all (c .before .before .before .args .m) (c .before .before .loaded .result) (l .w)
+    (l .p) (l .inv .3) (c .before .before .loaded .ensures) (search needs) (l .inv .2)))

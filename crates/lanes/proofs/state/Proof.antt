@@ -19,5 +19,10 @@ pub state-spec : {M : Type 1} → statement M
 state-spec = tie.close (tie.spec Inv-loop μ-loop (λ c. (search needs, search needs, λ q l. absurd (omega arith)))
     (λ c. search needs) (λ c. search needs) (λ c. search needs) (λ c. search needs) (λ c. search needs) (λ c. search needs)
     (λ c. search needs) (λ c. search needs)
-    (λ c. let l = c .before .before .loop in let a = c .before .before .before .args in (search needs, search needs, stored (wordOf (a .s .now) (a .j)) (l .v) (l .i) _ (l .inv .2) refl (search needs)))
+    (λ c. let l = c .before .before .loop in let a = c .before .before .before .args in (
+      search needs,
+      search needs,
+      stored (wordOf
+          (a .s .now) (a .j)) (l .v) (l .i) _ (l .inv .2) refl (search needs),
+    ))
     (λ c. let l = c .before .loop in lane-read 8 _ _ (l .v) (l .i) (l .inv .2) (search needs) (l .inv .1)))
