@@ -5,3 +5,4 @@ pub mod Given
 pub mod Listed
 pub mod Accepted
 pub mod Steps
+pub mod Places

@@ -3,9 +3,11 @@ pub mod values;
 
 ghost use mathlib.Core.Path.{_≡_};
 ghost use mathlib.Core.Bool.{not, _&&_, _||_};
-ghost use Prim.Native.Nat.{suc, _≤_, _<_};
+ghost use Prim.Native.Nat.{suc, _-_, _≤_, _<_};
+ghost use lib.ListN.{length};
 ghost use Rattle.lists.specs.Lists.{upFrom, every};
 ghost use Rattle.layouts.specs.Layouts as layout;
+ghost use Rattle.layouts.specs.Layouts.{chains};
 ghost use Rattle.acceptance.specs.Private as rule;
 ghost use Rattle.acceptance.specs.Private.{Table, Interval, Chain, tileRule, blockRule, halvesRule, levelRule};
 ghost use Rattle.acceptance.specs.Private.{levelsRule, blocksRule};
@@ -37,60 +39,59 @@ fn alike(a: bool, b: bool) -> bool
     !b
 }
 
-// Whether black of the interval before passes, or there is none.
-fn prior(scheme: u32, n: u32, g: u32, t: &[u8]) -> bool
-    requires { ⌜ Interval scheme n g (now t) ⌝ }
+// Whether black of the interval before passes, or there is none. The values before the interval end at place p.
+fn prior(scheme: u32, n: u32, g: u32, p: u32, t: &[u8]) -> bool
+    requires { ⌜ Interval scheme n g (now t) × (p ≡ length (chains scheme n (g - n))) ⌝ }
     ensures { λ r. ⌜ r ≡ rule.prior scheme n (now (t .entry)) g ⌝ }
 {
     if g <= n {
         return true;
     }
-    values::black_passes(scheme, n, g - n, t)
+    values::mark(t, p - 1)
 }
 
+// Black of scheme 1 stands at the place behind the black before it.
 fn black_falls(n: u32, g: u32, t: &[u8]) -> bool
     requires { ⌜ Interval 1 n g (now t) ⌝ }
     ensures { λ r. ⌜ r ≡ blockRule 1 n (now (t .entry)) g ⌝ }
 {
-    let b = values::black_passes(1, n, g, t);
-    let p = prior(1, n, g, t);
+    let at = layouts::values_through(1, n, g - n);
+    let b = values::mark(t, at);
+    let p = prior(1, n, g, at, t);
     implies(b, p)
 }
 
-fn tile_rule(n: u32, g: u32, i: u32, t: &[u8]) -> bool
-    requires { ⌜ Interval 2 n g (now t) × (i ≤ layout.lg n) ⌝ }
-    ensures { λ r. ⌜ r ≡ tileRule n (now (t .entry)) g i ⌝ }
-{
-    let a = values::tile_passes(n, 0, g, t);
-    let b = values::tile_passes(n, i, g, t);
-    implies(a, b)
-}
-
-fn tile_rules(n: u32, g: u32, t: &[u8]) -> bool
-    requires { ⌜ Interval 2 n g (now t) ⌝ }
+// Where c(0), which stands at place p, passes, so do c(1) to c(lg n), which stand behind it.
+fn tile_rules(n: u32, g: u32, p: u32, t: &[u8]) -> bool
+    requires { ⌜ Interval 2 n g (now t) × (p ≡ length (chains 2 n (g - n))) ⌝ }
     ensures { λ r. ⌜ r ≡ every (tileRule n (now (t .entry)) g) (upFrom 1 (layout.lg n)) ⌝ }
 {
+    if !values::mark(t, p) {
+        return true;
+    }
     let k = layouts::lg(n);
     let mut i = 0;
     while i < k {
         i += 1;
-        if !tile_rule(n, g, i, t) {
+        if !values::mark(t, p + i) {
             return false;
         }
     }
     true
 }
 
+// The values of an interval stand one behind another: c(0) to c(lg n), then black.
 fn tile_block(n: u32, g: u32, t: &[u8]) -> bool
     requires { ⌜ Interval 2 n g (now t) ⌝ }
     ensures { λ r. ⌜ r ≡ blockRule 2 n (now (t .entry)) g ⌝ }
 {
-    let b = values::black_passes(2, n, g, t);
-    let p = prior(2, n, g, t);
-    let c = values::tile_passes(n, 0, g, t);
+    let at = layouts::values_through(2, n, g - n);
+    let b = values::mark(t, at + layouts::lg(n) + 1);
+    let p = prior(2, n, g, at, t);
+    let c = values::mark(t, at);
     let w = both(p, c);
     let a = alike(b, w);
-    let e = tile_rules(n, g, t);
+    let e = tile_rules(n, g, at, t);
     both(a, e)
 }
 
@@ -99,7 +100,7 @@ fn tree_block(n: u32, g: u32, t: &[u8]) -> bool
     ensures { λ r. ⌜ r ≡ blockRule 3 n (now (t .entry)) g ⌝ }
 {
     let b = values::black_passes(3, n, g, t);
-    let p = prior(3, n, g, t);
+    let p = prior(3, n, g, layouts::values_through(3, n, g - n), t);
     let c = values::tree_passes(n, layouts::lg(n), g, t);
     let w = both(p, c);
     alike(b, w)

@@ -8,7 +8,8 @@ ghost use Rattle.layouts.specs.Layouts as layout;
 ghost use Rattle.acceptance.specs.Private as rule;
 ghost use Rattle.acceptance.specs.Private.{Interval, Chain, passes, tileBit};
 
-fn mark(t: &[u8], p: u32) -> bool
+// The value at a place.
+pub fn mark(t: &[u8], p: u32) -> bool
     requires { ⌜ p < length (now t) ⌝ }
     ensures { λ r. ⌜ r ≡ eqb (getD (now (t .entry)) p 0) 1 ⌝ }
 {
