@@ -11,7 +11,7 @@ use Rattle.lists.proofs.Laws.{split, true-or-false, and-both, upFrom-mem, upFro
 use Rattle.layouts.specs.Layouts.{divides, lg, black, tile, tree, lastDays, offset, covers, coveredDays}
 use Rattle.layouts.proofs.{AllowedLaws.Power, Coverage.divisor-le}
 use Rattle.acceptance.specs.Private.{alike, passes, prior, tileRule, blockRule, blockAt, halvesRule, halvesAt, levelRule}
-use Rattle.acceptance.specs.Private.{levelsRule, blocksRule, rules, endOf, tileBit, bitRule, bitsRule, isListed}
+use Rattle.acceptance.specs.Private.{levelsRule, blocksRule, rules, endOf, tileBit, one, number, bitRule, bitsRule, isListed}
 use Rattle.acceptance.proofs.Runs.{some, some-append, some-of, some-none, some-same, keep-all, lastDays-bounds}
 use Rattle.acceptance.proofs.Runs.{lastDays-mem, days-bounds, bit-low, divides-multiple, div-whole}
 use Rattle.acceptance.proofs.Lookup.{Block}
@@ -130,15 +130,7 @@ covers-bit n k i x e l =
     ap (λ (y : ℕ). eqb (x % n / y % 2) 0) w ∙ ap (λ (y : ℕ). eqb (x % y / 2 ^ (k - suc i) % 2) 0) e ∙
     ap (λ (y : ℕ). eqb y 0) (bit-low x k (k - suc i) (omega arith))
 
--- a number whose bit j is 1 exactly where p j
-abbrev one : Bool → ℕ
-one b = cond b 1 0
-
-number : (ℕ → Bool) → ℕ → ℕ
-number p zero = 0
-number p (suc k) = one (p k) * 2 ^ k + number p k
-
-number-small : (p : ℕ → Bool) (k : ℕ) → number p k < 2 ^ k
+pub number-small : (p : ℕ → Bool) (k : ℕ) → number p k < 2 ^ k
 unfolding number
 number-small p zero = omega arith
 number-small p (suc k) =
@@ -146,7 +138,7 @@ number-small p (suc k) =
     let h = number-small p k in
     elim (split (p k)) [ inl b ↦ rw b (omega arith) | inr b ↦ rw b (omega arith) ]
 
-number-bit : (p : ℕ → Bool) (k j : ℕ) → j < k → number p k / 2 ^ j % 2 ≡ one (p j)
+pub number-bit : (p : ℕ → Bool) (k j : ℕ) → j < k → number p k / 2 ^ j % 2 ≡ one (p j)
 unfolding number
 number-bit p zero j l = absurd (omega arith)
 number-bit p (suc k) j l = elim (decLt j k) [
@@ -155,7 +147,7 @@ number-bit p (suc k) j l = elim (decLt j k) [
       rw (e, digits-div (one (p k)) (number-small p k)) (elim (p k) as (λ b. one b % 2 ≡ one b) [ true ↦ refl | false ↦ refl ])
 ]
 
-tile-bit : (n : ℕ) (t : List ℕ) (g i : ℕ) → i ≤ lg n → tileBit n t g (lg n - i) ≡ passes 2 n t (tile i g)
+pub tile-bit : (n : ℕ) (t : List ℕ) (g i : ℕ) → i ≤ lg n → tileBit n t g (lg n - i) ≡ passes 2 n t (tile i g)
 unfolding tileBit
 tile-bit n t g i l = let e : lg n - (lg n - i) ≡ i = omega arith in rw e
 

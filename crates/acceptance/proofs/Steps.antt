@@ -37,9 +37,6 @@ black-inside {s} {n} {g} h e =
     let b = black-position s n g g (a .0) (a .1) (h .has .some) (omega arith) (h .whole) in
     omega (arith, b .0, h .has .size)
 
-pub interval-tile : {n g i : ℕ} {t : List ℕ} → Interval 2 n g t → i ≤ lg n → (allowedN n ≡ true) × (1 ≤ g) × (g ≤ 65536) × (i ≤ 8)
-interval-tile {n} h l = let w = allowed-n-is n (h .has .n-ok) in (h .has .n-ok, h .has .some, h .has .most, omega (arith, w .small))
-
 pub tile-inside : {n g i p : ℕ} {t : List ℕ} → Interval 2 n g t → i ≤ lg n → p ≡ position 2 n (tile i g) → p < length t
 tile-inside {n} {g} {i} h l e =
     let b = position-bound 2 n g (tile i g) (tile-named n g g i (h .has .some) (omega arith) (h .whole) l) in

@@ -2,9 +2,9 @@
 -- Definitions only. A value is looked up by name.
 use mathlib.Core.Path.{_≡_}
 use mathlib.Core.Logic.{_⊎_}
-use mathlib.Core.Bool.{Bool, true, false, not, _&&_, _||_}
+use mathlib.Core.Bool.{Bool, true, false, not, _&&_, _||_, cond}
 use mathlib.Core.List.{List}
-use Prim.Native.Nat.{ℕ, zero, suc, pred, _-_, _*_, _/_, _%_, _^_, _≤_}
+use Prim.Native.Nat.{ℕ, zero, suc, pred, _+_, _-_, _*_, _/_, _%_, _^_, _≤_}
 use lib.Dec.{eqb, leb}
 use lib.ListN.{length, getD}
 use Rattle.refusals.specs.Refusals.{bookLimit}
@@ -104,6 +104,14 @@ endOf n day = suc (pred day / n) * n
 -- the tile chain whose bit has weight 2^j
 unfoldable pub tileBit : ℕ → List ℕ → ℕ → ℕ → Bool
 tileBit n t g j = passes 2 n t (tile (lg n - j) g)
+
+-- a number whose bit j is 1 exactly where p j, for j below k
+abbrev pub one : Bool → ℕ
+one b = cond b 1 0
+
+unfoldable pub number : (ℕ → Bool) → ℕ → ℕ
+number p zero = 0
+number p (suc k) = one (p k) * 2 ^ k + number p k
 
 -- no chain that passes covers a number x: bit j of x is 1 where p j
 unfoldable pub bitRule : (ℕ → Bool) → ℕ → ℕ → Bool

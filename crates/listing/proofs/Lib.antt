@@ -1,3 +1,4 @@
 pub mod Walks
 pub mod Writes
 pub mod Lists
+pub mod Tiles

@@ -5,12 +5,11 @@ use Prim.Native.Nat.{ℕ, zero, suc, _+_, _-_, _^_, _≤_, _<_}
 use native.Mathlib.{Nat.pow-succ', Omega.arith}
 use lib.{ListN.length, ListN.set, ListN.length-append, Pow.pow-pos}
 use Rattle.lists.specs.Lists.{upFrom}
-use Rattle.layouts.specs.Layouts.{lg, tree}
-use Rattle.layouts.proofs.AllowedLaws.{allowed-n-is}
+use Rattle.layouts.specs.Layouts.{tree}
 use Rattle.lists.proofs.Laws.{split, upFrom-snoc, length-upFrom}
 use Rattle.acceptance.specs.Private.{Chain, passes}
 use Rattle.buffers.proofs.Writes.{wrote-none, wrote-one, wrote-length, wrote-join}
-use Rattle.listing.specs.Private.{Tile, tileDays, treeDays}
+use Rattle.listing.specs.Private.{treeDays}
 use Rattle.buffers.specs.Private.{Wrote}
 use Rattle.acceptance.proofs.Steps.{chain-left, chain-right, chain-room}
 
@@ -109,58 +108,3 @@ pub tree-join : (n l g w at b r : ℕ) (t k s y : List ℕ) {x : Bool} → x ≡
 tree-join n l g w at b r t k s y e f z q h u v =
     let c = tree-size n t l g in
     wrote-join at (treeDays n t l g) (treeDays n t (l - 1) (g - w)) (treeDays n t (l - 1) g) k s y b r (tree-halves n l g w t e f z q) (omega arith) u v
-
--- ---- the walk of a tile
-
-tile-size : (p : ℕ → Bool) (l day : ℕ) → length (tileDays p l day) ≤ 2 ^ l
-unfolding tileDays
-tile-size p zero day = omega arith
-tile-size p (suc l) day =
-    let x = tile-size p l day in
-    let y = tile-size p l (day + 2 ^ l) in
-    let z = length-append (tileDays p l day) (tileDays p l (day + 2 ^ l)) in
-    let q = pow-succ' 2 l in
-    elim (split (p l)) [ inl e ↦ rw e (omega arith) | inr e ↦ rw e (omega arith) ]
-
-pub tile-day : (p : ℕ → Bool) (l day : ℕ) → l ≡ 0 → tileDays p l day ≡ day ∷ []
-unfolding tileDays
-tile-day p zero day z = refl
-tile-day p (suc l) day z = absurd (omega arith)
-
-pub tile-upper : (p : ℕ → Bool) (l day w : ℕ) {r : Bool} → r ≡ p (l - 1) → r ≡ true → (l ≡ 0 → ⊥) → w ≡ 2 ^ (l - 1) → tileDays p l day ≡ tileDays p (l - 1) (day + w)
-unfolding tileDays
-tile-upper p zero day w e f z q = absurd (z refl)
-tile-upper p (suc l) day w e f z q = let s : suc l - 1 ≡ l = omega arith in rw (q, s, ← (rw s at e), f)
-
-pub tile-halves : (p : ℕ → Bool) (l day w : ℕ) {r : Bool} → r ≡ p (l - 1) → r ≡ false → (l ≡ 0 → ⊥) → w ≡ 2 ^ (l - 1) → tileDays p l day ≡ tileDays p (l - 1) day ++ tileDays p (l - 1) (day + w)
-unfolding tileDays
-tile-halves p zero day w e f z q = absurd (z refl)
-tile-halves p (suc l) day w e f z q = let s : suc l - 1 ≡ l = omega arith in rw (q, s, ← (rw s at e), f)
-
-module _ {n g l day w : ℕ} {t : List ℕ} (h : Tile n g l day t) (z : l ≡ 0 → ⊥) (q : w ≡ 2 ^ (l - 1)) where
-  pub lower-tile : Tile n g (l - 1) day t
-  lower-tile = let e = pow-half l z in record { at = h .at; level = omega (arith, h .level); fits = omega (arith, h .fits) }
-
-  pub upper-tile : Tile n g (l - 1) (day + w) t
-  upper-tile = let e = pow-half l z in record { at = h .at; level = omega (arith, h .level); fits = omega (arith, h .fits) }
-
-  pub tile-sum : day + w < 2 ^ 32
-  tile-sum = let e = pow-half l z in omega (arith, h .fits, h .at .has .most)
-
-pub tile-small : {n g l day : ℕ} {t : List ℕ} → Tile n g l day t → l - 1 ≤ 16
-tile-small {n} h = let w = allowed-n-is n (h .at .has .n-ok) in omega (arith, h .level, w .small)
-
-pub tile-level : {n g l day : ℕ} {t : List ℕ} → Tile n g l day t → l - 1 ≤ lg n
-tile-level h = omega (arith, h .level)
-
-pub tile-right-place : (p : ℕ → Bool) (l day at b m : ℕ) (k s : List ℕ) → (l ≡ 0 → ⊥) → at + 2 ^ l ≤ length k → Wrote at (tileDays p (l - 1) day) k b s → m ≡ length k → b + 2 ^ (l - 1) ≤ m
-tile-right-place p l day at b m k s z h u e =
-    let c = pow-half l z in
-    let q = tile-size p (l - 1) day in
-    omega (arith, u .count)
-
-pub tile-join : (p : ℕ → Bool) (l day w at b r : ℕ) (k s y : List ℕ) {x : Bool} → x ≡ p (l - 1) → x ≡ false → (l ≡ 0 → ⊥) → w ≡ 2 ^ (l - 1) → at + 2 ^ l ≤ length k →
-    Wrote at (tileDays p (l - 1) day) k b s → Wrote b (tileDays p (l - 1) (day + w)) s r y → Wrote at (tileDays p l day) k r y
-tile-join p l day w at b r k s y e f z q h u v =
-    let c = tile-size p l day in
-    wrote-join at (tileDays p l day) (tileDays p (l - 1) day) (tileDays p (l - 1) (day + w)) k s y b r (tile-halves p l day w e f z q) (omega arith) u v

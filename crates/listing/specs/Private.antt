@@ -2,16 +2,25 @@
 -- `tile-days`, `tree-days` and `listing-isListed` lead them back to 01's listing.
 use mathlib.Core.Bool.{Bool, cond}
 use mathlib.Core.List.{List, [], _∷_, _++_}
-use Prim.Native.Nat.{ℕ, zero, suc, _+_, _-_, _*_, _/_, _%_, _^_, _≤_}
+use Prim.Native.Nat.{ℕ, zero, suc, _+_, _-_, _*_, _/_, _%_, _^_, _≤_, _<_}
 use lib.Dec.{eqb}
-use Rattle.layouts.specs.Layouts.{lg, tree}
-use Rattle.acceptance.specs.Private.{Interval, passes}
+use Rattle.refusals.specs.Refusals.{bookLimit}
+use Rattle.layouts.specs.Layouts.{tree}
+use Rattle.acceptance.specs.Private.{passes}
 
--- a tile with l bits left, from a day on
-pub record Tile (n g l day : ℕ) (t : List ℕ) : Type 0 where
-  pub at : Interval 2 n g t
-  pub level : l ≤ lg n
-  pub fits : day + 2 ^ l ≤ suc g
+-- l bits of a tile from a day on, and a number m of l bits
+pub record Tile (l day m : ℕ) : Type 0 where
+  pub level : l ≤ 8
+  pub number : m < 2 ^ l
+  pub fits : day + 2 ^ l ≤ suc bookLimit
+
+-- bit j of m is 1
+abbrev pub bitOf : ℕ → ℕ → Bool
+bitOf m j = eqb (m / 2 ^ j % 2) 1
+
+-- w days later, as a number of 32 bits
+abbrev pub later : ℕ → ℕ → ℕ
+later w day = (day + w) % 2 ^ 32
 
 -- the walk of a failed tile from a day on, l bits left: where p l passes only the upper half is gone into
 unfoldable pub tileDays : (ℕ → Bool) → ℕ → ℕ → List ℕ

@@ -2,14 +2,15 @@
 // behind the last of them.
 ghost use mathlib.Core.Path.{_≡_};
 ghost use mathlib.Core.Bool.{true};
-ghost use Prim.Native.Nat.{suc, _+_, _-_, _*_, _/_, _^_, _≤_};
-ghost use lib.ListN.{length};
+ghost use mathlib.Core.List.{map};
+ghost use Prim.Native.Nat.{suc, _+_, _-_, _*_, _/_, _^_, _≤_, _<_};
+ghost use lib.ListN.{length, take, drop};
 ghost use Rattle.lists.specs.Lists.{upFrom, keep};
 ghost use Rattle.evidence.specs.Evidence.{days};
-ghost use Rattle.layouts.specs.Layouts.{lastDays};
+ghost use Rattle.layouts.specs.Layouts.{lg, lastDays, chains};
 ghost use Rattle.acceptance.specs.Private as rule;
-ghost use Rattle.acceptance.specs.Private.{Table, Interval, Chain, levelsRule, tileBit, isListed};
-ghost use Rattle.listing.specs.Private.{Tile, tileDays, treeDays, topDays};
+ghost use Rattle.acceptance.specs.Private.{Table, Interval, Chain, levelsRule, tileBit, one, number, isListed};
+ghost use Rattle.listing.specs.Private.{Tile, bitOf, tileDays, later, treeDays, topDays};
 ghost use Rattle.buffers.specs.Private.{Wrote};
 
 // The days from first to before end.
@@ -39,24 +40,71 @@ fn black_days(n: u32, g: u32, t: &[u8], list: &mut [u32], at: usize) -> usize
     run(g - n + 1, g + 1, list, at)
 }
 
-// The 2^level days of a failed tile from a day on: where the chain over the lower half passes, only the upper half is
-// gone into.
-fn tile_walk(n: u32, g: u32, level: u32, day: u32, t: &[u8], list: &mut [u32], at: usize) -> usize
-    requires { ⌜ Tile n g level day (now t) × (at + 2 ^ level ≤ length (now list)) ⌝ }
-    ensures { λ r. ⌜ Wrote at (tileDays (tileBit n (now (t .entry)) g) level day)
+// 2 m, and 1 more where b.
+fn with_bit(m: u32, b: bool) -> u32
+    requires { ⌜ m < 65536 ⌝ }
+    ensures { λ r. ⌜ r ≡ 2 * m + one b ⌝ }
+{
+    if b {
+        return 2 * m + 1;
+    }
+    2 * m
+}
+
+// The passing chains of the tile that ends at g, whose values stand from place p on, as a number: its bit of weight
+// n / 2^i is 1 where c(i) passes.
+fn passing(n: u32, g: u32, p: u32, t: &[u8]) -> u32
+    requires { ⌜ Interval 2 n g (now t) × (p ≡ length (chains 2 n (g - n))) ⌝ }
+    ensures { λ r. ⌜ r ≡ number (tileBit n (now (t .entry)) g) (lg n) ⌝ }
+{
+    let k = layouts::lg(n);
+    let mut m = 0;
+    let mut i = 0;
+    while i < k {
+        i += 1;
+        let b = acceptance::values::mark(t, p + i);
+        m = with_bit(m, b);
+    }
+    m
+}
+
+// What stands from place at to before end once more, behind it, each number w greater.
+fn again(w: u32, at: usize, end: usize, list: &mut [u32]) -> usize
+    requires { ⌜ (at ≤ end) × (end + (end - at) ≤ length (now list)) ⌝ }
+    ensures { λ r. ⌜ Wrote end (map (later w) (take (end - at) (drop at (now (list .entry)))))
         (now (list .entry)) r (now (list .exit)) ⌝ }
 {
-    if level == 0 {
-        list[at] = day;
-        return at + 1;
+    let mut i = at;
+    let mut p = end;
+    while i < end {
+        let next = std::num::wrapping_add_u32(list[i], w);
+        list[p] = next;
+        i += 1;
+        p += 1;
     }
-    let l = level - 1;
-    let w = layouts::size(l);
-    if acceptance::values::tile_bit(n, l, g, t) {
-        return tile_walk(n, g, l, day + w, t, list, at);
+    p
+}
+
+// Of the 2^level days from a day on, those whose number from there has bits 1 where m has. The first is m on; for each
+// bit of m that is 0 what is written stands once more, its weight on.
+fn tile_walk(level: u32, day: u32, m: u32, list: &mut [u32], at: usize) -> usize
+    requires { ⌜ Tile level day m × (at + 2 ^ level ≤ length (now list)) ⌝ }
+    ensures { λ r. ⌜ Wrote at (tileDays (bitOf m) level day) (now (list .entry)) r (now (list .exit)) ⌝ }
+{
+    list[at] = day + m;
+    let mut end = at + 1;
+    let mut rest = m;
+    let mut w = 1;
+    let mut l = 0;
+    while l < level {
+        if rest % 2 == 0 {
+            end = again(w, at, end, list);
+        }
+        rest = rest / 2;
+        w = 2 * w;
+        l += 1;
     }
-    let b = tile_walk(n, g, l, day, t, list, at);
-    tile_walk(n, g, l, day + w, t, list, b)
+    end
 }
 
 // The interval that ends at g, under scheme 2.
@@ -65,10 +113,12 @@ fn tile_days(n: u32, g: u32, t: &[u8], list: &mut [u32], at: usize) -> usize
     ensures { λ r. ⌜ Wrote at (keep (isListed 2 n (now (t .entry))) (lastDays n g))
         (now (list .entry)) r (now (list .exit)) ⌝ }
 {
-    if acceptance::values::tile_passes(n, 0, g, t) {
+    let p = layouts::values_through(2, n, g - n);
+    if acceptance::values::mark(t, p) {
         return at;
     }
-    tile_walk(n, g, layouts::lg(n), g - n + 1, t, list, at)
+    let m = passing(n, g, p, t);
+    tile_walk(layouts::lg(n), g - n + 1, m, list, at)
 }
 
 fn interval_days(scheme: u32, n: u32, g: u32, t: &[u8], list: &mut [u32], at: usize) -> usize
