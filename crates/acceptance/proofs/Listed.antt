@@ -82,7 +82,7 @@ at-block P n d p f g q =
     let e : suc (pred (g / n)) * n ≡ g = block-number n d g p q in
     rw e at (f (pred (g / n)) (rw e q))
 
-rule-at : (s n d : ℕ) (t : List ℕ) → 1 ≤ n → rules s n d t ≡ true → (k : ℕ) → Block n d (suc k * n) → blockRule s n t (suc k * n) ≡ true
+pub rule-at : (s n d : ℕ) (t : List ℕ) → 1 ≤ n → rules s n d t ≡ true → (k : ℕ) → Block n d (suc k * n) → blockRule s n t (suc k * n) ≡ true
 unfolding rules blocksRule blockAt
 rule-at s n d t p r k q =
     let below : suc k ≤ d / n = le-div-iff-mul-le p .1 (q .most) in

@@ -7,30 +7,17 @@ use borrow.Author.Tests.{eq-eqb, ne-eqb}
 use Rattle.lists.specs.Lists.{upFrom, keep}
 use Rattle.evidence.specs.Evidence.{days}
 use Rattle.lists.proofs.Laws.{and-both, length-upFrom}
-use Rattle.layouts.specs.Layouts.{divides, allowedScheme, lg, black, tile, lastDays}
-use Rattle.layouts.proofs.{AllowedLaws.allowed-n-is, AllowedLaws.allowed-scheme-is}
+use Rattle.layouts.specs.Layouts.{divides, lg, tile, lastDays}
+use Rattle.layouts.proofs.AllowedLaws.{allowed-n-is}
 use Rattle.acceptance.specs.Private.{Table, Interval, Chain, passes, levelsRule, rules, blocksRule, tileBit, number, isListed}
 use Rattle.listing.specs.Private.{Tile, bitOf, tileDays, treeDays, topDays}
 use Rattle.buffers.specs.Private.{Wrote}
 use Rattle.acceptance.proofs.{Listed.number-small, Places.room, Runs.keep-length, Runs.div-whole, Steps.interval-number, Steps.interval-end, Steps.chain-of}
 use Rattle.listing.proofs.Tiles.{tile-congr, number-bits}
-use Rattle.listing.proofs.Walks.{run-none, run-all, tile-none, tile-days, tree-days, days-block}
+use Rattle.listing.proofs.Walks.{tile-none, tile-days, tree-days, days-block}
 use Rattle.buffers.proofs.Writes.{wrote-none, wrote-length, wrote-join}
 
 -- ---- an interval
-
-pub black-none : (n g : ℕ) (t : List ℕ) {r : Bool} → Interval 1 n g t → r ≡ passes 1 n t (black g) → r ≡ true → keep (isListed 1 n t) (lastDays n g) ≡ []
-black-none n g t h e f =
-    let q = interval-number h in
-    rw q at (run-none n (pred (g / n)) t (rw q (sym e ∙ f)))
-
-pub black-all : (n g : ℕ) (t : List ℕ) {r : Bool} → Interval 1 n g t → r ≡ passes 1 n t (black g) → r ≡ false → keep (isListed 1 n t) (lastDays n g) ≡ upFrom (g - n + 1) (g + 1 - (g - n + 1))
-black-all n g t h e f =
-    let q = interval-number h in
-    let l = room h in
-    let b : g - n + 1 ≡ suc (g - n) = omega arith in
-    let c : g + 1 - suc (g - n) ≡ n = omega arith in
-    rw (b, c) (rw q at (run-all n (pred (g / n)) t (rw q (sym e ∙ f))))
 
 pub tile-whole : (n g : ℕ) (t : List ℕ) {r : Bool} → Interval 2 n g t → r ≡ passes 2 n t (tile 0 g) → r ≡ true → keep (isListed 2 n t) (lastDays n g) ≡ []
 tile-whole n g t h e f =
@@ -52,12 +39,6 @@ module _ (n g : ℕ) (t : List ℕ) {k m : ℕ} (h : Interval 2 n g t) (z : k �
       let p : 2 ^ k ≡ n = rw z (sym (w .power)) in
       let s : m < 2 ^ k = rw (u, z) (number-small (tileBit n t g) (lg n)) in
       (record { level = omega (arith, w .small); number = s; fits = omega (arith, h .has .most) }, omega arith)
-
-pub scheme-is-2 : (s : ℕ) → allowedScheme s ≡ true → s ≤ 2 → (s ≡ 1 → ⊥) → s ≡ 2
-scheme-is-2 s a l f = let b = allowed-scheme-is s a in omega arith
-
-pub below-third : (s : ℕ) → allowedScheme s ≡ true → (s ≡ 3 → ⊥) → s ≤ 2
-below-third s a f = let b = allowed-scheme-is s a in omega arith
 
 -- ---- the intervals in turn
 

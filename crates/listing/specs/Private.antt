@@ -1,12 +1,24 @@
 -- What the walks list, and what is written of it. Definitions only; private contracts cite them, and the laws
 -- `tile-days`, `tree-days` and `listing-isListed` lead them back to 01's listing.
-use mathlib.Core.Bool.{Bool, cond}
+use mathlib.Core.Path.{_≡_}
+use mathlib.Core.Bool.{Bool, true, false, cond}
 use mathlib.Core.List.{List, [], _∷_, _++_}
 use Prim.Native.Nat.{ℕ, zero, suc, _+_, _-_, _*_, _/_, _%_, _^_, _≤_, _<_}
 use lib.Dec.{eqb}
 use Rattle.refusals.specs.Refusals.{bookLimit}
-use Rattle.layouts.specs.Layouts.{tree}
+use Rattle.lists.specs.Lists.{upFrom, every}
+use Rattle.layouts.specs.Layouts.{black, tree}
 use Rattle.acceptance.specs.Private.{passes}
+
+-- black of interval k passes
+unfoldable pub blackPasses : ℕ → List ℕ → ℕ → Bool
+blackPasses n t k = passes 1 n t (black (k * n))
+
+-- black passes in the first r intervals, and not in the next, if there is one (scheme 1)
+pub record FirstFailed (n d : ℕ) (t : List ℕ) (r : ℕ) : Type 0 where
+  pub few : r ≤ d / n
+  pub pass : every (blackPasses n t) (upFrom 1 r) ≡ true
+  pub fails : r < d / n → blackPasses n t (r + 1) ≡ false
 
 -- l bits of a tile from a day on, and a number m of l bits
 pub record Tile (l day m : ℕ) : Type 0 where

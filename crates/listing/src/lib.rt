@@ -10,7 +10,7 @@ ghost use Rattle.evidence.specs.Evidence.{days};
 ghost use Rattle.layouts.specs.Layouts.{lg, lastDays, chains};
 ghost use Rattle.acceptance.specs.Private as rule;
 ghost use Rattle.acceptance.specs.Private.{Table, Interval, Chain, levelsRule, tileBit, one, number, isListed};
-ghost use Rattle.listing.specs.Private.{Tile, bitOf, tileDays, later, treeDays, topDays};
+ghost use Rattle.listing.specs.Private.{FirstFailed, Tile, bitOf, tileDays, later, treeDays, topDays};
 ghost use Rattle.buffers.specs.Private.{Wrote};
 
 // The days from first to before end.
@@ -28,16 +28,30 @@ fn run(first: u32, end: u32, list: &mut [u32], at: usize) -> usize
     p
 }
 
-// The interval that ends at g, under scheme 1: all its days, if black fails.
-fn black_days(n: u32, g: u32, t: &[u8], list: &mut [u32], at: usize) -> usize
-    requires { ⌜ Interval 1 n g (now t) × (at + n ≤ length (now list)) ⌝ }
-    ensures { λ r. ⌜ Wrote at (keep (isListed 1 n (now (t .entry))) (lastDays n g))
+// How many intervals come before the first whose black fails, under scheme 1.
+fn passing_blacks(n: u32, d: u32, t: &[u8]) -> u32
+    requires { ⌜ Table 1 n d (now t) ⌝ }
+    ensures { λ r. ⌜ FirstFailed n d (now (t .entry)) r ⌝ }
+{
+    let m = d / n;
+    let mut k = 0;
+    while k < m {
+        if !acceptance::values::black_passes(1, n, (k + 1) * n, t) {
+            return k;
+        }
+        k += 1;
+    }
+    k
+}
+
+// Scheme 1: no black passes after one that fails, so all days from there on.
+fn black_days(n: u32, d: u32, t: &[u8], list: &mut [u32]) -> usize
+    requires { ⌜ Table 1 n d (now t) × (d ≤ length (now list)) × (rule.rules 1 n d (now t) ≡ true) ⌝ }
+    ensures { λ r. ⌜ Wrote 0 (keep (isListed 1 n (now (t .entry))) (days d))
         (now (list .entry)) r (now (list .exit)) ⌝ }
 {
-    if acceptance::values::black_passes(1, n, g, t) {
-        return at;
-    }
-    run(g - n + 1, g + 1, list, at)
+    let k = passing_blacks(n, d, t);
+    run(k * n + 1, d + 1, list, 0)
 }
 
 // 2 m, and 1 more where b.
@@ -121,28 +135,18 @@ fn tile_days(n: u32, g: u32, t: &[u8], list: &mut [u32], at: usize) -> usize
     tile_walk(layouts::lg(n), g - n + 1, m, list, at)
 }
 
-fn interval_days(scheme: u32, n: u32, g: u32, t: &[u8], list: &mut [u32], at: usize) -> usize
-    requires { ⌜ Interval scheme n g (now t) × (at + n ≤ length (now list)) × (scheme ≤ 2) ⌝ }
-    ensures { λ r. ⌜ Wrote at (keep (isListed scheme n (now (t .entry))) (lastDays n g))
+// The intervals in turn.
+fn tiles_walk(n: u32, d: u32, t: &[u8], list: &mut [u32]) -> usize
+    requires { ⌜ Table 2 n d (now t) × (d ≤ length (now list)) ⌝ }
+    ensures { λ r. ⌜ Wrote 0 (keep (isListed 2 n (now (t .entry))) (days d))
         (now (list .entry)) r (now (list .exit)) ⌝ }
 {
-    if scheme == 1 {
-        return black_days(n, g, t, list, at);
-    }
-    tile_days(n, g, t, list, at)
-}
-
-fn interval_walk(scheme: u32, n: u32, d: u32, t: &[u8], list: &mut [u32]) -> usize
-    requires { ⌜ Table scheme n d (now t) × (d ≤ length (now list)) × (scheme ≤ 2) ⌝ }
-    ensures { λ r. ⌜ Wrote 0 (keep (isListed scheme n (now (t .entry))) (days d))
-        (now (list .entry)) r (now (list .exit)) ⌝ }
-{
-    let m = d / n;
+    let tiles = d / n;
     let mut k = 0;
     let mut at = 0;
-    while k < m {
+    while k < tiles {
         k += 1;
-        at = interval_days(scheme, n, k * n, t, list, at);
+        at = tile_days(n, k * n, t, list, at);
     }
     at
 }
@@ -200,8 +204,11 @@ pub fn listed(scheme: u32, n: u32, d: u32, t: &[u8], list: &mut [u32]) -> usize
     ensures { λ r. ⌜ Wrote 0 (keep (isListed scheme n (now (t .entry))) (days d))
         (now (list .entry)) r (now (list .exit)) ⌝ }
 {
-    if scheme == 3 {
-        return tree_walk(n, d, t, list);
+    if scheme == 1 {
+        return black_days(n, d, t, list);
     }
-    interval_walk(scheme, n, d, t, list)
+    if scheme == 2 {
+        return tiles_walk(n, d, t, list);
+    }
+    tree_walk(n, d, t, list)
 }
