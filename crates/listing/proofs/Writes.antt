@@ -6,6 +6,7 @@ use native.Mathlib.{Nat.pow-succ', Omega.arith}
 use lib.{ListN.length, ListN.set, ListN.length-append, Pow.pow-pos}
 use Rattle.lists.specs.Lists.{upFrom}
 use Rattle.layouts.specs.Layouts.{tree}
+use Rattle.layouts.specs.Private.{position}
 use Rattle.lists.proofs.Laws.{split, upFrom-snoc, length-upFrom}
 use Rattle.acceptance.specs.Private.{Chain, passes}
 use Rattle.buffers.proofs.Writes.{wrote-none, wrote-one, wrote-length, wrote-join}
@@ -94,6 +95,10 @@ module _ {n l g w : ℕ} {t : List ℕ} (h : Chain n l g t) (z : l ≡ 0 → ⊥
   pub right-chain : Chain n (l - 1) g t
   right-chain = chain-right lower
 
+-- the right half stands one place before
+pub right-place : {n l g p : ℕ} {t : List ℕ} → Chain n l g t → p ≡ position 3 n (tree l g) → (l ≡ 0 → ⊥) → (1 ≤ p) × (p - 1 ≡ position 3 n (tree (l - 1) g))
+right-place h e z = omega arith
+
 pub left-place : (l at n : ℕ) → (l ≡ 0 → ⊥) → at + 2 ^ l ≤ n → at + 2 ^ (l - 1) ≤ n
 left-place l at n z h = let e = pow-half l z in omega arith
 
@@ -108,3 +113,23 @@ pub tree-join : (n l g w at b r : ℕ) (t k s y : List ℕ) {x : Bool} → x ≡
 tree-join n l g w at b r t k s y e f z q h u v =
     let c = tree-size n t l g in
     wrote-join at (treeDays n t l g) (treeDays n t (l - 1) (g - w)) (treeDays n t (l - 1) g) k s y b r (tree-halves n l g w t e f z q) (omega arith) u v
+
+-- a chain of two days
+pub pair-chain : {n l g : ℕ} {t : List ℕ} → Chain n l g t → l ≡ 0 → Chain n 0 g t
+pair-chain h o = rw o at h
+
+pub pair-place : {n l g p : ℕ} {t : List ℕ} → Chain n l g t → p ≡ position 3 n (tree l g) → l ≡ 0 → p ≡ position 3 n (tree 0 g)
+pair-place h e o = rw o at e
+
+pub pair-join : (n l g w at b r : ℕ) (t k s y : List ℕ) {x : Bool} → x ≡ passes 3 n t (tree l g) → x ≡ false → (l ≡ 0 → ⊥) → w ≡ 2 ^ (l - 1) → at + 2 ^ l ≤ length k → l - 1 ≡ 0 →
+    Wrote at (treeDays n t 0 (g - w)) k b s → Wrote b (treeDays n t 0 g) s r y → Wrote at (treeDays n t l g) k r y
+pair-join n l g w at b r t k s y e f z q h o u v = tree-join n l g w at b r t k s y e f z q h (rw o u) (rw o v)
+
+-- place for the second day
+pub pair-room : (n l g at b m : ℕ) (t k s : List ℕ) → (l ≡ 0 → ⊥) → at + 2 ^ l ≤ length k → l - 1 ≡ 0 → Wrote at (treeDays n t 0 g) k b s → m ≡ length k → b < m
+pair-room n l g at b m t k s z h o u e =
+    place-one b (l - 1) m (tree-right-place n l g at b m t k s z h (rw o u) e)
+
+-- the chain of level 0
+pub tree-0 : (n l g at r : ℕ) (t k y : List ℕ) → l ≡ 0 → Wrote at (treeDays n t 0 g) k r y → Wrote at (treeDays n t l g) k r y
+tree-0 n l g at r t k y o u = rw o u

@@ -7,7 +7,8 @@ ghost use Prim.Native.Nat.{suc, _+_, _-_, _*_, _/_, _^_, _≤_, _<_};
 ghost use lib.ListN.{length, take, drop};
 ghost use Rattle.lists.specs.Lists.{upFrom, keep};
 ghost use Rattle.evidence.specs.Evidence.{days};
-ghost use Rattle.layouts.specs.Layouts.{lg, lastDays, chains};
+ghost use Rattle.layouts.specs.Layouts.{lg, tree, lastDays, chains};
+ghost use Rattle.layouts.specs.Private.{position};
 ghost use Rattle.acceptance.specs.Private as rule;
 ghost use Rattle.acceptance.specs.Private.{Table, Interval, Chain, levelsRule, tileBit, one, number, isListed};
 ghost use Rattle.listing.specs.Private.{FirstFailed, Tile, bitOf, tileDays, later, treeDays, topDays};
@@ -151,22 +152,41 @@ fn tiles_walk(n: u32, d: u32, t: &[u8], list: &mut [u32]) -> usize
     at
 }
 
-// The tree's chain of a level that ends at g: nothing if it passes; its day; else its left half, then its right.
-fn walk(n: u32, level: u32, g: u32, t: &[u8], list: &mut [u32], at: usize) -> usize
-    requires { ⌜ Chain n level g (now t) × (at + 2 ^ level ≤ length (now list)) ⌝ }
-    ensures { λ r. ⌜ Wrote at (treeDays n (now (t .entry)) level g) (now (list .entry)) r (now (list .exit)) ⌝ }
+// A day whose own chain, at place p, fails.
+fn day(n: u32, g: u32, p: u32, t: &[u8], list: &mut [u32], at: usize) -> usize
+    requires { ⌜ Chain n 0 g (now t) × (p ≡ position 3 n (tree 0 g)) × (at < length (now list)) ⌝ }
+    ensures { λ r. ⌜ Wrote at (treeDays n (now (t .entry)) 0 g) (now (list .entry)) r (now (list .exit)) ⌝ }
 {
-    if acceptance::values::tree_passes(n, level, g, t) {
+    if acceptance::values::mark(t, p) {
         return at;
     }
+    list[at] = g;
+    at + 1
+}
+
+// The tree's chain of a level that ends at g, at place p: nothing if it passes; its day; else its left half, then its
+// right, which stands one place before it.
+fn walk(n: u32, level: u32, g: u32, p: u32, t: &[u8], list: &mut [u32], at: usize) -> usize
+    requires { ⌜ Chain n level g (now t) × (p ≡ position 3 n (tree level g)) × (at + 2 ^ level ≤ length (now list)) ⌝ }
+    ensures { λ r. ⌜ Wrote at (treeDays n (now (t .entry)) level g) (now (list .entry)) r (now (list .exit)) ⌝ }
+{
     if level == 0 {
-        list[at] = g;
-        return at + 1;
+        return day(n, g, p, t, list, at);
+    }
+    if acceptance::values::mark(t, p) {
+        return at;
     }
     let l = level - 1;
     let w = layouts::size(l);
-    let b = walk(n, l, g - w, t, list, at);
-    walk(n, l, g, t, list, b)
+    let h = g - w;
+    let left = layouts::tree_at(n, l, h);
+    let right = p - 1;
+    if l == 0 {
+        let b = day(n, h, left, t, list, at);
+        return day(n, g, right, t, list, b);
+    }
+    let b = walk(n, l, h, left, t, list, at);
+    walk(n, l, g, right, t, list, b)
 }
 
 // Of the maximal chains that make up the days 1 to d, the one of a level, if there is one.
@@ -180,7 +200,8 @@ fn top_days(n: u32, d: u32, level: u32, t: &[u8], list: &mut [u32], at: usize) -
     if k % 2 == 0 {
         return at;
     }
-    walk(n, level, k * w, t, list, at)
+    let g = k * w;
+    walk(n, level, g, layouts::tree_at(n, level, g), t, list, at)
 }
 
 // The maximal chains from left to right.
