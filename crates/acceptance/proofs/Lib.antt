@@ -6,3 +6,4 @@ pub mod Listed
 pub mod Accepted
 pub mod Steps
 pub mod Places
+pub mod Since

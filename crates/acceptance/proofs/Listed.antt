@@ -17,11 +17,11 @@ use Rattle.acceptance.proofs.Runs.{lastDays-mem, days-bounds, bit-low, 
 use Rattle.acceptance.proofs.Lookup.{Block}
 use Rattle.acceptance.proofs.Given.{block-split, half-point, half-split, prior-first, prior-next}
 
-neither : (a b : Bool) → not a && not b ≡ not (a || b)
+pub neither : (a b : Bool) → not a && not b ≡ not (a || b)
 neither true b = refl
 neither false b = refl
 
-alike-eq : (a b : Bool) → alike a b ≡ true → a ≡ b
+pub alike-eq : (a b : Bool) → alike a b ≡ true → a ≡ b
 alike-eq true b e = sym e
 alike-eq false true e = absurd (true-or-false e refl)
 alike-eq false false e = refl
@@ -243,7 +243,7 @@ pub isListed-3 : (n : ℕ) (t : List ℕ) (day : ℕ) → isListed 3 n t day ≡
 unfolding isListed
 isListed-3 n t day = refl
 
-small-level : (l d m : ℕ) → 1 ≤ m → m * 2 ^ suc l ≤ d → d ≤ 65536 → l < 16
+pub small-level : (l d m : ℕ) → 1 ≤ m → m * 2 ^ suc l ≤ d → d ≤ 65536 → l < 16
 small-level l d m p h b = elim (decLt l 16) [
   | yes u ↦ u
   | no u ↦ let c = pow-lt {i = 16} {j = suc l} (omega arith) in let v = mul-le-mul-right (2 ^ suc l) p in absurd (omega arith)

@@ -7,10 +7,11 @@ ghost use Prim.Native.Nat.{suc, _-_, _≤_, _<_};
 ghost use lib.ListN.{length};
 ghost use Rattle.lists.specs.Lists.{upFrom, every};
 ghost use Rattle.layouts.specs.Layouts as layout;
-ghost use Rattle.layouts.specs.Layouts.{chains};
+ghost use Rattle.layouts.specs.Layouts.{tree, chains};
+ghost use Rattle.layouts.specs.Private.{position};
 ghost use Rattle.acceptance.specs.Private as rule;
-ghost use Rattle.acceptance.specs.Private.{Table, Interval, Chain, tileRule, blockRule, halvesRule, levelRule};
-ghost use Rattle.acceptance.specs.Private.{levelsRule, blocksRule};
+ghost use Rattle.acceptance.specs.Private.{Table, Has, Interval, tileRule, blockRule};
+ghost use Rattle.acceptance.specs.Private.{LastFailed, DayRules, levelsRule, blocksRule};
 
 fn implies(a: bool, b: bool) -> bool
     ensures { λ r. ⌜ r ≡ not a || b ⌝ }
@@ -134,44 +135,54 @@ fn block_rules(scheme: u32, n: u32, d: u32, t: &[u8]) -> bool
     true
 }
 
-// Whether the tree's chain of level l + 1 that ends at g is its two halves.
-fn halves_rule(n: u32, l: u32, g: u32, t: &[u8]) -> bool
-    requires { ⌜ Chain n (suc l) g (now t) ⌝ }
-    ensures { λ r. ⌜ r ≡ halvesRule n (now (t .entry)) l g ⌝ }
+// The last day of the days 1 to g whose own chain fails, or 0: s is that of the days before g. Its own chain of the
+// tree stands at place p.
+fn last_failed(n: u32, g: u32, p: u32, s: u32, t: &[u8]) -> u32
+    requires { ⌜ Has 3 n g (now t) × (p ≡ position 3 n (tree 0 g)) × LastFailed n (now t) (g - 1) s ⌝ }
+    ensures { λ r. ⌜ LastFailed n (now (t .entry)) g r ⌝ }
 {
-    let a = values::tree_passes(n, l + 1, g, t);
-    let b = values::tree_passes(n, l, g - layouts::size(l), t);
-    let c = values::tree_passes(n, l, g, t);
-    let w = both(b, c);
-    alike(a, w)
+    if values::mark(t, p) {
+        return s;
+    }
+    g
 }
 
-fn level_rule(n: u32, d: u32, l: u32, t: &[u8]) -> bool
-    requires { ⌜ Table 3 n d (now t) × (l < 16) ⌝ }
-    ensures { λ r. ⌜ r ≡ levelRule n d (now (t .entry)) l ⌝ }
+// The tree's chains of level 1 and up that end at g, which stand behind its own: each passes exactly if the last failed
+// day comes before it.
+fn day_rules(n: u32, g: u32, p: u32, s: u32, t: &[u8]) -> bool
+    requires { ⌜ Has 3 n g (now t) × (p ≡ position 3 n (tree 0 g)) × (s ≤ g) ⌝ }
+    ensures { λ r. ⌜ DayRules n (now (t .entry)) g s r ⌝ }
 {
-    let w = layouts::size(l + 1);
-    let m = d / w;
-    let mut k = 0;
-    while k < m {
-        k += 1;
-        if !halves_rule(n, l, k * w, t) {
+    let mut l = 0;
+    let mut w = 2;
+    let mut x = g;
+    while x % 2 == 0 {
+        l += 1;
+        let a = values::mark(t, p + l);
+        let b = w + s <= g;
+        if !alike(a, b) {
             return false;
         }
+        w = 2 * w;
+        x = x / 2;
     }
     true
 }
 
+// Whether each chain of the tree is its two halves, day by day.
 fn level_rules(n: u32, d: u32, t: &[u8]) -> bool
     requires { ⌜ Table 3 n d (now t) ⌝ }
     ensures { λ r. ⌜ r ≡ levelsRule n d (now (t .entry)) ⌝ }
 {
-    let mut l = 0;
-    while l < 16 {
-        if !level_rule(n, d, l, t) {
+    let mut g = 0;
+    let mut s = 0;
+    while g < d {
+        g += 1;
+        let p = layouts::tree_at(n, 0, g);
+        s = last_failed(n, g, p, s, t);
+        if !day_rules(n, g, p, s, t) {
             return false;
         }
-        l += 1;
     }
     true
 }
