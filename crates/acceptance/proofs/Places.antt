@@ -53,27 +53,30 @@ black-place {n} {g} {p} h e =
     sym z ∙ black-end h q
 
 -- the tile's chains, and black behind them
-module _ {n g p : ℕ} {t : List ℕ} (h : Interval 2 n g t) (e : p ≡ length (chains 2 n (g - n))) where
+module _ {n g p : ℕ} {t : List ℕ} (h : Interval 2 n g t) (f : p ≡ position 2 n (tile 0 g)) where
   counted : (x : ℕ) → length (chains 2 n x) ≡ x / n * (2 + lg n)
   counted x = chains-through 2 n x refl (h .has .n-ok)
 
-  pub tile-place : (i : ℕ) → p + i ≡ position 2 n (tile i g)
-  tile-place i = place 2 n g i (e ∙ counted (g - n) ∙ rw (before h, ← (before-last h)) (sym (counted (g - 1))))
+  pub tile-before : p ≡ length (chains 2 n (g - n))
+  tile-before =
+      let q = place 2 n g 0 {p = length (chains 2 n (g - 1))} refl in
+      let e : p ≡ length (chains 2 n (g - 1)) = omega arith in
+      e ∙ counted (g - 1) ∙ rw (before-last h, ← (before h)) (sym (counted (g - n)))
 
-  pub tile-first : p ≡ position 2 n (tile 0 g)
-  tile-first = let z : p ≡ p + 0 = omega arith in z ∙ tile-place 0
+  pub tile-place : (i : ℕ) → p + i ≡ position 2 n (tile i g)
+  tile-place i = omega arith
 
   pub tile-black : {k : ℕ} → k ≡ lg n → p + k + 1 ≡ position 2 n (black g)
-  tile-black {k} f =
+  tile-black {k} w =
       let a : length (chains 2 n (g - n)) ≡ j h * (2 + lg n) = counted (g - n) ∙ rw (before h) in
       let b : length (chains 2 n g) ≡ suc (j h) * (2 + lg n) = counted g ∙ rw (through-last h) in
       let c = suc-mul (j h) (2 + lg n) in
-      let q : p + k + 2 ≡ length (chains 2 n g) = omega arith in
+      let q : p + k + 2 ≡ length (chains 2 n g) = omega (arith, tile-before) in
       let z : p + k + 2 - 1 ≡ p + k + 1 = omega arith in
       sym z ∙ black-end h q
 
   pub tile-fits : (i : ℕ) → i ≤ lg n → p + i + 1 < 2 ^ 32
-  tile-fits i l = let w = allowed-n-is n (h .has .n-ok) in omega (arith, before-few h e, w .small)
+  tile-fits i l = let w = allowed-n-is n (h .has .n-ok) in omega (arith, before-few h tile-before, w .small)
 
 -- the black before
 pub prior-place : {s n g p : ℕ} {t : List ℕ} → Interval s n g t → p ≡ length (chains s n (g - n)) → n < g → (1 ≤ p) × (p - 1 ≡ position s n (black (g - n)))

@@ -37,6 +37,9 @@ black-inside {s} {n} {g} h e =
     let b = black-position s n g g (a .0) (a .1) (h .has .some) (omega arith) (h .whole) in
     omega (arith, b .0, h .has .size)
 
+pub interval-tile : {n g : ℕ} {t : List ℕ} → Interval 2 n g t → (allowedN n ≡ true) × (1 ≤ g) × (g ≤ 65536) × (0 ≤ 8)
+interval-tile h = (h .has .n-ok, h .has .some, h .has .most, omega arith)
+
 pub tile-inside : {n g i p : ℕ} {t : List ℕ} → Interval 2 n g t → i ≤ lg n → p ≡ position 2 n (tile i g) → p < length t
 tile-inside {n} {g} {i} h l e =
     let b = position-bound 2 n g (tile i g) (tile-named n g g i (h .has .some) (omega arith) (h .whole) l) in

@@ -7,7 +7,7 @@ ghost use Prim.Native.Nat.{suc, _-_, _≤_, _<_};
 ghost use lib.ListN.{length};
 ghost use Rattle.lists.specs.Lists.{upFrom, every};
 ghost use Rattle.layouts.specs.Layouts as layout;
-ghost use Rattle.layouts.specs.Layouts.{tree, chains};
+ghost use Rattle.layouts.specs.Layouts.{tile, tree, chains};
 ghost use Rattle.layouts.specs.Private.{position};
 ghost use Rattle.acceptance.specs.Private as rule;
 ghost use Rattle.acceptance.specs.Private.{Table, Has, Interval, tileRule, blockRule};
@@ -64,7 +64,7 @@ fn black_falls(n: u32, g: u32, t: &[u8]) -> bool
 
 // Where c(0), which stands at place p, passes, so do c(1) to c(lg n), which stand behind it.
 fn tile_rules(n: u32, g: u32, p: u32, t: &[u8]) -> bool
-    requires { ⌜ Interval 2 n g (now t) × (p ≡ length (chains 2 n (g - n))) ⌝ }
+    requires { ⌜ Interval 2 n g (now t) × (p ≡ position 2 n (tile 0 g)) ⌝ }
     ensures { λ r. ⌜ r ≡ every (tileRule n (now (t .entry)) g) (upFrom 1 (layout.lg n)) ⌝ }
 {
     if !values::mark(t, p) {
@@ -86,7 +86,7 @@ fn tile_block(n: u32, g: u32, t: &[u8]) -> bool
     requires { ⌜ Interval 2 n g (now t) ⌝ }
     ensures { λ r. ⌜ r ≡ blockRule 2 n (now (t .entry)) g ⌝ }
 {
-    let at = layouts::values_through(2, n, g - n);
+    let at = layouts::tile_at(n, 0, g);
     let b = values::mark(t, at + layouts::lg(n) + 1);
     let p = prior(2, n, g, at, t);
     let c = values::mark(t, at);

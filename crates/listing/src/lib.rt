@@ -7,7 +7,7 @@ ghost use Prim.Native.Nat.{suc, _+_, _-_, _*_, _/_, _^_, _≤_, _<_};
 ghost use lib.ListN.{length, take, drop};
 ghost use Rattle.lists.specs.Lists.{upFrom, keep};
 ghost use Rattle.evidence.specs.Evidence.{days};
-ghost use Rattle.layouts.specs.Layouts.{lg, tree, lastDays, chains};
+ghost use Rattle.layouts.specs.Layouts.{lg, tile, tree, lastDays};
 ghost use Rattle.layouts.specs.Private.{position};
 ghost use Rattle.acceptance.specs.Private as rule;
 ghost use Rattle.acceptance.specs.Private.{Table, Interval, Chain, levelsRule, tileBit, one, number, isListed};
@@ -69,7 +69,7 @@ fn with_bit(m: u32, b: bool) -> u32
 // The passing chains of the tile that ends at g, whose values stand from place p on, as a number: its bit of weight
 // n / 2^i is 1 where c(i) passes.
 fn passing(n: u32, g: u32, p: u32, t: &[u8]) -> u32
-    requires { ⌜ Interval 2 n g (now t) × (p ≡ length (chains 2 n (g - n))) ⌝ }
+    requires { ⌜ Interval 2 n g (now t) × (p ≡ position 2 n (tile 0 g)) ⌝ }
     ensures { λ r. ⌜ r ≡ number (tileBit n (now (t .entry)) g) (lg n) ⌝ }
 {
     let k = layouts::lg(n);
@@ -128,7 +128,7 @@ fn tile_days(n: u32, g: u32, t: &[u8], list: &mut [u32], at: usize) -> usize
     ensures { λ r. ⌜ Wrote at (keep (isListed 2 n (now (t .entry))) (lastDays n g))
         (now (list .entry)) r (now (list .exit)) ⌝ }
 {
-    let p = layouts::values_through(2, n, g - n);
+    let p = layouts::tile_at(n, 0, g);
     if acceptance::values::mark(t, p) {
         return at;
     }

@@ -1,6 +1,6 @@
 -- `acceptance::tile_rules` meets its contract.
 use Rattle.acceptance.proofs.{Steps.every-next, Steps.every-stop, Steps.every-done, Steps.tile-inside, Steps.passes-by}
-use Rattle.acceptance.proofs.{Places.tile-first, Places.tile-place, Places.tile-fits, Places.tile-free, Places.tile-own, tile_rules.Statement.statement}
+use Rattle.acceptance.proofs.{Places.tile-place, Places.tile-fits, Places.tile-free, Places.tile-own, tile_rules.Statement.statement}
 use Rattle.lists.specs.Lists.{every, upFrom}
 use Rattle.acceptance.specs.Private.{passes, tileRule}
 use Rattle.layouts.proofs.AllowedLaws.{allowed-n-is}
@@ -22,15 +22,15 @@ turn : (c : tie.After-mark2 Inv-loop μ-loop) → let a = c .before .before .bef
 turn c = let b = c .before .before .before in
     let pre = b .before .before .before .before .pre in
     let a = b .before .before .before .before .args in
-    tile-own (a .n) (a .g) (a .t .now) (passes-by 2 _ _ _ (tile-first (pre .0) (pre .1)) (b .before .before .mark .ensures)) _ (b .before .if1 .left)
+    tile-own (a .n) (a .g) (a .t .now) (passes-by 2 _ _ _ (pre .1) (b .before .before .mark .ensures)) _ (b .before .if1 .left)
     (passes-by 2 _ _ _ (tile-place (pre .0) (pre .1) (c .before .before .loop .i + 1)) (c .mark2 .ensures))
 
 pub tile-rules-spec : {M : Type 1} → statement M
 tile-rules-spec = tie.close (tie.spec
-    Inv-loop μ-loop (λ c κs. let pre = c .before .pre in tile-inside (pre .0) (omega arith) (tile-first (pre .0) (pre .1)))
+    Inv-loop μ-loop (λ c κs. let pre = c .before .pre in tile-inside (pre .0) (omega arith) (pre .1))
     (λ c. let pre = c .before .before .before .pre in
     let a = c .before .before .before .args in
-    tile-free (a .n) (a .g) (a .t .now) (passes-by 2 _ _ _ (tile-first (pre .0) (pre .1)) (c .before .mark .ensures)) (lg (a .n)) (c .if1 .taken))
+    tile-free (a .n) (a .g) (a .t .now) (passes-by 2 _ _ _ (pre .1) (c .before .mark .ensures)) (lg (a .n)) (c .if1 .taken))
     (λ c κs. allowed-n-is _ (c .before .before .before .pre .0 .has .n-ok) .some) (λ c. (omega arith, refl)) (λ c. omega arith)
     (λ c. let b = c .before .before in let pre = b .before .before .before .before .pre in
     record { fits = omega (arith, tile-fits (pre .0) (pre .1) (c .before .loop .i) (omega (arith, b .lg .ensures))) })
