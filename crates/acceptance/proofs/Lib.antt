@@ -5,3 +5,5 @@ pub mod Given
 pub mod Listed
 pub mod Accepted
 pub mod Steps
+pub mod Places
+pub mod Since

@@ -11,17 +11,17 @@ use Rattle.lists.proofs.Laws.{split, true-or-false, and-both, upFrom-mem, upFro
 use Rattle.layouts.specs.Layouts.{divides, lg, black, tile, tree, lastDays, offset, covers, coveredDays}
 use Rattle.layouts.proofs.{AllowedLaws.Power, Coverage.divisor-le}
 use Rattle.acceptance.specs.Private.{alike, passes, prior, tileRule, blockRule, blockAt, halvesRule, halvesAt, levelRule}
-use Rattle.acceptance.specs.Private.{levelsRule, blocksRule, rules, endOf, tileBit, bitRule, bitsRule, isListed}
+use Rattle.acceptance.specs.Private.{levelsRule, blocksRule, rules, endOf, tileBit, one, number, bitRule, bitsRule, isListed}
 use Rattle.acceptance.proofs.Runs.{some, some-append, some-of, some-none, some-same, keep-all, lastDays-bounds}
 use Rattle.acceptance.proofs.Runs.{lastDays-mem, days-bounds, bit-low, divides-multiple, div-whole}
 use Rattle.acceptance.proofs.Lookup.{Block}
 use Rattle.acceptance.proofs.Given.{block-split, half-point, half-split, prior-first, prior-next}
 
-neither : (a b : Bool) → not a && not b ≡ not (a || b)
+pub neither : (a b : Bool) → not a && not b ≡ not (a || b)
 neither true b = refl
 neither false b = refl
 
-alike-eq : (a b : Bool) → alike a b ≡ true → a ≡ b
+pub alike-eq : (a b : Bool) → alike a b ≡ true → a ≡ b
 alike-eq true b e = sym e
 alike-eq false true e = absurd (true-or-false e refl)
 alike-eq false false e = refl
@@ -82,7 +82,7 @@ at-block P n d p f g q =
     let e : suc (pred (g / n)) * n ≡ g = block-number n d g p q in
     rw e at (f (pred (g / n)) (rw e q))
 
-rule-at : (s n d : ℕ) (t : List ℕ) → 1 ≤ n → rules s n d t ≡ true → (k : ℕ) → Block n d (suc k * n) → blockRule s n t (suc k * n) ≡ true
+pub rule-at : (s n d : ℕ) (t : List ℕ) → 1 ≤ n → rules s n d t ≡ true → (k : ℕ) → Block n d (suc k * n) → blockRule s n t (suc k * n) ≡ true
 unfolding rules blocksRule blockAt
 rule-at s n d t p r k q =
     let below : suc k ≤ d / n = le-div-iff-mul-le p .1 (q .most) in
@@ -130,15 +130,7 @@ covers-bit n k i x e l =
     ap (λ (y : ℕ). eqb (x % n / y % 2) 0) w ∙ ap (λ (y : ℕ). eqb (x % y / 2 ^ (k - suc i) % 2) 0) e ∙
     ap (λ (y : ℕ). eqb y 0) (bit-low x k (k - suc i) (omega arith))
 
--- a number whose bit j is 1 exactly where p j
-abbrev one : Bool → ℕ
-one b = cond b 1 0
-
-number : (ℕ → Bool) → ℕ → ℕ
-number p zero = 0
-number p (suc k) = one (p k) * 2 ^ k + number p k
-
-number-small : (p : ℕ → Bool) (k : ℕ) → number p k < 2 ^ k
+pub number-small : (p : ℕ → Bool) (k : ℕ) → number p k < 2 ^ k
 unfolding number
 number-small p zero = omega arith
 number-small p (suc k) =
@@ -146,7 +138,7 @@ number-small p (suc k) =
     let h = number-small p k in
     elim (split (p k)) [ inl b ↦ rw b (omega arith) | inr b ↦ rw b (omega arith) ]
 
-number-bit : (p : ℕ → Bool) (k j : ℕ) → j < k → number p k / 2 ^ j % 2 ≡ one (p j)
+pub number-bit : (p : ℕ → Bool) (k j : ℕ) → j < k → number p k / 2 ^ j % 2 ≡ one (p j)
 unfolding number
 number-bit p zero j l = absurd (omega arith)
 number-bit p (suc k) j l = elim (decLt j k) [
@@ -155,7 +147,7 @@ number-bit p (suc k) j l = elim (decLt j k) [
       rw (e, digits-div (one (p k)) (number-small p k)) (elim (p k) as (λ b. one b % 2 ≡ one b) [ true ↦ refl | false ↦ refl ])
 ]
 
-tile-bit : (n : ℕ) (t : List ℕ) (g i : ℕ) → i ≤ lg n → tileBit n t g (lg n - i) ≡ passes 2 n t (tile i g)
+pub tile-bit : (n : ℕ) (t : List ℕ) (g i : ℕ) → i ≤ lg n → tileBit n t g (lg n - i) ≡ passes 2 n t (tile i g)
 unfolding tileBit
 tile-bit n t g i l = let e : lg n - (lg n - i) ≡ i = omega arith in rw e
 
@@ -251,7 +243,7 @@ pub isListed-3 : (n : ℕ) (t : List ℕ) (day : ℕ) → isListed 3 n t day ≡
 unfolding isListed
 isListed-3 n t day = refl
 
-small-level : (l d m : ℕ) → 1 ≤ m → m * 2 ^ suc l ≤ d → d ≤ 65536 → l < 16
+pub small-level : (l d m : ℕ) → 1 ≤ m → m * 2 ^ suc l ≤ d → d ≤ 65536 → l < 16
 small-level l d m p h b = elim (decLt l 16) [
   | yes u ↦ u
   | no u ↦ let c = pow-lt {i = 16} {j = suc l} (omega arith) in let v = mul-le-mul-right (2 ^ suc l) p in absurd (omega arith)

@@ -11,7 +11,7 @@ use Rattle.layouts.specs.Layouts.{divides, allowedScheme, allowedN, lg, Name, b
 use Rattle.layouts.specs.Private.{position}
 use Rattle.layouts.proofs.{AllowedLaws.allowed-n-is, AllowedLaws.allowed-scheme-is, Coverage.divisor-le, Coverage.chains-front}
 use Rattle.layouts.proofs.Positions.{divides-half}
-use Rattle.acceptance.specs.Private.{Table, Has, Interval, Chain, passes, halvesRule, halvesAt, levelRule}
+use Rattle.acceptance.specs.Private.{Table, Has, Interval, Chain, passes}
 use Rattle.acceptance.proofs.{BlackLaws.black-position, Runs.divides-multiple, Given.half-point, Listed.block-number}
 use Rattle.acceptance.proofs.Lookup.{position-bound, tile-named, tree-named}
 
@@ -37,8 +37,8 @@ black-inside {s} {n} {g} h e =
     let b = black-position s n g g (a .0) (a .1) (h .has .some) (omega arith) (h .whole) in
     omega (arith, b .0, h .has .size)
 
-pub interval-tile : {n g i : ℕ} {t : List ℕ} → Interval 2 n g t → i ≤ lg n → (allowedN n ≡ true) × (1 ≤ g) × (g ≤ 65536) × (i ≤ 8)
-interval-tile {n} h l = let w = allowed-n-is n (h .has .n-ok) in (h .has .n-ok, h .has .some, h .has .most, omega (arith, w .small))
+pub interval-tile : {n g : ℕ} {t : List ℕ} → Interval 2 n g t → (allowedN n ≡ true) × (1 ≤ g) × (g ≤ 65536) × (0 ≤ 8)
+interval-tile h = (h .has .n-ok, h .has .some, h .has .most, omega arith)
 
 pub tile-inside : {n g i p : ℕ} {t : List ℕ} → Interval 2 n g t → i ≤ lg n → p ≡ position 2 n (tile i g) → p < length t
 tile-inside {n} {g} {i} h l e =
@@ -68,8 +68,6 @@ interval-before {s} {n} {g} h l =
     let f : g - n ≡ pred (g / n) * n = omega arith in
     record { has = has-earlier (g - n) (h .has) (omega arith) (omega arith); whole = rw f (divides-multiple (pred (g / n)) n (allowed-n-is n (h .has .n-ok) .some)) }
 
--- ---- each rule from its parts
-
 -- ---- chains
 
 pub chain-has : {n l g : ℕ} {t : List ℕ} → Chain n l g t → (allowedN n ≡ true) × (1 ≤ g) × (g ≤ 65536) × (l ≤ 16)
@@ -80,9 +78,6 @@ pub chain-own : {n g l : ℕ} {t : List ℕ} → Interval 3 n g t → l ≡ lg n
 chain-own {n} {g} h e =
     let w = allowed-n-is n (h .has .n-ok) in
     record { has = h .has; whole = rw (e, ← (w .power)) (h .whole); level = omega (arith, w .small) }
-
-pub chain-next : {n l g : ℕ} {t : List ℕ} → Chain n (suc l) g t → Chain n (l + 1) g t
-chain-next h = rw add-one h
 
 pub chain-right : {n l g : ℕ} {t : List ℕ} → Chain n (suc l) g t → Chain n l g t
 chain-right {n} {l} {g} h = record { has = h .has; whole = divides-half l g (h .whole); level = omega (arith, h .level) }
@@ -134,17 +129,6 @@ chain-of {n} {d} {l} {w} k T e h p q =
 
 pub third : (s : ℕ) → allowedScheme s ≡ true → (s ≡ 1 → ⊥) → (s ≡ 2 → ⊥) → s ≡ 3
 third s a f h = let b = allowed-scheme-is s a in omega arith
-
-pub halves-at-by : (n l k w : ℕ) (t : List ℕ) {r : Bool} → w ≡ 2 ^ (l + 1) → r ≡ halvesRule n t l (k * w) → r ≡ halvesAt n t l k
-unfolding halvesAt
-halves-at-by n l k w t e h = rw (← (add-one l), ← e) h
-
-pub level-by : (n d l w : ℕ) (t : List ℕ) {r : Bool} → w ≡ 2 ^ (l + 1) → r ≡ every (halvesAt n t l) (upFrom 1 (d / w)) → r ≡ levelRule n d t l
-unfolding levelRule
-level-by n d l w t e h = rw (← (add-one l), ← e) h
-
-pub chain-next-of : {n d l w : ℕ} {t : List ℕ} (k : ℕ) → Table 3 n d t → w ≡ 2 ^ (l + 1) → l < 16 → 1 ≤ k → k ≤ d / w → Chain n (suc l) (k * w) t
-chain-next-of {n} {d} {l} {w} k T e h p q = chain-of {l = suc l} k T (rw add-one at e) h p q
 
 pub weight-positive : (w l : ℕ) → w ≡ 2 ^ l → 0 < w
 weight-positive w l e = rw e (pow-pos l)

@@ -2,9 +2,9 @@
 -- Definitions only. A value is looked up by name.
 use mathlib.Core.Path.{_≡_}
 use mathlib.Core.Logic.{_⊎_}
-use mathlib.Core.Bool.{Bool, true, false, not, _&&_, _||_}
+use mathlib.Core.Bool.{Bool, true, false, not, _&&_, _||_, cond}
 use mathlib.Core.List.{List}
-use Prim.Native.Nat.{ℕ, zero, suc, pred, _-_, _*_, _/_, _%_, _^_, _≤_}
+use Prim.Native.Nat.{ℕ, zero, suc, pred, _+_, _-_, _*_, _/_, _%_, _^_, _≤_, _<_}
 use lib.Dec.{eqb, leb}
 use lib.ListN.{length, getD}
 use Rattle.refusals.specs.Refusals.{bookLimit}
@@ -83,6 +83,21 @@ halvesRule n t l g =
 unfoldable pub halvesAt : ℕ → List ℕ → ℕ → ℕ → Bool
 halvesAt n t l k = halvesRule n t l (k * 2 ^ suc l)
 
+-- of the days 1 to g the last whose own chain of the tree fails is s, or none does and s is 0
+pub record LastFailed (n : ℕ) (t : List ℕ) (g s : ℕ) : Type 0 where
+  pub most : s ≤ g
+  pub failed : (s ≡ 0) ⊎ (passes 3 n t (tree 0 s) ≡ false)
+  pub later : (x : ℕ) → s < x → x ≤ g → passes 3 n t (tree 0 x) ≡ true
+
+-- the tree's chain of level l that ends at g passes exactly if day s comes before it
+unfoldable pub sinceRule : ℕ → List ℕ → ℕ → ℕ → ℕ → Bool
+sinceRule n t g s l = alike (passes 3 n t (tree l g)) (leb (2 ^ l + s) g)
+
+-- and so each of level 1 and up, or one does not
+pub record DayRules (n : ℕ) (t : List ℕ) (g s : ℕ) (r : Bool) : Type 0 where
+  pub holds : r ≡ true → (l : ℕ) → divides (2 ^ suc l) g ≡ true → sinceRule n t g s (suc l) ≡ true
+  pub fails : r ≡ false → (l : ℕ) × (divides (2 ^ suc l) g ≡ true) × (sinceRule n t g s (suc l) ≡ false)
+
 unfoldable pub levelRule : ℕ → ℕ → List ℕ → ℕ → Bool
 levelRule n d t l = every (halvesAt n t l) (upFrom 1 (d / 2 ^ suc l))
 
@@ -104,6 +119,14 @@ endOf n day = suc (pred day / n) * n
 -- the tile chain whose bit has weight 2^j
 unfoldable pub tileBit : ℕ → List ℕ → ℕ → ℕ → Bool
 tileBit n t g j = passes 2 n t (tile (lg n - j) g)
+
+-- a number whose bit j is 1 exactly where p j, for j below k
+abbrev pub one : Bool → ℕ
+one b = cond b 1 0
+
+unfoldable pub number : (ℕ → Bool) → ℕ → ℕ
+number p zero = 0
+number p (suc k) = one (p k) * 2 ^ k + number p k
 
 -- no chain that passes covers a number x: bit j of x is 1 where p j
 unfoldable pub bitRule : (ℕ → Bool) → ℕ → ℕ → Bool

@@ -3,12 +3,15 @@ pub mod values;
 
 ghost use mathlib.Core.Path.{_≡_};
 ghost use mathlib.Core.Bool.{not, _&&_, _||_};
-ghost use Prim.Native.Nat.{suc, _≤_, _<_};
+ghost use Prim.Native.Nat.{suc, _-_, _≤_, _<_};
+ghost use lib.ListN.{length};
 ghost use Rattle.lists.specs.Lists.{upFrom, every};
 ghost use Rattle.layouts.specs.Layouts as layout;
+ghost use Rattle.layouts.specs.Layouts.{tile, tree, chains};
+ghost use Rattle.layouts.specs.Private.{position};
 ghost use Rattle.acceptance.specs.Private as rule;
-ghost use Rattle.acceptance.specs.Private.{Table, Interval, Chain, tileRule, blockRule, halvesRule, levelRule};
-ghost use Rattle.acceptance.specs.Private.{levelsRule, blocksRule};
+ghost use Rattle.acceptance.specs.Private.{Table, Has, Interval, tileRule, blockRule};
+ghost use Rattle.acceptance.specs.Private.{LastFailed, DayRules, levelsRule, blocksRule};
 
 fn implies(a: bool, b: bool) -> bool
     ensures { λ r. ⌜ r ≡ not a || b ⌝ }
@@ -37,60 +40,59 @@ fn alike(a: bool, b: bool) -> bool
     !b
 }
 
-// Whether black of the interval before passes, or there is none.
-fn prior(scheme: u32, n: u32, g: u32, t: &[u8]) -> bool
-    requires { ⌜ Interval scheme n g (now t) ⌝ }
+// Whether black of the interval before passes, or there is none. The values before the interval end at place p.
+fn prior(scheme: u32, n: u32, g: u32, p: u32, t: &[u8]) -> bool
+    requires { ⌜ Interval scheme n g (now t) × (p ≡ length (chains scheme n (g - n))) ⌝ }
     ensures { λ r. ⌜ r ≡ rule.prior scheme n (now (t .entry)) g ⌝ }
 {
     if g <= n {
         return true;
     }
-    values::black_passes(scheme, n, g - n, t)
+    values::mark(t, p - 1)
 }
 
+// Black of scheme 1 stands at the place behind the black before it.
 fn black_falls(n: u32, g: u32, t: &[u8]) -> bool
     requires { ⌜ Interval 1 n g (now t) ⌝ }
     ensures { λ r. ⌜ r ≡ blockRule 1 n (now (t .entry)) g ⌝ }
 {
-    let b = values::black_passes(1, n, g, t);
-    let p = prior(1, n, g, t);
+    let at = layouts::values_through(1, n, g - n);
+    let b = values::mark(t, at);
+    let p = prior(1, n, g, at, t);
     implies(b, p)
 }
 
-fn tile_rule(n: u32, g: u32, i: u32, t: &[u8]) -> bool
-    requires { ⌜ Interval 2 n g (now t) × (i ≤ layout.lg n) ⌝ }
-    ensures { λ r. ⌜ r ≡ tileRule n (now (t .entry)) g i ⌝ }
-{
-    let a = values::tile_passes(n, 0, g, t);
-    let b = values::tile_passes(n, i, g, t);
-    implies(a, b)
-}
-
-fn tile_rules(n: u32, g: u32, t: &[u8]) -> bool
-    requires { ⌜ Interval 2 n g (now t) ⌝ }
+// Where c(0), which stands at place p, passes, so do c(1) to c(lg n), which stand behind it.
+fn tile_rules(n: u32, g: u32, p: u32, t: &[u8]) -> bool
+    requires { ⌜ Interval 2 n g (now t) × (p ≡ position 2 n (tile 0 g)) ⌝ }
     ensures { λ r. ⌜ r ≡ every (tileRule n (now (t .entry)) g) (upFrom 1 (layout.lg n)) ⌝ }
 {
+    if !values::mark(t, p) {
+        return true;
+    }
     let k = layouts::lg(n);
     let mut i = 0;
     while i < k {
         i += 1;
-        if !tile_rule(n, g, i, t) {
+        if !values::mark(t, p + i) {
             return false;
         }
     }
     true
 }
 
+// The values of an interval stand one behind another: c(0) to c(lg n), then black.
 fn tile_block(n: u32, g: u32, t: &[u8]) -> bool
     requires { ⌜ Interval 2 n g (now t) ⌝ }
     ensures { λ r. ⌜ r ≡ blockRule 2 n (now (t .entry)) g ⌝ }
 {
-    let b = values::black_passes(2, n, g, t);
-    let p = prior(2, n, g, t);
-    let c = values::tile_passes(n, 0, g, t);
+    let at = layouts::tile_at(n, 0, g);
+    let b = values::mark(t, at + layouts::lg(n) + 1);
+    let p = prior(2, n, g, at, t);
+    let c = values::mark(t, at);
     let w = both(p, c);
     let a = alike(b, w);
-    let e = tile_rules(n, g, t);
+    let e = tile_rules(n, g, at, t);
     both(a, e)
 }
 
@@ -99,7 +101,7 @@ fn tree_block(n: u32, g: u32, t: &[u8]) -> bool
     ensures { λ r. ⌜ r ≡ blockRule 3 n (now (t .entry)) g ⌝ }
 {
     let b = values::black_passes(3, n, g, t);
-    let p = prior(3, n, g, t);
+    let p = prior(3, n, g, layouts::values_through(3, n, g - n), t);
     let c = values::tree_passes(n, layouts::lg(n), g, t);
     let w = both(p, c);
     alike(b, w)
@@ -133,44 +135,54 @@ fn block_rules(scheme: u32, n: u32, d: u32, t: &[u8]) -> bool
     true
 }
 
-// Whether the tree's chain of level l + 1 that ends at g is its two halves.
-fn halves_rule(n: u32, l: u32, g: u32, t: &[u8]) -> bool
-    requires { ⌜ Chain n (suc l) g (now t) ⌝ }
-    ensures { λ r. ⌜ r ≡ halvesRule n (now (t .entry)) l g ⌝ }
+// The last day of the days 1 to g whose own chain fails, or 0: s is that of the days before g. Its own chain of the
+// tree stands at place p.
+fn last_failed(n: u32, g: u32, p: u32, s: u32, t: &[u8]) -> u32
+    requires { ⌜ Has 3 n g (now t) × (p ≡ position 3 n (tree 0 g)) × LastFailed n (now t) (g - 1) s ⌝ }
+    ensures { λ r. ⌜ LastFailed n (now (t .entry)) g r ⌝ }
 {
-    let a = values::tree_passes(n, l + 1, g, t);
-    let b = values::tree_passes(n, l, g - layouts::size(l), t);
-    let c = values::tree_passes(n, l, g, t);
-    let w = both(b, c);
-    alike(a, w)
+    if values::mark(t, p) {
+        return s;
+    }
+    g
 }
 
-fn level_rule(n: u32, d: u32, l: u32, t: &[u8]) -> bool
-    requires { ⌜ Table 3 n d (now t) × (l < 16) ⌝ }
-    ensures { λ r. ⌜ r ≡ levelRule n d (now (t .entry)) l ⌝ }
+// The tree's chains of level 1 and up that end at g, which stand behind its own: each passes exactly if the last failed
+// day comes before it.
+fn day_rules(n: u32, g: u32, p: u32, s: u32, t: &[u8]) -> bool
+    requires { ⌜ Has 3 n g (now t) × (p ≡ position 3 n (tree 0 g)) × (s ≤ g) ⌝ }
+    ensures { λ r. ⌜ DayRules n (now (t .entry)) g s r ⌝ }
 {
-    let w = layouts::size(l + 1);
-    let m = d / w;
-    let mut k = 0;
-    while k < m {
-        k += 1;
-        if !halves_rule(n, l, k * w, t) {
+    let mut l = 0;
+    let mut w = 2;
+    let mut x = g;
+    while x % 2 == 0 {
+        l += 1;
+        let a = values::mark(t, p + l);
+        let b = w + s <= g;
+        if !alike(a, b) {
             return false;
         }
+        w = 2 * w;
+        x = x / 2;
     }
     true
 }
 
+// Whether each chain of the tree is its two halves, day by day.
 fn level_rules(n: u32, d: u32, t: &[u8]) -> bool
     requires { ⌜ Table 3 n d (now t) ⌝ }
     ensures { λ r. ⌜ r ≡ levelsRule n d (now (t .entry)) ⌝ }
 {
-    let mut l = 0;
-    while l < 16 {
-        if !level_rule(n, d, l, t) {
+    let mut g = 0;
+    let mut s = 0;
+    while g < d {
+        g += 1;
+        let p = layouts::tree_at(n, 0, g);
+        s = last_failed(n, g, p, s, t);
+        if !day_rules(n, g, p, s, t) {
             return false;
         }
-        l += 1;
     }
     true
 }

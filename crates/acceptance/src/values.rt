@@ -1,14 +1,13 @@
 // Whether a value of a table passes, looked up by its name.
 ghost use mathlib.Core.Path.{_≡_};
-ghost use Prim.Native.Nat.{_≤_, _<_};
+ghost use Prim.Native.Nat.{_<_};
 ghost use lib.Dec.{eqb};
 ghost use lib.ListN.{length, getD};
-ghost use Rattle.layouts.specs.Layouts.{black, tile, tree};
-ghost use Rattle.layouts.specs.Layouts as layout;
-ghost use Rattle.acceptance.specs.Private as rule;
-ghost use Rattle.acceptance.specs.Private.{Interval, Chain, passes, tileBit};
+ghost use Rattle.layouts.specs.Layouts.{black, tree};
+ghost use Rattle.acceptance.specs.Private.{Interval, Chain, passes};
 
-fn mark(t: &[u8], p: u32) -> bool
+// The value at a place.
+pub fn mark(t: &[u8], p: u32) -> bool
     requires { ⌜ p < length (now t) ⌝ }
     ensures { λ r. ⌜ r ≡ eqb (getD (now (t .entry)) p 0) 1 ⌝ }
 {
@@ -22,24 +21,9 @@ pub fn black_passes(scheme: u32, n: u32, g: u32, t: &[u8]) -> bool
     mark(t, layouts::black_at(scheme, n, g))
 }
 
-pub fn tile_passes(n: u32, i: u32, g: u32, t: &[u8]) -> bool
-    requires { ⌜ Interval 2 n g (now t) × (i ≤ layout.lg n) ⌝ }
-    ensures { λ r. ⌜ r ≡ passes 2 n (now (t .entry)) (tile i g) ⌝ }
-{
-    mark(t, layouts::tile_at(n, i, g))
-}
-
 pub fn tree_passes(n: u32, l: u32, g: u32, t: &[u8]) -> bool
     requires { ⌜ Chain n l g (now t) ⌝ }
     ensures { λ r. ⌜ r ≡ passes 3 n (now (t .entry)) (tree l g) ⌝ }
 {
     mark(t, layouts::tree_at(n, l, g))
-}
-
-// Whether the tile chain whose bit has weight 2^j passes.
-pub fn tile_bit(n: u32, j: u32, g: u32, t: &[u8]) -> bool
-    requires { ⌜ Interval 2 n g (now t) × (j ≤ layout.lg n) ⌝ }
-    ensures { λ r. ⌜ r ≡ tileBit n (now (t .entry)) g j ⌝ }
-{
-    tile_passes(n, layouts::lg(n) - j, g, t)
 }

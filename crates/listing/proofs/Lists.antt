@@ -7,56 +7,38 @@ use borrow.Author.Tests.{eq-eqb, ne-eqb}
 use Rattle.lists.specs.Lists.{upFrom, keep}
 use Rattle.evidence.specs.Evidence.{days}
 use Rattle.lists.proofs.Laws.{and-both, length-upFrom}
-use Rattle.layouts.specs.Layouts.{divides, allowedScheme, lg, black, tile, lastDays}
-use Rattle.layouts.proofs.{AllowedLaws.allowed-n-is, AllowedLaws.allowed-scheme-is, Coverage.divisor-le}
-use Rattle.acceptance.specs.Private.{Table, Interval, Chain, passes, levelsRule, rules, blocksRule, tileBit, isListed}
-use Rattle.listing.specs.Private.{Tile, tileDays, treeDays, topDays}
+use Rattle.layouts.specs.Layouts.{divides, lg, tile, lastDays}
+use Rattle.layouts.proofs.AllowedLaws.{allowed-n-is}
+use Rattle.acceptance.specs.Private.{Table, Interval, Chain, passes, levelsRule, rules, blocksRule, tileBit, number, isListed}
+use Rattle.listing.specs.Private.{Tile, bitOf, tileDays, treeDays, topDays}
 use Rattle.buffers.specs.Private.{Wrote}
-use Rattle.acceptance.proofs.{Runs.keep-length, Runs.div-whole, Steps.interval-number, Steps.interval-end, Steps.chain-of}
-use Rattle.listing.proofs.Walks.{run-none, run-all, tile-none, tile-days, tree-days, days-block}
+use Rattle.acceptance.proofs.{Listed.number-small, Places.room, Runs.keep-length, Runs.div-whole, Steps.interval-number, Steps.interval-end, Steps.chain-of}
+use Rattle.listing.proofs.Tiles.{tile-congr, number-bits}
+use Rattle.listing.proofs.Walks.{tile-none, tile-days, tree-days, days-block}
 use Rattle.buffers.proofs.Writes.{wrote-none, wrote-length, wrote-join}
 
 -- ---- an interval
-
-pub interval-room : {s n g : ℕ} {t : List ℕ} → Interval s n g t → n ≤ g
-interval-room {s} {n} {g} h = divisor-le n g (h .has .some) (h .whole)
-
-pub black-none : (n g : ℕ) (t : List ℕ) {r : Bool} → Interval 1 n g t → r ≡ passes 1 n t (black g) → r ≡ true → keep (isListed 1 n t) (lastDays n g) ≡ []
-black-none n g t h e f =
-    let q = interval-number h in
-    rw q at (run-none n (pred (g / n)) t (rw q (sym e ∙ f)))
-
-pub black-all : (n g : ℕ) (t : List ℕ) {r : Bool} → Interval 1 n g t → r ≡ passes 1 n t (black g) → r ≡ false → keep (isListed 1 n t) (lastDays n g) ≡ upFrom (g - n + 1) (g + 1 - (g - n + 1))
-black-all n g t h e f =
-    let q = interval-number h in
-    let l = interval-room h in
-    let b : g - n + 1 ≡ suc (g - n) = omega arith in
-    let c : g + 1 - suc (g - n) ≡ n = omega arith in
-    rw (b, c) (rw q at (run-all n (pred (g / n)) t (rw q (sym e ∙ f))))
 
 pub tile-whole : (n g : ℕ) (t : List ℕ) {r : Bool} → Interval 2 n g t → r ≡ passes 2 n t (tile 0 g) → r ≡ true → keep (isListed 2 n t) (lastDays n g) ≡ []
 tile-whole n g t h e f =
     let q = interval-number h in
     rw q at (tile-none n (pred (g / n)) t (rw q (sym e ∙ f)))
 
-pub tile-failed : (n g : ℕ) (t : List ℕ) {k : ℕ} {r : Bool} → Interval 2 n g t → r ≡ passes 2 n t (tile 0 g) → r ≡ false → k ≡ lg n →
-    keep (isListed 2 n t) (lastDays n g) ≡ tileDays (tileBit n t g) k (g - n + 1)
-tile-failed n g t h e f z =
-    let q = interval-number h in
-    let b : g - n + 1 ≡ suc (g - n) = omega arith in
-    rw (b, z) (rw q at (tile-days n (pred (g / n)) t (allowed-n-is n (h .has .n-ok)) (rw q (sym e ∙ f))))
+module _ (n g : ℕ) (t : List ℕ) {k m : ℕ} (h : Interval 2 n g t) (z : k ≡ lg n) (u : m ≡ number (tileBit n t g) (lg n)) where
+  pub tile-failed : {r : Bool} → r ≡ passes 2 n t (tile 0 g) → r ≡ false → keep (isListed 2 n t) (lastDays n g) ≡ tileDays (bitOf m) k (g - n + 1)
+  tile-failed e f =
+      let q = interval-number h in
+      let b : g - n + 1 ≡ suc (g - n) = omega arith in
+      rw (b, z, u) (rw q at (tile-days n (pred (g / n)) t (allowed-n-is n (h .has .n-ok)) (rw q (sym e ∙ f))) ∙
+      tile-congr (tileBit n t g) (bitOf (number (tileBit n t g) (lg n))) (lg n) (suc (g - n)) (λ j l. sym (number-bits (tileBit n t g) (lg n) j l)))
 
-pub tile-start : (n g k at m : ℕ) {t : List ℕ} → Interval 2 n g t → at + n ≤ m → k ≡ lg n → Tile n g k (g - n + 1) t × (at + 2 ^ k ≤ m)
-tile-start n g k at m h l e =
-    let q = interval-room h in
-    let p : 2 ^ k ≡ n = rw e (sym (allowed-n-is n (h .has .n-ok) .power)) in
-    (record { at = h; level = omega arith; fits = omega arith }, omega arith)
-
-pub scheme-is-2 : (s : ℕ) → allowedScheme s ≡ true → s ≤ 2 → (s ≡ 1 → ⊥) → s ≡ 2
-scheme-is-2 s a l f = let b = allowed-scheme-is s a in omega arith
-
-pub below-third : (s : ℕ) → allowedScheme s ≡ true → (s ≡ 3 → ⊥) → s ≤ 2
-below-third s a f = let b = allowed-scheme-is s a in omega arith
+  pub tile-start : (at size : ℕ) → at + n ≤ size → Tile k (g - n + 1) m × (at + 2 ^ k ≤ size)
+  tile-start at size l =
+      let q = room h in
+      let w = allowed-n-is n (h .has .n-ok) in
+      let p : 2 ^ k ≡ n = rw z (sym (w .power)) in
+      let s : m < 2 ^ k = rw (u, z) (number-small (tileBit n t g) (lg n)) in
+      (record { level = omega (arith, w .small); number = s; fits = omega (arith, h .has .most) }, omega arith)
 
 -- ---- the intervals in turn
 

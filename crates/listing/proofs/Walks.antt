@@ -1,4 +1,4 @@
--- The walks of an interval, a tile and a tree's chain list the days that are listed locally.
+-- The walks of a tile and a tree's chain list the days that are listed locally.
 use mathlib.Core.{Path._≡_, Path.refl, Path.sym, Path.ap, Path.ap₂, Path._∙_, Logic.inl, Logic.inr}
 use mathlib.Core.Bool.{Bool, true, false, not, _&&_, cond, and-true, and-false}
 use mathlib.Core.List.{List, [], _∷_, _++_}
@@ -9,21 +9,13 @@ use borrow.Author.Tests.{not-true}
 use Rattle.lists.specs.Lists.{_among_, upFrom, keep, every}
 use Rattle.evidence.specs.Evidence.{days}
 use Rattle.lists.proofs.Laws.{split, true-or-false, upFrom-bounds, keep-congr, keep-append, upFrom-snoc, every-append, upFrom-append}
-use Rattle.layouts.specs.Layouts.{lg, black, tile, tree, lastDays}
+use Rattle.layouts.specs.Layouts.{lg, tile, tree, lastDays}
 use Rattle.layouts.proofs.AllowedLaws.{Power}
 use Rattle.acceptance.specs.Private.{passes, levelsRule, tileBit, bitRule, bitsRule, isListed}
 use Rattle.listing.specs.Private.{tileDays, treeDays}
-use Rattle.acceptance.proofs.Runs.{some, some-of, keep-all, keep-none, lastDays-days}
+use Rattle.acceptance.proofs.Runs.{some, some-of, keep-none, lastDays-days}
 use Rattle.acceptance.proofs.Given.{block-split, half-point, half-split}
-use Rattle.acceptance.proofs.Listed.{listed-in-1, listed-in-2, isListed-3, tree-3}
-
--- ---- an interval under scheme 1
-
-pub run-none : (n k : ℕ) (t : List ℕ) → passes 1 n t (black (suc k * n)) ≡ true → keep (isListed 1 n t) (lastDays n (suc k * n)) ≡ []
-run-none n k t e = keep-none (isListed 1 n t) (lastDays n (suc k * n)) (λ day m. listed-in-1 n k day t m ∙ ap not e)
-
-pub run-all : (n k : ℕ) (t : List ℕ) → passes 1 n t (black (suc k * n)) ≡ false → keep (isListed 1 n t) (lastDays n (suc k * n)) ≡ lastDays n (suc k * n)
-run-all n k t e = keep-all (isListed 1 n t) (lastDays n (suc k * n)) (λ day m. listed-in-1 n k day t m ∙ ap not e)
+use Rattle.acceptance.proofs.Listed.{listed-in-2, isListed-3, tree-3}
 
 -- ---- a tile
 

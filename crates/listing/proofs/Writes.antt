@@ -5,12 +5,12 @@ use Prim.Native.Nat.{ℕ, zero, suc, _+_, _-_, _^_, _≤_, _<_}
 use native.Mathlib.{Nat.pow-succ', Omega.arith}
 use lib.{ListN.length, ListN.set, ListN.length-append, Pow.pow-pos}
 use Rattle.lists.specs.Lists.{upFrom}
-use Rattle.layouts.specs.Layouts.{lg, tree}
-use Rattle.layouts.proofs.AllowedLaws.{allowed-n-is}
+use Rattle.layouts.specs.Layouts.{tree}
+use Rattle.layouts.specs.Private.{position}
 use Rattle.lists.proofs.Laws.{split, upFrom-snoc, length-upFrom}
 use Rattle.acceptance.specs.Private.{Chain, passes}
 use Rattle.buffers.proofs.Writes.{wrote-none, wrote-one, wrote-length, wrote-join}
-use Rattle.listing.specs.Private.{Tile, tileDays, treeDays}
+use Rattle.listing.specs.Private.{treeDays}
 use Rattle.buffers.specs.Private.{Wrote}
 use Rattle.acceptance.proofs.Steps.{chain-left, chain-right, chain-room}
 
@@ -95,6 +95,10 @@ module _ {n l g w : ℕ} {t : List ℕ} (h : Chain n l g t) (z : l ≡ 0 → ⊥
   pub right-chain : Chain n (l - 1) g t
   right-chain = chain-right lower
 
+-- the right half stands one place before
+pub right-place : {n l g p : ℕ} {t : List ℕ} → Chain n l g t → p ≡ position 3 n (tree l g) → (l ≡ 0 → ⊥) → (1 ≤ p) × (p - 1 ≡ position 3 n (tree (l - 1) g))
+right-place h e z = omega arith
+
 pub left-place : (l at n : ℕ) → (l ≡ 0 → ⊥) → at + 2 ^ l ≤ n → at + 2 ^ (l - 1) ≤ n
 left-place l at n z h = let e = pow-half l z in omega arith
 
@@ -110,57 +114,16 @@ tree-join n l g w at b r t k s y e f z q h u v =
     let c = tree-size n t l g in
     wrote-join at (treeDays n t l g) (treeDays n t (l - 1) (g - w)) (treeDays n t (l - 1) g) k s y b r (tree-halves n l g w t e f z q) (omega arith) u v
 
--- ---- the walk of a tile
+-- ---- a chain whose level is known
 
-tile-size : (p : ℕ → Bool) (l day : ℕ) → length (tileDays p l day) ≤ 2 ^ l
-unfolding tileDays
-tile-size p zero day = omega arith
-tile-size p (suc l) day =
-    let x = tile-size p l day in
-    let y = tile-size p l (day + 2 ^ l) in
-    let z = length-append (tileDays p l day) (tileDays p l (day + 2 ^ l)) in
-    let q = pow-succ' 2 l in
-    elim (split (p l)) [ inl e ↦ rw e (omega arith) | inr e ↦ rw e (omega arith) ]
+pub known-chain : {n l g : ℕ} {t : List ℕ} (k : ℕ) → Chain n l g t → l ≡ k → Chain n k g t
+known-chain k h o = rw o at h
 
-pub tile-day : (p : ℕ → Bool) (l day : ℕ) → l ≡ 0 → tileDays p l day ≡ day ∷ []
-unfolding tileDays
-tile-day p zero day z = refl
-tile-day p (suc l) day z = absurd (omega arith)
+pub known-place : {n l g p : ℕ} {t : List ℕ} (k : ℕ) → Chain n l g t → p ≡ position 3 n (tree l g) → l ≡ k → p ≡ position 3 n (tree k g)
+known-place k h e o = rw o at e
 
-pub tile-upper : (p : ℕ → Bool) (l day w : ℕ) {r : Bool} → r ≡ p (l - 1) → r ≡ true → (l ≡ 0 → ⊥) → w ≡ 2 ^ (l - 1) → tileDays p l day ≡ tileDays p (l - 1) (day + w)
-unfolding tileDays
-tile-upper p zero day w e f z q = absurd (z refl)
-tile-upper p (suc l) day w e f z q = let s : suc l - 1 ≡ l = omega arith in rw (q, s, ← (rw s at e), f)
+pub known-room : (k l at n : ℕ) → at + 2 ^ l ≤ n → l ≡ k → at + 2 ^ k ≤ n
+known-room k l at n h o = rw o at h
 
-pub tile-halves : (p : ℕ → Bool) (l day w : ℕ) {r : Bool} → r ≡ p (l - 1) → r ≡ false → (l ≡ 0 → ⊥) → w ≡ 2 ^ (l - 1) → tileDays p l day ≡ tileDays p (l - 1) day ++ tileDays p (l - 1) (day + w)
-unfolding tileDays
-tile-halves p zero day w e f z q = absurd (z refl)
-tile-halves p (suc l) day w e f z q = let s : suc l - 1 ≡ l = omega arith in rw (q, s, ← (rw s at e), f)
-
-module _ {n g l day w : ℕ} {t : List ℕ} (h : Tile n g l day t) (z : l ≡ 0 → ⊥) (q : w ≡ 2 ^ (l - 1)) where
-  pub lower-tile : Tile n g (l - 1) day t
-  lower-tile = let e = pow-half l z in record { at = h .at; level = omega (arith, h .level); fits = omega (arith, h .fits) }
-
-  pub upper-tile : Tile n g (l - 1) (day + w) t
-  upper-tile = let e = pow-half l z in record { at = h .at; level = omega (arith, h .level); fits = omega (arith, h .fits) }
-
-  pub tile-sum : day + w < 2 ^ 32
-  tile-sum = let e = pow-half l z in omega (arith, h .fits, h .at .has .most)
-
-pub tile-small : {n g l day : ℕ} {t : List ℕ} → Tile n g l day t → l - 1 ≤ 16
-tile-small {n} h = let w = allowed-n-is n (h .at .has .n-ok) in omega (arith, h .level, w .small)
-
-pub tile-level : {n g l day : ℕ} {t : List ℕ} → Tile n g l day t → l - 1 ≤ lg n
-tile-level h = omega (arith, h .level)
-
-pub tile-right-place : (p : ℕ → Bool) (l day at b m : ℕ) (k s : List ℕ) → (l ≡ 0 → ⊥) → at + 2 ^ l ≤ length k → Wrote at (tileDays p (l - 1) day) k b s → m ≡ length k → b + 2 ^ (l - 1) ≤ m
-tile-right-place p l day at b m k s z h u e =
-    let c = pow-half l z in
-    let q = tile-size p (l - 1) day in
-    omega (arith, u .count)
-
-pub tile-join : (p : ℕ → Bool) (l day w at b r : ℕ) (k s y : List ℕ) {x : Bool} → x ≡ p (l - 1) → x ≡ false → (l ≡ 0 → ⊥) → w ≡ 2 ^ (l - 1) → at + 2 ^ l ≤ length k →
-    Wrote at (tileDays p (l - 1) day) k b s → Wrote b (tileDays p (l - 1) (day + w)) s r y → Wrote at (tileDays p l day) k r y
-tile-join p l day w at b r k s y e f z q h u v =
-    let c = tile-size p l day in
-    wrote-join at (tileDays p l day) (tileDays p (l - 1) day) (tileDays p (l - 1) (day + w)) k s y b r (tile-halves p l day w e f z q) (omega arith) u v
+pub known-days : (k n l g at r : ℕ) (t m y : List ℕ) → l ≡ k → Wrote at (treeDays n t k g) m r y → Wrote at (treeDays n t l g) m r y
+known-days k n l g at r t m y o u = rw o u

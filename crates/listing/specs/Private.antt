@@ -1,17 +1,38 @@
 -- What the walks list, and what is written of it. Definitions only; private contracts cite them, and the laws
 -- `tile-days`, `tree-days` and `listing-isListed` lead them back to 01's listing.
-use mathlib.Core.Bool.{Bool, cond}
+use mathlib.Core.Path.{_≡_}
+use mathlib.Core.Bool.{Bool, true, false, cond}
 use mathlib.Core.List.{List, [], _∷_, _++_}
-use Prim.Native.Nat.{ℕ, zero, suc, _+_, _-_, _*_, _/_, _%_, _^_, _≤_}
+use Prim.Native.Nat.{ℕ, zero, suc, _+_, _-_, _*_, _/_, _%_, _^_, _≤_, _<_}
 use lib.Dec.{eqb}
-use Rattle.layouts.specs.Layouts.{lg, tree}
-use Rattle.acceptance.specs.Private.{Interval, passes}
+use Rattle.refusals.specs.Refusals.{bookLimit}
+use Rattle.lists.specs.Lists.{upFrom, every}
+use Rattle.layouts.specs.Layouts.{black, tree}
+use Rattle.acceptance.specs.Private.{passes}
 
--- a tile with l bits left, from a day on
-pub record Tile (n g l day : ℕ) (t : List ℕ) : Type 0 where
-  pub at : Interval 2 n g t
-  pub level : l ≤ lg n
-  pub fits : day + 2 ^ l ≤ suc g
+-- black of interval k passes
+unfoldable pub blackPasses : ℕ → List ℕ → ℕ → Bool
+blackPasses n t k = passes 1 n t (black (k * n))
+
+-- black passes in the first r intervals, and not in the next, if there is one (scheme 1)
+pub record FirstFailed (n d : ℕ) (t : List ℕ) (r : ℕ) : Type 0 where
+  pub few : r ≤ d / n
+  pub pass : every (blackPasses n t) (upFrom 1 r) ≡ true
+  pub fails : r < d / n → blackPasses n t (r + 1) ≡ false
+
+-- l bits of a tile from a day on, and a number m of l bits
+pub record Tile (l day m : ℕ) : Type 0 where
+  pub level : l ≤ 8
+  pub number : m < 2 ^ l
+  pub fits : day + 2 ^ l ≤ suc bookLimit
+
+-- bit j of m is 1
+abbrev pub bitOf : ℕ → ℕ → Bool
+bitOf m j = eqb (m / 2 ^ j % 2) 1
+
+-- w days later, as a number of 32 bits
+abbrev pub later : ℕ → ℕ → ℕ
+later w day = (day + w) % 2 ^ 32
 
 -- the walk of a failed tile from a day on, l bits left: where p l passes only the upper half is gone into
 unfoldable pub tileDays : (ℕ → Bool) → ℕ → ℕ → List ℕ

@@ -2,14 +2,16 @@
 // behind the last of them.
 ghost use mathlib.Core.Path.{_≡_};
 ghost use mathlib.Core.Bool.{true};
-ghost use Prim.Native.Nat.{suc, _+_, _-_, _*_, _/_, _^_, _≤_};
-ghost use lib.ListN.{length};
+ghost use mathlib.Core.List.{map};
+ghost use Prim.Native.Nat.{suc, _+_, _-_, _*_, _/_, _^_, _≤_, _<_};
+ghost use lib.ListN.{length, take, drop};
 ghost use Rattle.lists.specs.Lists.{upFrom, keep};
 ghost use Rattle.evidence.specs.Evidence.{days};
-ghost use Rattle.layouts.specs.Layouts.{lastDays};
+ghost use Rattle.layouts.specs.Layouts.{lg, tile, tree, lastDays};
+ghost use Rattle.layouts.specs.Private.{position};
 ghost use Rattle.acceptance.specs.Private as rule;
-ghost use Rattle.acceptance.specs.Private.{Table, Interval, Chain, levelsRule, tileBit, isListed};
-ghost use Rattle.listing.specs.Private.{Tile, tileDays, treeDays, topDays};
+ghost use Rattle.acceptance.specs.Private.{Table, Interval, Chain, levelsRule, tileBit, one, number, isListed};
+ghost use Rattle.listing.specs.Private.{FirstFailed, Tile, bitOf, tileDays, later, treeDays, topDays};
 ghost use Rattle.buffers.specs.Private.{Wrote};
 
 // The days from first to before end.
@@ -27,36 +29,97 @@ fn run(first: u32, end: u32, list: &mut [u32], at: usize) -> usize
     p
 }
 
-// The interval that ends at g, under scheme 1: all its days, if black fails.
-fn black_days(n: u32, g: u32, t: &[u8], list: &mut [u32], at: usize) -> usize
-    requires { ⌜ Interval 1 n g (now t) × (at + n ≤ length (now list)) ⌝ }
-    ensures { λ r. ⌜ Wrote at (keep (isListed 1 n (now (t .entry))) (lastDays n g))
-        (now (list .entry)) r (now (list .exit)) ⌝ }
+// How many intervals come before the first whose black fails, under scheme 1.
+fn passing_blacks(n: u32, d: u32, t: &[u8]) -> u32
+    requires { ⌜ Table 1 n d (now t) ⌝ }
+    ensures { λ r. ⌜ FirstFailed n d (now (t .entry)) r ⌝ }
 {
-    if acceptance::values::black_passes(1, n, g, t) {
-        return at;
+    let m = d / n;
+    let mut k = 0;
+    while k < m {
+        if !acceptance::values::black_passes(1, n, (k + 1) * n, t) {
+            return k;
+        }
+        k += 1;
     }
-    run(g - n + 1, g + 1, list, at)
+    k
 }
 
-// The 2^level days of a failed tile from a day on: where the chain over the lower half passes, only the upper half is
-// gone into.
-fn tile_walk(n: u32, g: u32, level: u32, day: u32, t: &[u8], list: &mut [u32], at: usize) -> usize
-    requires { ⌜ Tile n g level day (now t) × (at + 2 ^ level ≤ length (now list)) ⌝ }
-    ensures { λ r. ⌜ Wrote at (tileDays (tileBit n (now (t .entry)) g) level day)
+// Scheme 1: no black passes after one that fails, so all days from there on.
+fn black_days(n: u32, d: u32, t: &[u8], list: &mut [u32]) -> usize
+    requires { ⌜ Table 1 n d (now t) × (d ≤ length (now list)) × (rule.rules 1 n d (now t) ≡ true) ⌝ }
+    ensures { λ r. ⌜ Wrote 0 (keep (isListed 1 n (now (t .entry))) (days d))
         (now (list .entry)) r (now (list .exit)) ⌝ }
 {
-    if level == 0 {
-        list[at] = day;
-        return at + 1;
+    let k = passing_blacks(n, d, t);
+    run(k * n + 1, d + 1, list, 0)
+}
+
+// 2 m, and 1 more where b.
+fn with_bit(m: u32, b: bool) -> u32
+    requires { ⌜ m < 65536 ⌝ }
+    ensures { λ r. ⌜ r ≡ 2 * m + one b ⌝ }
+{
+    if b {
+        return 2 * m + 1;
     }
-    let l = level - 1;
-    let w = layouts::size(l);
-    if acceptance::values::tile_bit(n, l, g, t) {
-        return tile_walk(n, g, l, day + w, t, list, at);
+    2 * m
+}
+
+// The passing chains of the tile that ends at g, whose values stand from place p on, as a number: its bit of weight
+// n / 2^i is 1 where c(i) passes.
+fn passing(n: u32, g: u32, p: u32, t: &[u8]) -> u32
+    requires { ⌜ Interval 2 n g (now t) × (p ≡ position 2 n (tile 0 g)) ⌝ }
+    ensures { λ r. ⌜ r ≡ number (tileBit n (now (t .entry)) g) (lg n) ⌝ }
+{
+    let k = layouts::lg(n);
+    let mut m = 0;
+    let mut i = 0;
+    while i < k {
+        i += 1;
+        let b = acceptance::values::mark(t, p + i);
+        m = with_bit(m, b);
     }
-    let b = tile_walk(n, g, l, day, t, list, at);
-    tile_walk(n, g, l, day + w, t, list, b)
+    m
+}
+
+// What stands from place at to before end once more, behind it, each number w greater.
+fn again(w: u32, at: usize, end: usize, list: &mut [u32]) -> usize
+    requires { ⌜ (at ≤ end) × (end + (end - at) ≤ length (now list)) ⌝ }
+    ensures { λ r. ⌜ Wrote end (map (later w) (take (end - at) (drop at (now (list .entry)))))
+        (now (list .entry)) r (now (list .exit)) ⌝ }
+{
+    let mut i = at;
+    let mut p = end;
+    while i < end {
+        let next = std::num::wrapping_add_u32(list[i], w);
+        list[p] = next;
+        i += 1;
+        p += 1;
+    }
+    p
+}
+
+// Of the 2^level days from a day on, those whose number from there has bits 1 where m has. The first is m on; for each
+// bit of m that is 0 what is written stands once more, its weight on.
+fn tile_walk(level: u32, day: u32, m: u32, list: &mut [u32], at: usize) -> usize
+    requires { ⌜ Tile level day m × (at + 2 ^ level ≤ length (now list)) ⌝ }
+    ensures { λ r. ⌜ Wrote at (tileDays (bitOf m) level day) (now (list .entry)) r (now (list .exit)) ⌝ }
+{
+    list[at] = day + m;
+    let mut end = at + 1;
+    let mut rest = m;
+    let mut w = 1;
+    let mut l = 0;
+    while l < level {
+        if rest % 2 == 0 {
+            end = again(w, at, end, list);
+        }
+        rest = rest / 2;
+        w = 2 * w;
+        l += 1;
+    }
+    end
 }
 
 // The interval that ends at g, under scheme 2.
@@ -65,54 +128,78 @@ fn tile_days(n: u32, g: u32, t: &[u8], list: &mut [u32], at: usize) -> usize
     ensures { λ r. ⌜ Wrote at (keep (isListed 2 n (now (t .entry))) (lastDays n g))
         (now (list .entry)) r (now (list .exit)) ⌝ }
 {
-    if acceptance::values::tile_passes(n, 0, g, t) {
+    let p = layouts::tile_at(n, 0, g);
+    if acceptance::values::mark(t, p) {
         return at;
     }
-    tile_walk(n, g, layouts::lg(n), g - n + 1, t, list, at)
+    let m = passing(n, g, p, t);
+    tile_walk(layouts::lg(n), g - n + 1, m, list, at)
 }
 
-fn interval_days(scheme: u32, n: u32, g: u32, t: &[u8], list: &mut [u32], at: usize) -> usize
-    requires { ⌜ Interval scheme n g (now t) × (at + n ≤ length (now list)) × (scheme ≤ 2) ⌝ }
-    ensures { λ r. ⌜ Wrote at (keep (isListed scheme n (now (t .entry))) (lastDays n g))
+// The intervals in turn.
+fn tiles_walk(n: u32, d: u32, t: &[u8], list: &mut [u32]) -> usize
+    requires { ⌜ Table 2 n d (now t) × (d ≤ length (now list)) ⌝ }
+    ensures { λ r. ⌜ Wrote 0 (keep (isListed 2 n (now (t .entry))) (days d))
         (now (list .entry)) r (now (list .exit)) ⌝ }
 {
-    if scheme == 1 {
-        return black_days(n, g, t, list, at);
-    }
-    tile_days(n, g, t, list, at)
-}
-
-fn interval_walk(scheme: u32, n: u32, d: u32, t: &[u8], list: &mut [u32]) -> usize
-    requires { ⌜ Table scheme n d (now t) × (d ≤ length (now list)) × (scheme ≤ 2) ⌝ }
-    ensures { λ r. ⌜ Wrote 0 (keep (isListed scheme n (now (t .entry))) (days d))
-        (now (list .entry)) r (now (list .exit)) ⌝ }
-{
-    let m = d / n;
+    let tiles = d / n;
     let mut k = 0;
     let mut at = 0;
-    while k < m {
+    while k < tiles {
         k += 1;
-        at = interval_days(scheme, n, k * n, t, list, at);
+        at = tile_days(n, k * n, t, list, at);
     }
     at
 }
 
-// The tree's chain of a level that ends at g: nothing if it passes; its day; else its left half, then its right.
-fn walk(n: u32, level: u32, g: u32, t: &[u8], list: &mut [u32], at: usize) -> usize
-    requires { ⌜ Chain n level g (now t) × (at + 2 ^ level ≤ length (now list)) ⌝ }
-    ensures { λ r. ⌜ Wrote at (treeDays n (now (t .entry)) level g) (now (list .entry)) r (now (list .exit)) ⌝ }
+// A day whose own chain, at place p, fails.
+fn day(n: u32, g: u32, p: u32, t: &[u8], list: &mut [u32], at: usize) -> usize
+    requires { ⌜ Chain n 0 g (now t) × (p ≡ position 3 n (tree 0 g)) × (at < length (now list)) ⌝ }
+    ensures { λ r. ⌜ Wrote at (treeDays n (now (t .entry)) 0 g) (now (list .entry)) r (now (list .exit)) ⌝ }
 {
-    if acceptance::values::tree_passes(n, level, g, t) {
+    if acceptance::values::mark(t, p) {
         return at;
     }
+    list[at] = g;
+    at + 1
+}
+
+// A chain of two days that ends at g, at place p: the days whose own chains fail, unless it passes.
+fn pair(n: u32, g: u32, p: u32, t: &[u8], list: &mut [u32], at: usize) -> usize
+    requires { ⌜ Chain n 1 g (now t) × (p ≡ position 3 n (tree 1 g)) × (at + 2 ≤ length (now list)) ⌝ }
+    ensures { λ r. ⌜ Wrote at (treeDays n (now (t .entry)) 1 g) (now (list .entry)) r (now (list .exit)) ⌝ }
+{
+    if acceptance::values::mark(t, p) {
+        return at;
+    }
+    let h = g - 1;
+    let b = day(n, h, layouts::tree_at(n, 0, h), t, list, at);
+    day(n, g, p - 1, t, list, b)
+}
+
+// The tree's chain of a level that ends at g, at place p: nothing if it passes; its day; else its left half, then its
+// right, which stands one place before it.
+fn walk(n: u32, level: u32, g: u32, p: u32, t: &[u8], list: &mut [u32], at: usize) -> usize
+    requires { ⌜ Chain n level g (now t) × (p ≡ position 3 n (tree level g)) × (at + 2 ^ level ≤ length (now list)) ⌝ }
+    ensures { λ r. ⌜ Wrote at (treeDays n (now (t .entry)) level g) (now (list .entry)) r (now (list .exit)) ⌝ }
+{
     if level == 0 {
-        list[at] = g;
-        return at + 1;
+        return day(n, g, p, t, list, at);
+    }
+    if acceptance::values::mark(t, p) {
+        return at;
     }
     let l = level - 1;
     let w = layouts::size(l);
-    let b = walk(n, l, g - w, t, list, at);
-    walk(n, l, g, t, list, b)
+    let h = g - w;
+    let left = layouts::tree_at(n, l, h);
+    let right = p - 1;
+    if l == 1 {
+        let b = pair(n, h, left, t, list, at);
+        return pair(n, g, right, t, list, b);
+    }
+    let b = walk(n, l, h, left, t, list, at);
+    walk(n, l, g, right, t, list, b)
 }
 
 // Of the maximal chains that make up the days 1 to d, the one of a level, if there is one.
@@ -126,7 +213,8 @@ fn top_days(n: u32, d: u32, level: u32, t: &[u8], list: &mut [u32], at: usize) -
     if k % 2 == 0 {
         return at;
     }
-    walk(n, level, k * w, t, list, at)
+    let g = k * w;
+    walk(n, level, g, layouts::tree_at(n, level, g), t, list, at)
 }
 
 // The maximal chains from left to right.
@@ -150,8 +238,11 @@ pub fn listed(scheme: u32, n: u32, d: u32, t: &[u8], list: &mut [u32]) -> usize
     ensures { λ r. ⌜ Wrote 0 (keep (isListed scheme n (now (t .entry))) (days d))
         (now (list .entry)) r (now (list .exit)) ⌝ }
 {
-    if scheme == 3 {
-        return tree_walk(n, d, t, list);
+    if scheme == 1 {
+        return black_days(n, d, t, list);
     }
-    interval_walk(scheme, n, d, t, list)
+    if scheme == 2 {
+        return tiles_walk(n, d, t, list);
+    }
+    tree_walk(n, d, t, list)
 }

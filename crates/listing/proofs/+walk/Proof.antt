@@ -1,17 +1,20 @@
 -- `listing::walk` meets its contract.
-use Rattle.buffers.proofs.Writes.{wrote-none, wrote-one}
-use Rattle.listing.proofs.Writes.{tree-none, tree-day, level-less, place-one, left-room, left-chain, right-chain, left-place, tree-right-place, tree-join}
+use Rattle.buffers.proofs.Writes.{wrote-none, wrote-as}
+use Rattle.acceptance.proofs.Steps.{tree-inside, passes-by, chain-has}
+use Rattle.listing.proofs.Writes.{tree-none, level-less, place-one, left-room, left-chain, right-chain, right-place, left-place, tree-right-place, tree-join, known-chain, known-place, known-room, known-days}
 use Rattle.listing.proofs.{+walk.statement, +walk.Tie.close}
 use borrow.{Author.Needs.needs, Fn.Kinds.In, Fn.PlainCycle.Measures, Fn.PlainCycle.is, Fn.PlainCycle.falls, Fn.PlainCycle.and}
-use lib.ListN.{length-set}
 use native.Mathlib.Omega.{arith}
 use Prim.Native.Nat.{ℕ, _<_}
 use mathlib.Core.Path.{_∙_}
 use Rattle.listing.proofs.walk.Reads as walk
 use Rattle.listing.proofs.walk.Kinds as walk-kinds
 use Rattle.listing.proofs.+walk.Lts-walk as walk-lts
+use Rattle.acceptance.proofs.values.mark.Reads as mark-reads
 use Rattle.layouts.proofs.size.Reads as size-reads
-use Rattle.acceptance.proofs.values.tree_passes.Reads as tree-passes-reads
+use Rattle.layouts.proofs.tree_at.Reads as tree-at-reads
+use Rattle.listing.proofs.day.Reads as day-reads
+use Rattle.listing.proofs.pair.Reads as pair-reads
 
 abbrev μ-walk : Measures 2 walk-kinds.ps ℕ
 μ-walk κs a = a .1 .0
@@ -24,28 +27,63 @@ walk-below t = and 2 walk-kinds.ps (falls 2 walk-kinds.ps _<_ μ-walk t) walk.Pr
 
 pub +walk-spec : {M : Type 1} → statement M
 +walk-spec = close μ-walk λ t. walk-lts.spec
-    (tree-passes-reads.Asked, tree-passes-reads.Learnt, size-reads.Asked, size-reads.Learnt, walk-below t, walk.Post)
-    (walk-at t) walk.Post (λ c κs. c .before .before .pre .1 .0)
-    (λ c. wrote-none _ _ _ (tree-none _ _ _ _ (c .before .tree-passes .ensures) (c .if1 .taken))) (λ c. search needs)
-    (λ c. place-one _ _ _ (c .before .before .before .before .before .pre .1 .1)) (λ c. search needs)
-    (λ c. let a = c .before .before .before .before .before .args in length-set (a .list .now) (a .at) (a .g))
-    (λ c. wrote-one _ _ _ _ (tree-day _ _ _ _ (c .before .before .tree-passes .ensures) (c .before .if1 .left) (c .if2 .taken))
-    (place-one _ _ _ (c .before .before .before .before .before .pre .1 .1)))
-    (λ c. omega (arith, c .if2 .left)) (λ c κs. omega (arith, c .before .before .before .before .before .pre .1 .0 .level))
-    (λ c. left-room (c .before .before .before .before .before .before .pre .1 .0) (c .before .if2 .left) (c .size .ensures))
-    (λ c κs. let b = c .before .before in let pre = b .before .before .before .before .before .pre in
-    (level-less _ _ (pre .0) (b .if2 .left), (left-chain (pre .1 .0) (b .if2 .left) (c .before .size .ensures), left-place _ _ _ (b .if2 .left) (pre .1 .1))))
-    (λ c κs. let b = c .before .before .before in
-    let d = b .before .before .before in
-    let pre = d .before .before .before .before .before .pre in (
-      level-less _ _ (pre .0) (d .if2 .left),
+    (day-reads.Asked, day-reads.Learnt, mark-reads.Asked, mark-reads.Learnt, size-reads.Asked, size-reads.Learnt, tree-at-reads.Asked, tree-at-reads.Learnt, pair-reads.Asked, pair-reads.Learnt, walk-below t, walk.Post)
+    (walk-at t) walk.Post
+    (λ c κs. let pre = c .before .before .before .before .pre .1 in
+    let o = c .before .if1 .taken in
+    (known-chain 0 (pre .0) o, known-place 0 (pre .0) (pre .1) o, place-one _ _ _ (pre .2)))
+    (λ c. search needs) (λ c. known-days 0 _ _ _ _ _ _ _ _ (c .before .before .before .before .if1 .taken) (c .before .before .day .ensures))
+    (λ c κs. let pre = c .before .before .before .pre .1 in tree-inside (pre .0) (pre .1))
+    (λ c. wrote-none _ _ _ (tree-none _ _ _ _ (passes-by 3 _ _ _ (c .before .before .before .before .before .pre .1 .1) (c .before .mark .ensures)) (c .if2 .taken)))
+    (λ c. omega (arith, c .before .before .if1 .left)) (λ c κs. omega (arith, c .before .before .before .before .before .pre .1 .0 .level))
+    (λ c. left-room (c .before .before .before .before .before .before .pre .1 .0) (c .before .before .before .if1 .left) (c .size .ensures))
+    (λ c κs. chain-has (left-chain (c .before .before .before .before .before .before .pre .1 .0) (c .before .before .before .if1 .left) (c .size .ensures)))
+    (λ c. let d = c .before .before .before .before in let pre = d .before .before .before .pre .1 in right-place (pre .0) (pre .1) (d .if1 .left) .0)
+    (λ c κs. let b = c .before in
+    let d = b .before .before .before .before .before in
+    let pre = d .before .before .before .pre .1 in
+    let q = left-chain (pre .0) (d .if1 .left) (b .before .before .size .ensures) in (
+      known-chain 1 q (b .if3 .taken),
+      known-place 1 q (b .before .tree-at .ensures) (b .if3 .taken),
+      known-room 1 _ _ _ (left-place _ _ _ (d .if1 .left) (pre .2)) (b .if3 .taken),
+    ))
+    (λ c κs. let b = c .before .before .before .before .before in
+    let d = b .before .before .before .before .before in
+    let pre = d .before .before .before .pre .1 in
+    let q = right-chain (pre .0) (d .if1 .left) (b .before .before .size .ensures) in
+    let w = c .before .before .before .pair in (
+      known-chain 1 q (b .if3 .taken),
+      known-place 1 q (right-place (pre .0) (pre .1) (d .if1 .left) .1) (b .if3 .taken),
+      known-room 1 _ _ _ (tree-right-place _ _ _ _ _ _ _ _ _ (d .if1 .left) (pre .2) (known-days 1 _ _ _ _ _ _ _ _ (b .if3 .taken) (w .ensures)) (w .kept .1 .1 .1 .1 .0)) (b .if3 .taken),
+    ))
+    (λ c. c .before .before .pair2 .kept .1 .1 .1 .1 .0 ∙ c .before .before .before .before .before .before .pair .kept .1 .1 .1 .1 .0)
+    (λ c. let e = c .before .before .before .before .before .before in
+    let b = e .before .before in
+    let d = b .before .before .before .before .before in
+    let pre = d .before .before .before .pre .1 in
+    tree-join _ _ _ _ _ _ _ _ _ _ _ (passes-by 3 _ _ _ (pre .1) (b .before .before .before .before .mark .ensures)) (b .before .before .before .if2 .left) (d .if1 .left)
+    (b .before .before .size .ensures) (pre .2) (known-days 1 _ _ _ _ _ _ _ _ (b .if3 .taken) (e .pair .ensures)) (known-days 1 _ _ _ _ _ _ _ _ (b .if3 .taken) (c .before .before .pair2 .ensures)))
+    (λ c κs. let b = c .before in
+    let d = b .before .before .before .before .before in
+    let pre = d .before .before .before .pre in (
+      level-less _ _ (pre .0) (d .if1 .left),
+      (left-chain (pre .1 .0) (d .if1 .left) (b .before .before .size .ensures), b .before .tree-at .ensures, left-place _ _ _ (d .if1 .left) (pre .1 .2)),
+    ))
+    (λ c κs. let b = c .before .before .before .before .before in
+    let d = b .before .before .before .before .before in
+    let pre = d .before .before .before .pre in
+    let w = c .before .before .before .walk in (
+      level-less _ _ (pre .0) (d .if1 .left),
       (
-        right-chain (pre .1 .0) (d .if2 .left) (b .before .before .size .ensures),
-        tree-right-place _ _ _ _ _ _ _ _ _ (d .if2 .left) (pre .1 .1) (b .walk .ensures) (b .walk .kept .1 .1 .1 .1 .0),
+        right-chain (pre .1 .0) (d .if1 .left) (b .before .before .size .ensures),
+        right-place (pre .1 .0) (pre .1 .1) (d .if1 .left) .1,
+        tree-right-place _ _ _ _ _ _ _ _ _ (d .if1 .left) (pre .1 .2) (w .ensures) (w .kept .1 .1 .1 .1 .1 .0),
       ),
     ))
-    (λ c. c .before .before .walk2 .kept .1 .1 .1 .1 .0 ∙ c .before .before .before .before .before .before .walk .kept .1 .1 .1 .1 .0)
-    (λ c. let b = c .before .before .before .before .before .before in
-    let d = b .before .before .before in
-    tree-join _ _ _ _ _ _ _ _ _ _ _ (d .before .before .tree-passes .ensures) (d .before .if1 .left) (d .if2 .left) (b .before .before .size .ensures)
-    (d .before .before .before .before .before .pre .1 .1) (b .walk .ensures) (c .before .before .walk2 .ensures))
+    (λ c. c .before .before .walk2 .kept .1 .1 .1 .1 .1 .0 ∙ c .before .before .before .before .before .before .walk .kept .1 .1 .1 .1 .1 .0)
+    (λ c. let e = c .before .before .before .before .before .before in
+    let b = e .before .before in
+    let d = b .before .before .before .before .before in
+    let pre = d .before .before .before .pre .1 in
+    tree-join _ _ _ _ _ _ _ _ _ _ _ (passes-by 3 _ _ _ (pre .1) (b .before .before .before .before .mark .ensures)) (b .before .before .before .if2 .left) (d .if1 .left)
+    (b .before .before .size .ensures) (pre .2) (e .walk .ensures) (c .before .before .walk2 .ensures))
