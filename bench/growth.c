@@ -18,7 +18,7 @@ static void print_row(uint32_t scheme, const char *call, const double *least, co
   for (int i = 0; i < SIZES; i++)
     printf(" %.2f |", least[i] / sizes[i] / (least[0] / sizes[0]));
   printf("\n");
-  target_at_most(text, least[SIZES - 1] / sizes[SIZES - 1] / (least[0] / sizes[0]), 1.1);
+  target_at_most(text, least[SIZES - 1] / sizes[SIZES - 1] / (least[0] / sizes[0]), 1.3);
 }
 
 /* Runs in a turn, so that turns have about the same length. */
