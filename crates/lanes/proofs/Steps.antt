@@ -1,17 +1,17 @@
 -- The schedules and the rounds of all lanes, up to a block's compression in each.
 -- Assumes nothing.
-use Prim.Native.Nat.{ℕ, suc, _+_, _-_, _*_, _/_, _%_, _≤_, _<_}
+use Prim.Native.Nat.{ℕ, zero, suc, _+_, _-_, _*_, _/_, _%_, _≤_, _<_}
 use mathlib.Core.{Path._≡_, Path.refl, Path.sym, Path.ap, Path.ap₂, Path._∙_, List.List, List.[], List._∷_, List._++_, Logic.⊎-elim}
-use native.Mathlib.{Omega.arith, Nat.eq-or-lt-of-le, Nat.le-of-suc-le-suc}
+use native.Mathlib.{Omega.arith, Nat.eq-or-lt-of-le, Nat.le-of-suc-le-suc, Nat.add-zero, Nat.add-suc}
 use borrow.Author.Tests.{lt-ltb, le-ltb}
-use lib.ListN.{length, getD, length-append, List·getD-append}
-use lib.Seq.{getD-take, take-all, getD-at}
+use lib.ListN.{length, getD, drop, length-append, List·getD-append}
+use lib.Seq.{getD-take, getD-drop, take-all, getD-at}
 use Rattle.sha256_words.specs.Words.{kTable}
 use Rattle.sha256.specs.Sha256.{later, scheduled, grown, schedule, round, rounds, summed, compress}
 use Rattle.sha256.specs.Private.{mixed, roundsOn}
 use Rattle.sha256.proofs.Steps.{length-schedule, begins, before, recurs}
 use Rattle.lanes.specs.Lanes.{lane, placeOf, laneAfter, compressed, laneAfterSame, compressedSame}
-use Rattle.lanes.specs.Private.{puts, fills, Lanes, fourRows, fourFrom, fourOn, sumOf, scheduleOf, always, workedBy}
+use Rattle.lanes.specs.Private.{puts, fills, Lanes, onLane, fourOn, sumOf, scheduleOf, always, workedBy}
 use Rattle.lanes.proofs.LaneLaws.{length-lane, at-lane, at-place, lane-same, by-lanes, fills-in, fills-before, Through, through-next}
 
 -- ---- the schedules: the words below place p are theirs
@@ -106,47 +106,36 @@ same-all m w i h a b e = let q : i ≡ 64 = omega arith in record { size = e; ea
 
 -- ---- the rounds, four at a time
 
-pub four-of : (v w k : List ℕ) {v1 v2 v3 v4 : List ℕ}
-    → v1 ≡ round v (getD k 0 0) (getD w 0 0)
-    → v2 ≡ round v1 (getD k 1 0) (getD w 1 0)
-    → v3 ≡ round v2 (getD k 2 0) (getD w 2 0)
-    → v4 ≡ round v3 (getD k 3 0) (getD w 3 0)
-    → v4 ≡ roundsOn v w k 0 4
-unfolding roundsOn
-four-of v w k e1 e2 e3 e4 =
-    e4
-    ∙ ap (λ (u : List ℕ). round u (getD k 3 0) (getD w 3 0)) (e3
-    ∙ ap (λ (u : List ℕ). round u (getD k 2 0) (getD w 2 0)) (e2
-    ∙ ap (λ (u : List ℕ). round u (getD k 1 0) (getD w 1 0)) e1))
+pub on-none : (w k : List ℕ) (t : ℕ) (v : List ℕ) (j : ℕ) → v ≡ onLane w k t 0 v j
+unfolding onLane roundsOn
+on-none w k t v j = refl
 
-pub rounds-turn : (w k : List ℕ) (t j : ℕ) (s r : List ℕ) {v m u q : List ℕ} → Through 8 (fourOn w k t s) j s r → v ≡ lane 8 r j → m ≡ fourRows w (t * 16 + j)
-    → u ≡ roundsOn v m k 0 4 → q ≡ puts 8 r j u → length u ≡ 8 → j < 16 → Through 8 (fourOn w k t s) (j + 1) s q
+pub on-next : (w k : List ℕ) (t i : ℕ) (v : List ℕ) (j : ℕ) {r u : List ℕ} → r ≡ onLane w k t i v j
+    → u ≡ round r (getD k (t + i) 0) (getD w ((t + i) * 16 + j) 0) → t + i < 64 → u ≡ onLane w k t (i + 1) v j
+unfolding onLane roundsOn
+on-next w k t i v j e eu l =
+    let q : i + 1 ≡ suc i = omega arith in
+    eu ∙ rw (q, getD-drop t (lane 64 w j) i 0, at-lane 64 w j (t + i) l) (ap (λ (x : List ℕ). round x (getD k (t + i) 0) (getD w ((t + i) * 16 + j) 0)) e)
+
+pub on-all : (n : ℕ) (w k : List ℕ) (t i : ℕ) (v : List ℕ) (j : ℕ) {r : List ℕ} → r ≡ onLane w k t i v j → i ≤ n → n ≤ i → r ≡ onLane w k t n v j
+on-all n w k t i v j e a b = let q : i ≡ n = omega arith in rw q at e
+
+pub rounds-turn : (w k : List ℕ) (t j : ℕ) (s r : List ℕ) {v u q : List ℕ} → Through 8 (fourOn w k t s) j s r → v ≡ lane 8 r j → u ≡ onLane w k t 4 v j
+    → q ≡ puts 8 r j u → length u ≡ 8 → j < 16 → Through 8 (fourOn w k t s) (j + 1) s q
 unfolding fourOn
-rounds-turn w k t j s r b ev em eu eq l h = through-next 8 (fourOn w k t s) j s r _ b eq
-    (eu ∙ ap₂ (λ (x y : List ℕ). roundsOn x y k 0 4) (ev ∙ b .kept j (omega arith) h) em) l h
+rounds-turn w k t j s r b ev eu eq l h = through-next 8 (fourOn w k t s) j s r _ b eq
+    (eu ∙ ap (λ (x : List ℕ). onLane w k t 4 x j) (ev ∙ b .kept j (omega arith) h)) l h
 
 pub sum-turn : (a : List ℕ) (j : ℕ) (s r : List ℕ) {g v u q : List ℕ} → Through 8 (sumOf a s) j s r → g ≡ lane 8 a j → v ≡ lane 8 r j → u ≡ summed g v
     → q ≡ puts 8 r j u → length u ≡ 8 → j < 16 → Through 8 (sumOf a s) (j + 1) s q
 unfolding sumOf
 sum-turn a j s r b eg ev eu eq l h = through-next 8 (sumOf a s) j s r _ b eq (eu ∙ ap₂ summed eg (ev ∙ b .kept j (omega arith) h)) l h
 
--- the words of a lane of the schedules, as the standard counts them
-rows-four : (w : List ℕ) (t j : ℕ) → t + 4 ≤ 64 → fourRows w (t * 16 + j) ≡ fourFrom (lane 64 w j) t
-unfolding fourRows fourFrom
-rows-four w t j l =
-    let a : t * 16 + j + 16 ≡ (t + 1) * 16 + j = omega arith in
-    let b : t * 16 + j + 32 ≡ (t + 2) * 16 + j = omega arith in
-    let c : t * 16 + j + 48 ≡ (t + 3) * 16 + j = omega arith in
-    rw (a, b, c, at-lane 64 w j t (omega arith), at-lane 64 w j (t + 1) (omega arith), at-lane 64 w j (t + 2) (omega arith), at-lane 64 w j (t + 3) (omega arith))
-
-four-more : (h w : List ℕ) (t : ℕ) → roundsOn (rounds h w t) (fourFrom w t) (fourFrom kTable t) 0 4 ≡ rounds h w (t + 4)
-unfolding roundsOn rounds fourFrom
-four-more h w t =
-    let a : t + 1 ≡ suc t = omega arith in
-    let b : t + 2 ≡ suc (suc t) = omega arith in
-    let c : t + 3 ≡ suc (suc (suc t)) = omega arith in
-    let d : t + 4 ≡ suc (suc (suc (suc t))) = omega arith in
-    rw (a, b, c, d)
+rounds-on : (h w : List ℕ) (t n : ℕ) → roundsOn (rounds h w t) (drop t w) kTable t n ≡ rounds h w (t + n)
+unfolding roundsOn rounds
+rounds-on h w t zero = rw add-zero
+rounds-on h w t (suc n) =
+    rw (add-suc, getD-drop t w n 0) (ap (λ (v : List ℕ). round v (getD kTable (t + n) 0) (getD w (t + n) 0)) (rounds-on h w t n))
 
 -- what holds before round t, for the hash values s and the schedules w
 pub record Before (s w : List ℕ) (t : ℕ) (v : List ℕ) : Type 0 where
@@ -159,17 +148,14 @@ pub before-first : (s w : List ℕ) → length s ≡ 128 → Before s w 0 s
 unfolding rounds
 before-first s w e = record { within = omega arith; fours = refl; size = e; value = λ j l. refl }
 
-pub before-next : (s w : List ℕ) (t : ℕ) {v k c u : List ℕ} → Before s w t v → t < 64 → k ≡ kTable → c ≡ fourFrom k t → Lanes 8 (fourOn w c t v) u
-    → Before s w (t + 4) u
-unfolding fourOn
-before-next s w t b l ek ec lu =
+pub before-next : (s w : List ℕ) (t : ℕ) {v k u : List ℕ} → Before s w t v → t < 64 → k ≡ kTable → Lanes 8 (fourOn w k t v) u → Before s w (t + 4) u
+unfolding fourOn onLane
+before-next s w t b l ek lu =
     record {
       within = let f = b .fours in omega arith;
       fours = let f = b .fours in omega arith;
       size = lu .size;
-      value = λ j h.
-          let p : t + 4 ≤ 64 = let f = b .fours in omega arith in
-          lu .each j h ∙ rw (b .value j h, rows-four w t j p, ec, ek) (four-more (lane 8 s j) (lane 64 w j) t);
+      value = λ j h. lu .each j h ∙ rw (b .value j h, ek) (rounds-on (lane 8 s j) (lane 64 w j) t 4);
     }
 
 pub worked-by : (s w : List ℕ) (t : ℕ) (v : List ℕ) {r : List ℕ} → Before s w t v → 64 ≤ t → Lanes 8 (sumOf s v) r → Lanes 8 (workedBy s w) r

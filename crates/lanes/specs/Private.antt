@@ -1,8 +1,8 @@
 -- The form of the code: a lane written, four rounds at a time. Definitions only.
 use Prim.Native.Nat.{ℕ, zero, suc, _+_, _*_, _<_}
 use mathlib.Core.Path.{_≡_}
-use mathlib.Core.List.{List, [], _∷_}
-use lib.ListN.{length, getD, set}
+use mathlib.Core.List.{List}
+use lib.ListN.{length, getD, drop, set}
 use Rattle.sha256.specs.Sha256.{schedule, rounds, summed}
 use Rattle.sha256.specs.Private.{roundsOn}
 use Rattle.lanes.specs.Lanes.{lane}
@@ -22,16 +22,12 @@ pub record Lanes (n : ℕ) (f : ℕ → List ℕ) (l : List ℕ) : Type 0 where
   pub size : length l ≡ n * 16
   pub each : (j : ℕ) → j < 16 → lane n l j ≡ f j
 
--- four words of a lane from place a on; four elements of k from t on
-unfoldable pub fourRows : List ℕ → ℕ → List ℕ
-fourRows w a = getD w a 0 ∷ getD w (a + 16) 0 ∷ getD w (a + 32) 0 ∷ getD w (a + 48) 0 ∷ []
+-- n rounds from round t on, from v, with the schedule in lane j of w and the constants k; and four in lane j of s
+unfoldable pub onLane : List ℕ → List ℕ → ℕ → ℕ → List ℕ → ℕ → List ℕ
+onLane w k t n v j = roundsOn v (drop t (lane 64 w j)) k t n
 
-unfoldable pub fourFrom : List ℕ → ℕ → List ℕ
-fourFrom k t = getD k t 0 ∷ getD k (t + 1) 0 ∷ getD k (t + 2) 0 ∷ getD k (t + 3) 0 ∷ []
-
--- lane j of s after four rounds, from round t on, with the schedules in the lanes of w and the constants k
 unfoldable pub fourOn : List ℕ → List ℕ → ℕ → List ℕ → ℕ → List ℕ
-fourOn w k t s j = roundsOn (lane 8 s j) (fourRows w (t * 16 + j)) k 0 4
+fourOn w k t s j = onLane w k t 4 (lane 8 s j) j
 
 unfoldable pub sumOf : List ℕ → List ℕ → ℕ → List ℕ
 sumOf h s j = summed (lane 8 h j) (lane 8 s j)

@@ -4,7 +4,6 @@ ghost use mathlib.Core.Path.{_≡_};
 ghost use Prim.Native.Nat.{ℕ, _+_, _*_, _≤_, _<_};
 ghost use lib.ListN.{length, getD};
 ghost use Rattle.sha256.specs.Sha256.{scheduled, schedule};
-ghost use Rattle.sha256.specs.Private.{roundsOn};
 ghost use Rattle.lanes.specs.Lanes as spec;
 ghost use Rattle.lanes.specs.Lanes.{lane};
 ghost use Rattle.lanes.specs.Private as form;
@@ -47,43 +46,32 @@ pub fn put_block(w: &mut [u32; 256], j: usize, m: [u32; 16])
     }
 }
 
-// Four words of a lane, from place a on.
-fn four_words(w: &[u32; 1024], a: usize) -> [u32; 4]
-    requires { ⌜ a + 48 < 1024 ⌝ }
-    ensures { λ r. ⌜ r ≡ form.fourRows (now (w .entry)) a ⌝ }
+// Four rounds in lane j, from round t on, with the schedules w and the constants k. It is called in one place, so that
+// the compiler puts it there: a call in the loop over the lanes would keep that loop from becoming vector code. More
+// rounds in a turn are no faster.
+fn four_rounds(v: [u32; 8], w: &[u32; 1024], k: &[u32; 64], t: usize, j: usize) -> [u32; 8]
+    requires { ⌜ (t + 4 ≤ 64) × (j < 16) ⌝ }
+    ensures { λ r. ⌜ r ≡ form.onLane (now (w .entry)) (now (k .entry)) t 4 v j ⌝ }
 {
-    [w[a], w[a + 16], w[a + 32], w[a + 48]]
+    let mut r = v;
+    let mut i = 0usize;
+    while i < 4 {
+        let u = sha256::round(r, k[t + i], w[(t + i) * 16 + j]);
+        r = u;
+        i += 1;
+    }
+    r
 }
 
-// The constants of four rounds, from round t on.
-fn four_constants(k: &[u32; 64], t: usize) -> [u32; 4]
-    requires { ⌜ t + 4 ≤ 64 ⌝ }
-    ensures { λ r. ⌜ r ≡ form.fourFrom (now (k .entry)) t ⌝ }
-{
-    [k[t], k[t + 1], k[t + 2], k[t + 3]]
-}
-
-// Four rounds in one lane. It is called in one place, so that the compiler puts it there: a call in the loop over the
-// lanes would keep that loop from becoming vector code. More rounds in a turn are no faster.
-fn four_rounds(v: [u32; 8], w: [u32; 4], k: [u32; 4]) -> [u32; 8]
-    ensures { λ r. ⌜ r ≡ roundsOn v w k 0 4 ⌝ }
-{
-    let v1 = sha256::round(v, k[0], w[0]);
-    let v2 = sha256::round(v1, k[1], w[1]);
-    let v3 = sha256::round(v2, k[2], w[2]);
-    sha256::round(v3, k[3], w[3])
-}
-
-// Four rounds in every lane, from round t on, with the schedules w and the constants k.
-fn rounds(s: &mut [u32; 128], w: &[u32; 1024], k: [u32; 4], t: usize)
+// Four rounds in every lane.
+fn rounds(s: &mut [u32; 128], w: &[u32; 1024], k: &[u32; 64], t: usize)
     requires { ⌜ (t + 4 ≤ 64) × (length (now s) ≡ 128) ⌝ }
-    ensures { λ r. ⌜ form.Lanes 8 (form.fourOn (now (w .entry)) k t (now (s .entry))) (now (s .exit)) ⌝ }
+    ensures { λ r. ⌜ form.Lanes 8 (form.fourOn (now (w .entry)) (now (k .entry)) t (now (s .entry))) (now (s .exit)) ⌝ }
 {
     let mut j = 0usize;
     while j < 16 {
         let v = state(s, j);
-        let m = four_words(w, t * 16 + j);
-        let u = four_rounds(v, m, k);
+        let u = four_rounds(v, w, k, t, j);
         put_state(s, j, u);
         j += 1;
     }
@@ -176,8 +164,7 @@ fn worked(s: [u32; 128], w: [u32; 1024]) -> [u32; 128]
     let mut v = s;
     let mut t = 0usize;
     while t < 64 {
-        let c = four_constants(&k, t);
-        rounds(&mut v, &w, c, t);
+        rounds(&mut v, &w, &k, t);
         t += 4;
     }
     summed(&mut v, &s);

@@ -15,12 +15,10 @@ abbrev μ-loop : tie.MeasureT-loop
 
 pub rounds-spec : {M : Type 1} → statement M
 rounds-spec = tie.close (tie.spec Inv-loop μ-loop (λ c. (search needs, through-none 8 _ _ (c .pre .1)))
-    (λ c κs. search needs) (λ c. search needs) (λ c. search needs) (λ c κs. search needs) (λ c κs. search needs)
-    (λ c κs. search needs) (λ c. search needs) (λ c. search needs)
+    (λ c κs. search needs) (λ c κs. search needs) (λ c κs. search needs) (λ c. search needs) (λ c. search needs)
     (λ c. (
       search needs,
-      let d = c .before .before in let l = d .before .before .before .before .before .loop in rounds-turn _ _ _
-          (l .j) _ (l .s) (l .inv .1) (d .before .before .state .ensures) (d .before .four-words .ensures) (d .four-rounds .ensures)
-          (c .put-state .ensures) (search needs) (search needs),
+      let d = c .before .before in let l = d .before .before .before .before .loop in rounds-turn _ _ _ (l .j) _
+          (l .s) (l .inv .1) (d .before .state .ensures) (d .four-rounds .ensures) (c .put-state .ensures) (search needs) (search needs),
     ))
     (λ c. through-all 8 _ (c .before .loop .j) _ _ (c .before .loop .inv .1) (search needs)))

@@ -14,10 +14,9 @@ abbrev μ-loop : tie.MeasureT-loop
 
 pub worked-spec : {M : Type 1} → statement M
 worked-spec = tie.close (tie.spec Inv-loop μ-loop (λ c κs. search needs) (λ c. before-first _ _ (search needs))
-    (λ c κs. let f = c .before .before .loop .inv .fours in omega arith)
-    (λ c κs. let l = c .before .before .before .before .before .loop in (let f = l .inv .fours in omega arith, l .inv .size))
+    (λ c κs. let l = c .before .before .before .before .loop in (let f = l .inv .fours in omega arith, l .inv .size))
     (λ c. search needs) (λ c. search needs)
-    (λ c. let a = c .before .before .before .before .before .before in before-next _ _ _ (a .loop .inv) (search needs)
-    (a .before .table .ensures) (c .before .before .before .four-constants .ensures) (c .rounds .ensures))
+    (λ c. let a = c .before .before .before .before .before in before-next _ _ _ (a .loop .inv) (search needs)
+    (a .before .table .ensures) (c .rounds .ensures))
     (λ c κs. c .before .before .before .loop .inv .size)
     (λ c. let a = c .before .before .before .before in worked-by _ _ (a .loop .t) (a .loop .v) (a .loop .inv) (search needs) (c .summed .ensures)))
