@@ -11,8 +11,8 @@ use Rattle.layouts.specs.Layouts.{divides, allowedScheme, allowedN, lg, Name, b
 use Rattle.layouts.specs.Private.{position}
 use Rattle.layouts.proofs.{AllowedLaws.allowed-n-is, AllowedLaws.allowed-scheme-is, Coverage.divisor-le, Coverage.chains-front}
 use Rattle.layouts.proofs.Positions.{divides-half}
-use Rattle.acceptance.specs.Private.{Table, Has, Interval, Chain, passes}
-use Rattle.acceptance.proofs.{BlackLaws.black-position, Runs.divides-multiple, Given.half-point, Listed.block-number}
+use Rattle.acceptance.specs.Private.{Table, Has, Interval, Chain, passes, prior}
+use Rattle.acceptance.proofs.{BlackLaws.black-position, Runs.divides-multiple, Given.half-point, Given.prior-first, Given.prior-next, Listed.block-number}
 use Rattle.acceptance.proofs.Lookup.{position-bound, tile-named, tree-named}
 
 -- ---- values in range
@@ -28,17 +28,17 @@ has-earlier {s} {n} {g} {t} e h p l =
 pub table-has : {s n d : ℕ} {t : List ℕ} → Table s n d t → Has s n d t
 table-has T = record { scheme-ok = T .scheme-ok; n-ok = T .n-ok; some = T .some; most = T .most; size = omega (arith, T .size) }
 
+pub interval-room : {s n g : ℕ} {t : List ℕ} → Interval s n g t → n ≤ g
+interval-room {s} {n} {g} h = divisor-le n g (h .has .some) (h .whole)
+
 pub interval-black : {s n g : ℕ} {t : List ℕ} → Interval s n g t → (allowedScheme s ≡ true) × (allowedN n ≡ true) × (1 ≤ g) × (g ≤ 65536) × (n ≤ g)
-interval-black {s} {n} {g} h = (h .has .scheme-ok, h .has .n-ok, h .has .some, h .has .most, divisor-le n g (h .has .some) (h .whole))
+interval-black h = (h .has .scheme-ok, h .has .n-ok, h .has .some, h .has .most, interval-room h)
 
 pub black-inside : {s n g p : ℕ} {t : List ℕ} → Interval s n g t → p ≡ position s n (black g) → p < length t
 black-inside {s} {n} {g} h e =
     let a = allowed-scheme-is s (h .has .scheme-ok) in
     let b = black-position s n g g (a .0) (a .1) (h .has .some) (omega arith) (h .whole) in
     omega (arith, b .0, h .has .size)
-
-pub interval-tile : {n g : ℕ} {t : List ℕ} → Interval 2 n g t → (allowedN n ≡ true) × (1 ≤ g) × (g ≤ 65536) × (0 ≤ 8)
-interval-tile h = (h .has .n-ok, h .has .some, h .has .most, omega arith)
 
 pub tile-inside : {n g i p : ℕ} {t : List ℕ} → Interval 2 n g t → i ≤ lg n → p ≡ position 2 n (tile i g) → p < length t
 tile-inside {n} {g} {i} h l e =
@@ -61,12 +61,14 @@ interval-number {s} {n} {g} h =
     let w = allowed-n-is n (h .has .n-ok) in
     block-number n g g (w .some) (record { some = h .has .some; most = omega arith; whole = h .whole })
 
-pub interval-before : {s n g : ℕ} {t : List ℕ} → Interval s n g t → n < g → Interval s n (g - n) t
-interval-before {s} {n} {g} h l =
-    let e = interval-number h in
-    let q = suc-mul (pred (g / n)) n in
-    let f : g - n ≡ pred (g / n) * n = omega arith in
-    record { has = has-earlier (g - n) (h .has) (omega arith) (omega arith); whole = rw f (divides-multiple (pred (g / n)) n (allowed-n-is n (h .has .n-ok) .some)) }
+-- before the first interval, and after each
+pub prior-none : (s n : ℕ) (t : List ℕ) → true ≡ prior s n t ((0 + 1) * n)
+prior-none s n t = sym (prior-first s n t)
+
+pub prior-turn : (s n k : ℕ) (t : List ℕ) {b : Bool} → 1 ≤ n → b ≡ passes s n t (black ((k + 1) * n)) → b ≡ prior s n t ((k + 1 + 1) * n)
+prior-turn s n k t p e =
+    let q : k + 1 + 1 ≡ suc (suc k) = omega arith in
+    rw q (rw add-one at e ∙ sym (prior-next s n k t p))
 
 -- ---- chains
 

@@ -4,13 +4,12 @@ pub mod values;
 ghost use mathlib.Core.Path.{_≡_};
 ghost use mathlib.Core.Bool.{not, _&&_, _||_};
 ghost use Prim.Native.Nat.{suc, _-_, _≤_, _<_};
-ghost use lib.ListN.{length};
 ghost use Rattle.lists.specs.Lists.{upFrom, every};
 ghost use Rattle.layouts.specs.Layouts as layout;
-ghost use Rattle.layouts.specs.Layouts.{tile, tree, chains};
+ghost use Rattle.layouts.specs.Layouts.{black, tile, tree};
 ghost use Rattle.layouts.specs.Private.{position};
 ghost use Rattle.acceptance.specs.Private as rule;
-ghost use Rattle.acceptance.specs.Private.{Table, Has, Interval, tileRule, blockRule};
+ghost use Rattle.acceptance.specs.Private.{Table, Has, Interval, passes, tileRule, blockRule};
 ghost use Rattle.acceptance.specs.Private.{LastFailed, DayRules, levelsRule, blocksRule};
 
 fn implies(a: bool, b: bool) -> bool
@@ -40,28 +39,6 @@ fn alike(a: bool, b: bool) -> bool
     !b
 }
 
-// Whether black of the interval before passes, or there is none. The values before the interval end at place p.
-fn prior(scheme: u32, n: u32, g: u32, p: u32, t: &[u8]) -> bool
-    requires { ⌜ Interval scheme n g (now t) × (p ≡ length (chains scheme n (g - n))) ⌝ }
-    ensures { λ r. ⌜ r ≡ rule.prior scheme n (now (t .entry)) g ⌝ }
-{
-    if g <= n {
-        return true;
-    }
-    values::mark(t, p - 1)
-}
-
-// Black of scheme 1 stands at the place behind the black before it.
-fn black_falls(n: u32, g: u32, t: &[u8]) -> bool
-    requires { ⌜ Interval 1 n g (now t) ⌝ }
-    ensures { λ r. ⌜ r ≡ blockRule 1 n (now (t .entry)) g ⌝ }
-{
-    let at = layouts::values_through(1, n, g - n);
-    let b = values::mark(t, at);
-    let p = prior(1, n, g, at, t);
-    implies(b, p)
-}
-
 // Where c(0), which stands at place p, passes, so do c(1) to c(lg n), which stand behind it.
 fn tile_rules(n: u32, g: u32, p: u32, t: &[u8]) -> bool
     requires { ⌜ Interval 2 n g (now t) × (p ≡ position 2 n (tile 0 g)) ⌝ }
@@ -81,56 +58,59 @@ fn tile_rules(n: u32, g: u32, p: u32, t: &[u8]) -> bool
     true
 }
 
-// The values of an interval stand one behind another: c(0) to c(lg n), then black.
-fn tile_block(n: u32, g: u32, t: &[u8]) -> bool
-    requires { ⌜ Interval 2 n g (now t) ⌝ }
+// The interval that ends at g under scheme 2: o is the outcome of the black before it, b of its own.
+fn tile_block(n: u32, g: u32, o: bool, b: bool, t: &[u8]) -> bool
+    requires { ⌜ Interval 2 n g (now t) × (o ≡ rule.prior 2 n (now t) g) × (b ≡ passes 2 n (now t) (black g)) ⌝ }
     ensures { λ r. ⌜ r ≡ blockRule 2 n (now (t .entry)) g ⌝ }
 {
-    let at = layouts::tile_at(n, 0, g);
-    let b = values::mark(t, at + layouts::lg(n) + 1);
-    let p = prior(2, n, g, at, t);
-    let c = values::mark(t, at);
-    let w = both(p, c);
+    let p = layouts::tile_at(n, 0, g);
+    let c = values::mark(t, p);
+    let w = both(o, c);
     let a = alike(b, w);
-    let e = tile_rules(n, g, at, t);
+    let e = tile_rules(n, g, p, t);
     both(a, e)
 }
 
-fn tree_block(n: u32, g: u32, t: &[u8]) -> bool
-    requires { ⌜ Interval 3 n g (now t) ⌝ }
+// Under scheme 3.
+fn tree_block(n: u32, g: u32, o: bool, b: bool, t: &[u8]) -> bool
+    requires { ⌜ Interval 3 n g (now t) × (o ≡ rule.prior 3 n (now t) g) × (b ≡ passes 3 n (now t) (black g)) ⌝ }
     ensures { λ r. ⌜ r ≡ blockRule 3 n (now (t .entry)) g ⌝ }
 {
-    let b = values::black_passes(3, n, g, t);
-    let p = prior(3, n, g, layouts::values_through(3, n, g - n), t);
     let c = values::tree_passes(n, layouts::lg(n), g, t);
-    let w = both(p, c);
+    let w = both(o, c);
     alike(b, w)
 }
 
-fn block_rule(scheme: u32, n: u32, g: u32, t: &[u8]) -> bool
-    requires { ⌜ Interval scheme n g (now t) ⌝ }
+fn block_rule(scheme: u32, n: u32, g: u32, o: bool, b: bool, t: &[u8]) -> bool
+    requires { ⌜ Interval scheme n g (now t) × (o ≡ rule.prior scheme n (now t) g)
+        × (b ≡ passes scheme n (now t) (black g)) ⌝ }
     ensures { λ r. ⌜ r ≡ blockRule scheme n (now (t .entry)) g ⌝ }
 {
     if scheme == 1 {
-        return black_falls(n, g, t);
+        return implies(b, o);
     }
     if scheme == 2 {
-        return tile_block(n, g, t);
+        return tile_block(n, g, o, b, t);
     }
-    tree_block(n, g, t)
+    tree_block(n, g, o, b, t)
 }
 
+// The intervals in turn, with the outcome of the black before.
 fn block_rules(scheme: u32, n: u32, d: u32, t: &[u8]) -> bool
     requires { ⌜ Table scheme n d (now t) ⌝ }
     ensures { λ r. ⌜ r ≡ blocksRule scheme n d (now (t .entry)) ⌝ }
 {
     let m = d / n;
     let mut k = 0;
+    let mut o = true;
     while k < m {
         k += 1;
-        if !block_rule(scheme, n, k * n, t) {
+        let g = k * n;
+        let b = values::black_passes(scheme, n, g, t);
+        if !block_rule(scheme, n, g, o, b, t) {
             return false;
         }
+        o = b;
     }
     true
 }

@@ -12,7 +12,7 @@ use Rattle.layouts.proofs.AllowedLaws.{allowed-n-is}
 use Rattle.acceptance.specs.Private.{Table, Interval, Chain, passes, levelsRule, rules, blocksRule, tileBit, number, isListed}
 use Rattle.listing.specs.Private.{Tile, bitOf, tileDays, treeDays, topDays}
 use Rattle.buffers.specs.Private.{Wrote}
-use Rattle.acceptance.proofs.{Listed.number-small, Places.room, Runs.keep-length, Runs.div-whole, Steps.interval-number, Steps.interval-end, Steps.chain-of}
+use Rattle.acceptance.proofs.{Listed.number-small, Runs.keep-length, Runs.div-whole, Steps.interval-room, Steps.interval-number, Steps.interval-end, Steps.chain-of}
 use Rattle.listing.proofs.Tiles.{tile-congr, number-bits}
 use Rattle.listing.proofs.Walks.{tile-none, tile-days, tree-days, days-block}
 use Rattle.buffers.proofs.Writes.{wrote-none, wrote-length, wrote-join}
@@ -34,7 +34,7 @@ module _ (n g : ℕ) (t : List ℕ) {k m : ℕ} (h : Interval 2 n g t) (z : k �
 
   pub tile-start : (at size : ℕ) → at + n ≤ size → Tile k (g - n + 1) m × (at + 2 ^ k ≤ size)
   tile-start at size l =
-      let q = room h in
+      let q = interval-room h in
       let w = allowed-n-is n (h .has .n-ok) in
       let p : 2 ^ k ≡ n = rw z (sym (w .power)) in
       let s : m < 2 ^ k = rw (u, z) (number-small (tileBit n t g) (lg n)) in
