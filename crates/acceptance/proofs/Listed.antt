@@ -1,6 +1,6 @@
 -- Under the rules each value passes exactly if no day of its chain is listed locally: what this takes, by scheme.
 use mathlib.Core.{Path._≡_, Path.refl, Path.sym, Path.ap, Path._∙_, Logic.inl, Logic.inr, List.List}
-use mathlib.Core.Bool.{Bool, true, false, not, _&&_, _||_, cond, and-false}
+use mathlib.Core.Bool.{Bool, true, false, not, _&&_, _||_, and-false}
 use Prim.Native.Nat.{ℕ, zero, suc, pred, _+_, _-_, _*_, _/_, _%_, _^_, _≤_, _<_}
 use native.Mathlib.Nat.{le-div-iff-mul-le, div-lt-iff-lt-mul, mul-pos, mul-le-mul-right, mul-div-cancel, suc-mul, zero-mul, pow-succ', mod-lt, div-add-mod'}
 use native.Mathlib.{Decide.decLt, Omega.arith}

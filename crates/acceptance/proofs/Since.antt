@@ -1,5 +1,5 @@
 -- The tree's chains against the last failed day: what a pass over the days finds is the rule of the halves.
-use mathlib.Core.{Path._≡_, Path.refl, Path.sym, Path.ap, Path.ap₂, Path._∙_, Logic.inl, Logic.inr, List.List, List._++_}
+use mathlib.Core.{Path._≡_, Path.refl, Path.sym, Path.ap, Path.ap₂, Path._∙_, Logic.inl, Logic.inr, List.List}
 use mathlib.Core.Bool.{Bool, true, false, not, _&&_, _||_}
 use Prim.Native.Nat.{ℕ, zero, suc, pred, _+_, _-_, _*_, _/_, _%_, _^_, _≤_, _<_}
 use native.Mathlib.{Nat.mod-one, Nat.mul-pos, Nat.zero-add, Nat.suc-add, Nat.pow-succ', Nat.eq-of-mul-eq-mul-left, Decide.decLe, Decide.decLt, Decide.ℕ-discrete, Numerals.add-one, Omega.arith}

@@ -1,7 +1,7 @@
 -- What the functions that test a table need: values in range, and each rule from its parts.
 use mathlib.Core.{Path._≡_, Path.sym, Path._∙_, Bool.Bool, Bool.true, Bool.false, Bool.not, List.List}
 use Prim.Native.Nat.{ℕ, suc, pred, _+_, _-_, _*_, _/_, _^_, _≤_, _<_}
-use native.Mathlib.Nat.{mul-pos, suc-mul, le-trans, mul-le-mul-right, div-mul-le-self, div-le-self}
+use native.Mathlib.Nat.{mul-pos, le-trans, mul-le-mul-right, div-mul-le-self, div-le-self}
 use native.Mathlib.{Numerals.add-one, Omega.arith}
 use lib.{Dec.eqb, ListN.length, ListN.getD, ListN.length-append, Pow.pow-pos}
 use borrow.Author.Tests.{not-true, not-false}

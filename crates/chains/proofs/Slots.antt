@@ -159,8 +159,8 @@ turn-links z s n g start h i l vs next w ev en q p =
     as-was : (r : List Value) (f : ℕ → Value → Value) → r ≡ upto f 0 i l → getD r i z ≡ getD l i z
     as-was r f e = ap (λ (x : List Value). getD x i z) e ∙ upto-at z f 0 i l
 
-pub turn-restarts : (z : Value) (s n g : ℕ) (start : Value) (h : List ℕ) (i : ℕ) (l next : List Value) (w v : Value) → next ≡ upto (turnSlot s n g start h) 0 i l → w ≡ linkSlot s n g h i (getD next i z) →
-    v ≡ restartSlot s n g start i w → i < length l → set next i v ≡ upto (turnSlot s n g start h) 0 (i + 1) l
+pub turn-restarts : (z : Value) (s n g : ℕ) (start : Value) (h : List ℕ) (i : ℕ) (l next : List Value) (w v : Value) → next ≡ upto (turnSlot s n g start h) 0 i l →
+    w ≡ linkSlot s n g h i (getD next i z) → v ≡ restartSlot s n g start i w → i < length l → set next i v ≡ upto (turnSlot s n g start h) 0 (i + 1) l
 turn-restarts z s n g start h i l next w v en q e p = upto-next z (turnSlot s n g start h) i l next v en (e ∙ ap (restartSlot s n g start i) q) p
 
 -- a function that leaves the slots from m on is done after m of them

@@ -7,7 +7,7 @@ ghost use lib.ListN.{length, take};
 ghost use Rattle.refusals.specs.Refusals.{bookLimit};
 ghost use Rattle.layouts.specs.Layouts.{allowedScheme, allowedN, namesOfDay};
 ghost use Rattle.chains.specs.Step.{startValue, linked, linksSlot, storesSlot, storesBlack, linkSlot};
-ghost use Rattle.chains.specs.Step.{restartSlot, linkedSlots, restarted, dayValues, linksOf};
+ghost use Rattle.chains.specs.Step.{restartSlot, restarted, dayValues, linksOf};
 ghost use Rattle.links.specs.Private.{front};
 ghost use Rattle.chains.specs.Private.{Stepped, Fronts, levelsLinked};
 

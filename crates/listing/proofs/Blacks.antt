@@ -1,8 +1,8 @@
 -- Scheme 1: all days from the first interval on whose black fails are listed, and no other.
-use mathlib.Core.{Path._≡_, Path.refl, Path.sym, Path.ap, Path.ap₂, Path._∙_, Bool.Bool, Bool.true, Bool.false, Bool.not, Bool._||_, List.List, List.[], List._++_}
+use mathlib.Core.{Path._≡_, Path.refl, Path.ap, Path._∙_, Bool.Bool, Bool.true, Bool.false, Bool.not, Bool._||_, List.List, List.[]}
 use Prim.Native.Nat.{ℕ, zero, suc, pred, _+_, _-_, _*_, _/_, _≤_, _<_}
 use native.Mathlib.{Nat.le-div-iff-mul-le, Nat.div-lt-iff-lt-mul, Nat.add-zero, Nat.add-suc, Nat.mul-pos, Numerals.add-one, Omega.arith}
-use Rattle.lists.specs.Lists.{_among_, upFrom, keep, every}
+use Rattle.lists.specs.Lists.{upFrom, keep, every}
 use Rattle.lists.proofs.Laws.{upFrom-mem, upFrom-bounds, upFrom-append, keep-append, every-at, true-or-false}
 use Rattle.evidence.specs.Evidence.{days}
 use Rattle.layouts.specs.Layouts.{black}
@@ -26,7 +26,8 @@ module _ (n d : ℕ) (t : List ℕ) (T : Table 1 n d t) (r : rules 1 n d t ≡ t
   stays k (suc i) l f =
       let e : k + suc i ≡ suc (k + i) = add-suc k i in
       let p = stays k i (omega arith) f in
-      let b = rule-at 1 n d t some r (suc (k + i)) (record { some = mul-pos (omega arith) some; most = interval-end n d (suc (suc (k + i))) (omega arith); whole = divides-multiple (suc (suc (k + i))) n some }) in
+      let b = rule-at 1 n d t some r (suc (k + i))
+      (record { some = mul-pos (omega arith) some; most = interval-end n d (suc (suc (k + i))) (omega arith); whole = divides-multiple (suc (suc (k + i))) n some }) in
       rw e (only-if (passes 1 n t (black (suc (suc (k + i)) * n))) (prior 1 n t (suc (suc (k + i)) * n)) b (prior-next 1 n (k + i) t some ∙ p))
 
   module _ (k : ℕ) (F : FirstFailed n d t k) where
@@ -38,7 +39,8 @@ module _ (n d : ℕ) (t : List ℕ) (T : Table 1 n d t) (r : rules 1 n d t ≡ t
     none-before = keep-none (isListed 1 n t) (days (k * n)) (λ g m.
         let b = days-bounds (k * n) g m in
         let l : pred g / n < k = div-lt-iff-lt-mul {x = pred g} {y = k} some .1 (omega arith) in
-        let p : passes 1 n t (black (endOf n g)) ≡ true = every-at (blackPasses n t) {g = suc (pred g / n)} {xs = upFrom 1 k} (upFrom-mem 1 k (suc (pred g / n)) (omega arith) (omega arith)) (F .pass) in
+        let p : passes 1 n t (black (endOf n g)) ≡ true = every-at (blackPasses n t) {g = suc (pred g / n)} {xs = upFrom 1 k}
+        (upFrom-mem 1 k (suc (pred g / n)) (omega arith) (omega arith)) (F .pass) in
         isListed-1 n t g ∙ ap not p)
 
     all-after : keep (isListed 1 n t) (upFrom (suc (k * n)) (d - k * n)) ≡ upFrom (suc (k * n)) (d - k * n)

@@ -1,5 +1,5 @@
 -- The days of a failed tile: the passing chains as a number, and what is written so far once more for each bit that is 0.
-use mathlib.Core.{Path._≡_, Path.refl, Path.sym, Path.ap, Path.ap₂, Path._∙_, Logic.inl, Logic.inr, Bool.Bool, Bool.true, Bool.false, Bool.cond}
+use mathlib.Core.{Path._≡_, Path.refl, Path.sym, Path.ap, Path.ap₂, Path._∙_, Logic.inl, Logic.inr, Bool.Bool, Bool.true, Bool.false}
 use mathlib.Core.List.{List, [], _∷_, _++_, map, map-append}
 use Prim.Native.Nat.{ℕ, zero, suc, _+_, _-_, _*_, _/_, _%_, _^_, _≤_, _<_}
 use native.Mathlib.{Nat.pow-succ', Nat.suc-mul, Nat.div-one, Nat.div-le-self, Nat.div-mul-le-self, Nat.div-eq-of-lt, Nat.mod-eq-of-lt, Numerals.add-one, Omega.arith}

@@ -6,7 +6,7 @@ use Rattle.acceptance.specs.Private.{prior, blockAt, blocksRule}
 use Rattle.layouts.proofs.AllowedLaws.{allowed-n-is}
 use native.Mathlib.Omega.{arith}
 use Prim.Native.Nat.{_+_, _-_, _*_, _/_, _≤_}
-use mathlib.Core.{Bool.true, Path._≡_, Path.refl, Path.sym}
+use mathlib.Core.{Bool.true, Path._≡_, Path.refl}
 use Rattle.acceptance.proofs.block_rules.Tie as tie
 
 abbrev Inv-loop : tie.InvT-loop

@@ -3,7 +3,6 @@ use Rattle.acceptance.proofs.Since.{Checked, last-none, last-back, chec
 use Rattle.acceptance.proofs.{Steps.has-earlier, Steps.table-has, level_rules.Statement.statement}
 use Rattle.acceptance.specs.Private.{Has, LastFailed}
 use borrow.Author.Tests.{not-true, not-false}
-use borrow.Author.Needs.{needs}
 use native.Mathlib.Omega.{arith}
 use Prim.Native.Nat.{_+_, _-_, _≤_}
 use Rattle.acceptance.proofs.level_rules.Tie as tie

@@ -40,4 +40,5 @@ tile-rules-spec = tie.close (tie.spec
     every-stop _ 1 (lg (b .before .before .before .before .before .args .n)) (b .loop .i + 1) (omega arith) (omega (arith, b .before .lg .ensures)) (turn (c .before)) (c .if2 .taken))
     (λ c. omega arith)
     (λ c. let l = c .before .before .before .loop in (omega arith, every-next _ 1 (l .i) (l .i + 1) (omega arith) (l .inv .1) (turn (c .before)) (c .if2 .left)))
-    (λ c. let e = c .before .before .lg .ensures in let l = c .before .loop in every-done _ 1 (l .i) (lg (c .before .before .before .before .before .before .args .n)) (omega arith) (omega arith) (l .inv .1)))
+    (λ c. let e = c .before .before .lg .ensures in let l = c .before .loop in every-done _ 1 (l .i) (lg (c .before .before .before .before .before .before .args .n))
+    (omega arith) (omega arith) (l .inv .1)))

@@ -1,7 +1,8 @@
 -- `listing::walk` meets its contract.
-use Rattle.buffers.proofs.Writes.{wrote-none, wrote-as}
+use Rattle.buffers.proofs.Writes.{wrote-none}
 use Rattle.acceptance.proofs.Steps.{tree-inside, passes-by, chain-has}
-use Rattle.listing.proofs.Writes.{tree-none, level-less, place-one, left-room, left-chain, right-chain, right-place, left-place, tree-right-place, tree-join, known-chain, known-place, known-room, known-days}
+use Rattle.listing.proofs.Writes.{tree-none, level-less, place-one, left-room, left-chain, right-chain, right-place, left-place, tree-right-place}
+use Rattle.listing.proofs.Writes.{tree-join, known-chain, known-place, known-room, known-days}
 use Rattle.listing.proofs.{+walk.statement, +walk.Tie.close}
 use borrow.{Author.Needs.needs, Fn.Kinds.In, Fn.PlainCycle.Measures, Fn.PlainCycle.is, Fn.PlainCycle.falls, Fn.PlainCycle.and}
 use native.Mathlib.Omega.{arith}
@@ -26,8 +27,20 @@ abbrev walk-below : ℕ → In 2 walk-kinds.ps
 walk-below t = and 2 walk-kinds.ps (falls 2 walk-kinds.ps _<_ μ-walk t) walk.Pre
 
 pub +walk-spec : {M : Type 1} → statement M
-+walk-spec = close μ-walk λ t. walk-lts.spec
-    (day-reads.Asked, day-reads.Learnt, mark-reads.Asked, mark-reads.Learnt, size-reads.Asked, size-reads.Learnt, tree-at-reads.Asked, tree-at-reads.Learnt, pair-reads.Asked, pair-reads.Learnt, walk-below t, walk.Post)
++walk-spec = close μ-walk λ t. walk-lts.spec (
+  day-reads.Asked,
+  day-reads.Learnt,
+  mark-reads.Asked,
+  mark-reads.Learnt,
+  size-reads.Asked,
+  size-reads.Learnt,
+  tree-at-reads.Asked,
+  tree-at-reads.Learnt,
+  pair-reads.Asked,
+  pair-reads.Learnt,
+  walk-below t,
+  walk.Post,
+)
     (walk-at t) walk.Post
     (λ c κs. let pre = c .before .before .before .before .pre .1 in
     let o = c .before .if1 .taken in

@@ -1,9 +1,8 @@
 -- `listing::pair` meets its contract.
 use Rattle.buffers.proofs.Writes.{wrote-none}
 use Rattle.acceptance.proofs.Steps.{tree-inside, passes-by, chain-has}
-use Rattle.listing.proofs.Writes.{tree-none, left-chain, right-chain, right-place, place-one, left-place, tree-right-place, tree-join}
+use Rattle.listing.proofs.Writes.{tree-none, left-chain, right-chain, right-place, place-one, tree-right-place, tree-join}
 use Rattle.listing.proofs.pair.Statement.{statement}
-use borrow.Author.Needs.{needs}
 use native.Mathlib.Omega.{arith}
 use mathlib.Core.Path.{_≡_, refl, _∙_}
 use Prim.Native.Nat.{ℕ}

@@ -4,7 +4,6 @@ use Rattle.acceptance.proofs.{Steps.tile-inside, Steps.passes-by, Places.tile-p
 use Rattle.acceptance.specs.Private.{number, tileBit}
 use Rattle.layouts.proofs.AllowedLaws.{allowed-n-is}
 use Rattle.layouts.specs.Layouts.{lg}
-use borrow.Author.Needs.{needs}
 use native.Mathlib.Omega.{arith}
 use Prim.Native.Nat.{_+_, _-_, _/_, _^_, _≤_}
 use mathlib.Core.Path.{_≡_}

@@ -24,7 +24,8 @@ passing-blacks-spec = tie.close (tie.spec Inv-loop μ-loop (λ c. allowed-n-is _
     (λ c κs. interval-of _ (c .before .before .before .pre) (omega arith) (omega arith))
     (λ c. let l = c .before .before .before .loop in
     record { few = l .inv .0; pass = l .inv .1; fails = λ h. sym (c .before .black-passes .ensures) ∙ not-true (c .before .black-passes .result) (c .if1 .taken) })
-    (λ c. let b = c .before .before in record { fits = count-fits (b .before .before .before .args .n) (b .before .before .before .args .d) _ (b .loop-test .taken) (b .before .before .before .pre .most) })
+    (λ c. let b = c .before .before in
+    record { fits = count-fits (b .before .before .before .args .n) (b .before .before .before .args .d) _ (b .loop-test .taken) (b .before .before .before .pre .most) })
     (λ c. omega arith)
     (λ c. let l = c .before .before .before .loop in (omega arith, every-next _ 1 (l .k) (l .k + 1) (omega arith) (l .inv .1) (c .before .black-passes .ensures) (c .if1 .left)))
     (λ c. let l = c .before .loop in record { few = l .inv .0; pass = l .inv .1; fails = λ h. absurd (omega arith) }))

@@ -19,7 +19,9 @@ room c = let a = c .before .before .args in omega (arith, length-set (a .list .n
 
 pub tile-walk-spec : {M : Type 1} → statement M
 tile-walk-spec = tie.close (tie.spec Inv-loop μ-loop
-    (λ c. let pre = c .before .pre .0 in omega (arith, pre .number, pre .fits)) (λ c. omega (arith, place-one (c .before .args .at) (c .before .args .level) (length (c .before .args .list .now)) (c .before .pre .1), c .before .good .1 .1 .1 .0 .1)) (λ c. place-one _ _ _ (c .before .pre .1))
+    (λ c. let pre = c .before .pre .0 in omega (arith, pre .number, pre .fits))
+    (λ c. omega (arith, place-one (c .before .args .at) (c .before .args .level) (length (c .before .args .list .now)) (c .before .pre .1), c .before .good .1 .1 .1 .0 .1))
+    (λ c. place-one _ _ _ (c .before .pre .1))
     (λ c. omega (arith, place-one (c .before .args .at) (c .before .args .level) (length (c .before .args .list .now)) (c .before .pre .1), c .before .good .1 .1 .1 .0 .1))
     (λ c. doubled-none (c .before .args .list .now) (c .before .pre .1))
     (λ c κs. let b = c .before .before .before in doubled-place (b .before .before .pre .0) (room b) (b .loop .inv) (c .before .before .loop-test .taken))

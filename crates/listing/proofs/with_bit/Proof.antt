@@ -1,9 +1,6 @@
 -- `listing::with_bit` meets its contract.
-use mathlib.Core.{Path._≡_, Path.refl, Bool.Bool, Bool.true, Bool.false}
-use Prim.Native.Nat.{ℕ, _+_, _*_}
 use native.Mathlib.Omega.{arith}
 use borrow.Author.Needs.{needs}
-use Rattle.acceptance.specs.Private.{one}
 use Rattle.listing.proofs.with_bit.Statement.{statement}
 use Rattle.listing.proofs.with_bit.Tie as tie
 
