@@ -164,19 +164,6 @@ fn day(n: u32, g: u32, p: u32, t: &[u8], list: &mut [u32], at: usize) -> usize
     at + 1
 }
 
-// A chain of two days that ends at g, at place p: the days whose own chains fail, unless it passes.
-fn pair(n: u32, g: u32, p: u32, t: &[u8], list: &mut [u32], at: usize) -> usize
-    requires { ⌜ Chain n 1 g (now t) × (p ≡ position 3 n (tree 1 g)) × (at + 2 ≤ length (now list)) ⌝ }
-    ensures { λ r. ⌜ Wrote at (treeDays n (now (t .entry)) 1 g) (now (list .entry)) r (now (list .exit)) ⌝ }
-{
-    if acceptance::values::mark(t, p) {
-        return at;
-    }
-    let h = g - 1;
-    let b = day(n, h, layouts::tree_at(n, 0, h), t, list, at);
-    day(n, g, p - 1, t, list, b)
-}
-
 // The tree's chain of a level that ends at g, at place p: nothing if it passes; its day; else its left half, then its
 // right, which stands one place before it.
 fn walk(n: u32, level: u32, g: u32, p: u32, t: &[u8], list: &mut [u32], at: usize) -> usize
@@ -194,9 +181,9 @@ fn walk(n: u32, level: u32, g: u32, p: u32, t: &[u8], list: &mut [u32], at: usiz
     let h = g - w;
     let left = layouts::tree_at(n, l, h);
     let right = p - 1;
-    if l == 1 {
-        let b = pair(n, h, left, t, list, at);
-        return pair(n, g, right, t, list, b);
+    if l == 0 {
+        let b = day(n, h, left, t, list, at);
+        return day(n, g, right, t, list, b);
     }
     let b = walk(n, l, h, left, t, list, at);
     walk(n, l, g, right, t, list, b)
