@@ -1,4 +1,5 @@
-/* One call on D days, for a count of its instructions. Words: call, scheme, D. */
+/* One call on D days, for a count of its instructions. Words: the call, or the changes of the table that is read; the
+ * scheme; D. */
 #include "../calls.h"
 #include "../report.h"
 #include "../tables.h"
@@ -23,6 +24,15 @@ static void on_table(enum changes changes, uint32_t scheme, uint32_t days) {
   drop_tables(&tables);
 }
 
+static enum changes changes_of(const char *word) {
+  static const char *const words[CHANGES] = {"clean", "few", "second", "half"};
+  for (enum changes c = CLEAN; c < CHANGES; c++)
+    if (strcmp(word, words[c]) == 0)
+      return c;
+  require(0, "calls: seal check clean few second half");
+  return CLEAN;
+}
+
 int main(int count, char **words) {
   require(count == 4, "words: call scheme days");
   uint32_t scheme = (uint32_t)atoi(words[2]), days = (uint32_t)atoi(words[3]);
@@ -31,6 +41,6 @@ int main(int count, char **words) {
   else if (strcmp(words[1], "check") == 0)
     on_books(check_job, scheme, days);
   else
-    on_table(strcmp(words[1], "clean") == 0 ? CLEAN : SECOND, scheme, days);
+    on_table(changes_of(words[1]), scheme, days);
   return 0;
 }
