@@ -8,6 +8,11 @@ use Rattle.reading.specs.Contract.{Report, fiveNumbers}
 use Rattle.record_bytes.specs.Bytes.{recordBytes, recordOf}
 use Rattle.sizing.specs.declared.Sizing.{Sizing}
 use Rattle.sizing.specs.declared.Sizing.the-variants.{Sized, Refused}
+use Rattle.positions.specs.declared.Located.{Located}
+use Rattle.positions.specs.declared.Located.the-variants as case-of-located
+use Rattle.positions.specs.declared.Place.{Place}
+use Rattle.positions.specs.declared.Place.the-variants as case-of-place
+use Rattle.positions.specs.Positions.{numbersOf}
 use Rattle.service.specs.Contract.{writingNumber, countOf, added, closing, writtenSoFar}
 
 -- add, on a record's bytes; blocks is what the number of blocks was before
@@ -64,6 +69,16 @@ unfoldable pub sizesAfter : Sizing → List ℕ → List ℕ
 sizesAfter (Sized s) sizes = s .values ∷ s .bytes ∷ s .blocks ∷ []
 sizesAfter (Refused number) sizes = sizes
 
+-- the four numbers after chain_at: kind, index or level, first and last day (SPEC 18.2)
+unfoldable pub chainAfter : Located → List ℕ → List ℕ
+chainAfter (case-of-located.At c) chain = numbersOf c
+chainAfter (case-of-located.Refused number) chain = chain
+
+-- the position after position_of
+unfoldable pub positionAfter : Place → ℕ → ℕ
+positionAfter (case-of-place.At p) position = p
+positionAfter (case-of-place.Refused number) position = position
+
 -- the version of the calls: 10000 · major + 100 · minor + patch
 abbrev pub version : ℕ
-version = 300
+version = 400

@@ -1,5 +1,7 @@
 // The calls for C and other languages, thin over the Rattle calls. Each returns 0, or the refusal's number.
 // include/daybook.h says what a caller must keep.
+use positions::Located;
+use positions::Place;
 use record_bytes::RECORD_BYTES;
 use sizing::Sizing;
 ghost use mathlib.Core.Path.{_≡_};
@@ -8,11 +10,12 @@ ghost use Rattle.layouts.specs.Layouts.{layoutRefusal};
 ghost use Rattle.service.specs.Contract.{opened, writingNumber, writtenSoFar};
 ghost use Rattle.record_bytes.specs.Bytes.{recordBytes, recordOf};
 ghost use Rattle.sizing.specs.Sizing.{forecasted, sizingNumber};
+ghost use Rattle.positions.specs.Positions.{located, locatedNumber, placed, placeNumber};
 ghost use Rattle.sealing.specs.Contract.{sealedBook};
 ghost use Rattle.checking.specs.Contract.{checked};
 ghost use Rattle.reading.specs.Contract.{readout};
 ghost use Rattle.daybook_c.specs.Contract.{addedBytes, closedBytes, numbersAfter, valuesAfter};
-ghost use Rattle.daybook_c.specs.Contract.{recordValuesAfter, sizesAfter, version};
+ghost use Rattle.daybook_c.specs.Contract.{recordValuesAfter, sizesAfter, chainAfter, positionAfter, version};
 
 #[no_mangle]
 pub extern "C" fn daybook_open(scheme: u32, n: u32, f: u32, state: &mut [u8; RECORD_BYTES]) -> u32
@@ -192,6 +195,53 @@ pub extern "C" fn daybook_forecast(
             0
         }
         Sizing::Refused(x) => x,
+    }
+}
+
+#[no_mangle]
+pub extern "C" fn daybook_chain_at(
+    scheme: u32,
+    n: u32,
+    f: u32,
+    d: u32,
+    position: u32,
+    chain: &mut [u32; 4],
+) -> u32
+    ensures { λ r. ⌜ r ≡ locatedNumber (located scheme n f d position) ⌝ }
+    ensures { λ r. ⌜ now (chain .exit) ≡ chainAfter (located scheme n f d position) (now (chain .entry)) ⌝ }
+{
+    let a = positions::chain_at(scheme, n, f, d, position);
+    match a {
+        Located::At(c) => {
+            let kind = c.kind;
+            *chain = [positions::kind_number(kind), c.index, c.first, c.last];
+            0
+        }
+        Located::Refused(x) => x,
+    }
+}
+
+#[no_mangle]
+pub extern "C" fn daybook_position_of(
+    scheme: u32,
+    n: u32,
+    f: u32,
+    d: u32,
+    chain: &[u32; 4],
+    position: &mut u32,
+) -> u32
+    ensures { λ r. ⌜ r ≡ placeNumber (placed scheme n f d (now (chain .entry))) ⌝ }
+    ensures { λ r. ⌜ now (position .exit) ≡
+        positionAfter (placed scheme n f d (now (chain .entry))) (now (position .entry)) ⌝ }
+{
+    let c = *chain;
+    let a = positions::position_of_numbers(scheme, n, f, d, c[0], c[1], c[2], c[3]);
+    match a {
+        Place::At(p) => {
+            *position = p;
+            0
+        }
+        Place::Refused(x) => x,
     }
 }
 
