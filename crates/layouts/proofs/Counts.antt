@@ -111,7 +111,7 @@ count-ones (suc n) g p l = elim (parity g) [
       omega (arith, count-first n g, ones-step g, ones-step (pred g))
 ]
 
-levels-ones : (g : ℕ) → 1 ≤ g → length (levels g) + ones g ≡ 2 + ones (pred g)
+pub levels-ones : (g : ℕ) → 1 ≤ g → length (levels g) + ones g ≡ 2 + ones (pred g)
 unfolding count
 levels-ones g p = count-ones g g p (omega arith)
 

@@ -55,7 +55,7 @@ in-day s n g d i z l h =
     ap (λ x. getD x (length (namesThrough s n g) + i) z) (ap (namesThrough s n) q ∙ r .1) ∙ List·getD-append (namesThrough s n (suc g)) (r .0) z (length (namesThrough s n g) + i) b ∙
     rw (namesThrough-suc s n g) (getD-append-add (namesThrough s n g) (namesOfDay s n (suc g)) i z)
 
-getD-map-in : {A : Type 0} (f : ℕ → A) (l : List ℕ) (i d : ℕ) (z : A) → i < length l → getD (map f l) i z ≡ f (getD l i d)
+pub getD-map-in : {A : Type 0} (f : ℕ → A) (l : List ℕ) (i d : ℕ) (z : A) → i < length l → getD (map f l) i z ≡ f (getD l i d)
 getD-map-in f [] i d z h = absurd (omega arith)
 getD-map-in f (x ∷ xs) zero d z h = refl
 getD-map-in f (x ∷ xs) (suc i) d z h = getD-map-in f xs i d z (omega arith)

@@ -16,10 +16,13 @@ blackPlace (suc zero) n g = 0
 blackPlace (suc (suc zero)) n g = suc (lg n)
 blackPlace (suc (suc (suc scheme))) n g = length (levels g)
 
+abbrev pub dayWithin : ℕ → ℕ → ℕ  -- a day, or 0 where it is past d
+dayWithin d g = cond (leb g d) g 0
+
 -- the day at which a chain with these numbers would close, 0 where it is past d: for a tile chain the tile's end, else
 -- the last day
 abbrev pub closingDay : ℕ → ℕ → ℕ → ℕ → ℕ → ℕ
-closingDay n d kind first last = let g = cond (eqb kind 2) (pred (first + n)) last in cond (leb g d) g 0
+closingDay n d kind first last = dayWithin d (cond (eqb kind 2) (pred (first + n)) last)
 
 -- its place among the values of that day
 abbrev pub placeInDay : ℕ → ℕ → ℕ → ℕ → ℕ → ℕ

@@ -6,9 +6,11 @@ ghost use Prim.Native.Nat.{pred, _≤_, _<_, _^_};
 ghost use lib.ListN.{length, getD};
 ghost use Rattle.refusals.specs.Refusals.{bookLimit};
 ghost use Rattle.lists.specs.Lists.{same};
-ghost use Rattle.layouts.specs.Layouts.{allowedScheme, allowedN, divides, lg, black, tile, tree, chains, namesOfDay};
-ghost use Rattle.positions.specs.Positions.{kindNumber, chainOf, numbersOf, located, placed};
-ghost use Rattle.positions.specs.Private.{blackPlace, closingDay, placeInDay, isNamed};
+ghost use Rattle.layouts.specs.Layouts.{allowedScheme, allowedN, divides, lg, black, tile, lastDays};
+ghost use Rattle.layouts.specs.Layouts.{chains, namesOfDay};
+ghost use Rattle.positions.specs.Positions.{kindNumber, chainOver, chainOf, numbersOf, located, placed};
+ghost use Rattle.positions.specs.declared.Kind.the-variants.{Black, Tree};
+ghost use Rattle.positions.specs.Private.{blackPlace, dayWithin, closingDay, placeInDay, isNamed};
 
 pub enum Kind {
     Black,
@@ -78,9 +80,9 @@ fn black_place(scheme: u32, n: u32, g: u32) -> u32
 }
 
 // Black over days 1 to g.
-fn black_chain(n: u32, g: u32) -> Chain
+fn black_chain(g: u32) -> Chain
     requires { ⌜ 1 ≤ g ⌝ }
-    ensures { λ r. ⌜ r ≡ chainOf n (black g) ⌝ }
+    ensures { λ r. ⌜ r ≡ chainOver Black 0 (lastDays g g) ⌝ }
 {
     Chain {
         kind: Kind::Black,
@@ -116,9 +118,9 @@ fn tile_chain(n: u32, i: u32, g: u32) -> Chain
 }
 
 // The tree's level l that ends at g.
-fn tree_chain(n: u32, l: u32, g: u32) -> Chain
+fn tree_chain(l: u32, g: u32) -> Chain
     requires { ⌜ (l ≤ 16) × (1 ≤ g) × (divides (2 ^ l) g ≡ true) ⌝ }
-    ensures { λ r. ⌜ r ≡ chainOf n (tree l g) ⌝ }
+    ensures { λ r. ⌜ r ≡ chainOver Tree l (lastDays (2 ^ l) g) ⌝ }
 {
     let days = layouts::size(l);
     Chain {
@@ -138,14 +140,14 @@ fn chain_in_day(scheme: u32, n: u32, g: u32, i: u32) -> Chain
 {
     let e = black_place(scheme, n, g) - i;
     match scheme {
-        1 => black_chain(n, g),
+        1 => black_chain(g),
         2 => match e {
             1..=9 => tile_chain(n, i, g),
-            _ => black_chain(n, g),
+            _ => black_chain(g),
         },
         _ => match e {
-            1..=17 => tree_chain(n, i, g),
-            _ => black_chain(n, g),
+            1..=17 => tree_chain(i, g),
+            _ => black_chain(g),
         },
     }
 }
@@ -166,22 +168,28 @@ pub fn chain_at(scheme: u32, n: u32, f: u32, d: u32, position: u32) -> Located
     Located::At(chain_in_day(scheme, n, g, position - before))
 }
 
-// The day at which a chain so named would close, 0 if there is none up to d: the tile's end, else the last day.
-fn closing_day(n: u32, d: u32, kind: u32, first: u32, last: u32) -> u32
-    requires { ⌜ (allowedN n ≡ true) × (d ≤ bookLimit) ⌝ }
-    ensures { λ r. ⌜ r ≡ closingDay n d kind first last ⌝ }
+// A day, or 0 where it is past d.
+fn day_within(d: u32, g: u32) -> u32
+    ensures { λ r. ⌜ r ≡ dayWithin d g ⌝ }
 {
-    let mut g = last;
-    if kind == 2 {
-        if d < first {
-            return 0;
-        }
-        g = first + n - 1;
-    }
     if d < g {
         return 0;
     }
     g
+}
+
+// The day at which a chain so named would close, 0 where it is past d: the tile's end, else the last day.
+fn closing_day(n: u32, d: u32, kind: u32, first: u32, last: u32) -> u32
+    requires { ⌜ (allowedN n ≡ true) × (d ≤ bookLimit) ⌝ }
+    ensures { λ r. ⌜ r ≡ closingDay n d kind first last ⌝ }
+{
+    if kind != 2 {
+        return day_within(d, last);
+    }
+    if d < first {
+        return 0;
+    }
+    day_within(d, first + n - 1)
 }
 
 // Its place among the values of that day.
