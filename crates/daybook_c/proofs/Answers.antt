@@ -21,7 +21,13 @@ use Rattle.sizing.specs.declared.Sizes.{Sizes}
 use Rattle.sizing.specs.declared.Sizing.{Sizing}
 use Rattle.sizing.specs.declared.Sizing.the-variants.{Sized, Refused}
 use Rattle.sizing.specs.Sizing.{sizingNumber}
-use Rattle.daybook_c.specs.Contract.{addedBytes, closedBytes, numbersAfter, valuesAfter, recordValuesAfter, sizesAfter}
+use Rattle.positions.specs.declared.Chain.{Chain}
+use Rattle.positions.specs.declared.Located.{Located}
+use Rattle.positions.specs.declared.Located.the-variants as case-of-located
+use Rattle.positions.specs.declared.Place.{Place}
+use Rattle.positions.specs.declared.Place.the-variants as case-of-place
+use Rattle.positions.specs.Positions.{kindNumber, locatedNumber, placeNumber}
+use Rattle.daybook_c.specs.Contract.{addedBytes, closedBytes, numbersAfter, valuesAfter, recordValuesAfter, sizesAfter, chainAfter, positionAfter}
 
 -- ---- add
 
@@ -149,3 +155,24 @@ module _ (answer : Sizing) (old : List ℕ) where
   pub forecast-kept : (x : ℕ) → Refused x ≡ answer → (x ≡ sizingNumber answer) × (old ≡ sizesAfter answer old)
   unfolding sizesAfter
   forecast-kept x e = (rw (← e), rw (← e))
+
+-- ---- chain_at and position_of
+
+module _ (answer : Located) (old : List ℕ) where
+  pub chain-given : (c : Chain) {k : ℕ} → case-of-located.At c ≡ answer → k ≡ kindNumber (c .kind) →
+      (0 ≡ locatedNumber answer) × (k ∷ c .index ∷ c .first ∷ c .last ∷ [] ≡ chainAfter answer old)
+  unfolding chainAfter
+  chain-given c e q = (rw (← e), rw (← e, q))
+
+  pub chain-kept : (x : ℕ) → case-of-located.Refused x ≡ answer → (x ≡ locatedNumber answer) × (old ≡ chainAfter answer old)
+  unfolding chainAfter
+  chain-kept x e = (rw (← e), rw (← e))
+
+module _ (answer : Place) (old : ℕ) where
+  pub place-given : (p : ℕ) → case-of-place.At p ≡ answer → (0 ≡ placeNumber answer) × (p ≡ positionAfter answer old)
+  unfolding positionAfter
+  place-given p e = (rw (← e), rw (← e))
+
+  pub place-kept : (x : ℕ) → case-of-place.Refused x ≡ answer → (x ≡ placeNumber answer) × (old ≡ positionAfter answer old)
+  unfolding positionAfter
+  place-kept x e = (rw (← e), rw (← e))

@@ -235,7 +235,7 @@ pub extern "C" fn daybook_position_of(
         positionAfter (placed scheme n f d (now (chain .entry))) (now (position .entry)) ⌝ }
 {
     let c = *chain;
-    let a = positions::position_of_numbers(scheme, n, f, d, c[0], c[1], c[2], c[3]);
+    let a = positions::position_of_numbers(scheme, n, f, d, c);
     match a {
         Place::At(p) => {
             *position = p;
@@ -249,5 +249,5 @@ pub extern "C" fn daybook_position_of(
 pub extern "C" fn daybook_version() -> u32
     ensures { λ r. ⌜ r ≡ version ⌝ }
 {
-    300
+    400
 }

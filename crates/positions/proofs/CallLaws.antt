@@ -134,3 +134,15 @@ module _ (s n f d kind index first last : ℕ) {x g : ℕ} (told : x ≡ layoutR
 -- ---- a chain, by its kind's number
 pub by-kind : (s n f d : ℕ) (c : Chain) {k : ℕ} {r : Place} → k ≡ kindNumber (c .kind) → r ≡ placed s n f d (k ∷ c .index ∷ c .first ∷ c .last ∷ []) → r ≡ placed s n f d (numbersOf c)
 by-kind s n f d c e q = q ∙ ap (λ (k : ℕ). placed s n f d (k ∷ c .index ∷ c .first ∷ c .last ∷ [])) e
+
+-- four numbers, one by one
+four-read : (l : List ℕ) → length l ≡ 4 → getD l 0 0 ∷ getD l 1 0 ∷ getD l 2 0 ∷ getD l 3 0 ∷ [] ≡ l
+four-read (a ∷ b ∷ c ∷ d ∷ []) e = refl
+four-read [] e = absurd (omega arith)
+four-read (a ∷ []) e = absurd (omega arith)
+four-read (a ∷ b ∷ []) e = absurd (omega arith)
+four-read (a ∷ b ∷ c ∷ []) e = absurd (omega arith)
+four-read (a ∷ b ∷ c ∷ d ∷ x ∷ l) e = absurd (omega arith)
+
+pub by-four : (s n f d : ℕ) (l : List ℕ) {r : Place} → length l ≡ 4 → r ≡ placed s n f d (getD l 0 0 ∷ getD l 1 0 ∷ getD l 2 0 ∷ getD l 3 0 ∷ []) → r ≡ placed s n f d l
+by-four s n f d l e q = q ∙ ap (placed s n f d) (four-read l e)

@@ -241,8 +241,8 @@ fn is_named(
     has_numbers(chain, kind, index, first, last)
 }
 
-// The position of the chain that these four numbers name; any number is taken for the kind.
-pub fn position_of_numbers(
+// The position of the chain that these four numbers name.
+fn position_by(
     scheme: u32,
     n: u32,
     f: u32,
@@ -270,12 +270,28 @@ pub fn position_of_numbers(
     Place::At(before + i)
 }
 
+// The same, the four as C has them; any number is taken for the kind.
+pub fn position_of_numbers(scheme: u32, n: u32, f: u32, d: u32, numbers: [u32; 4]) -> Place
+    ensures { λ r. ⌜ r ≡ placed scheme n f d numbers ⌝ }
+{
+    position_by(
+        scheme,
+        n,
+        f,
+        d,
+        numbers[0],
+        numbers[1],
+        numbers[2],
+        numbers[3],
+    )
+}
+
 // The position of a chain.
 pub fn position_of(scheme: u32, n: u32, f: u32, d: u32, chain: Chain) -> Place
     ensures { λ r. ⌜ r ≡ placed scheme n f d (numbersOf chain) ⌝ }
 {
     let kind = chain.kind;
-    position_of_numbers(
+    position_by(
         scheme,
         n,
         f,

@@ -7,4 +7,4 @@ use Rattle.positions.proofs.position_of.Tie as tie
 pub position-of-spec : {M : Type 1} → statement M
 position-of-spec = tie.close (tie.spec (λ c κs. search needs) (λ c κs. search needs) (λ c.
     let a = c .before .before .args in
-    by-kind (a .scheme) (a .n) (a .f) (a .d) (a .chain) (c .before .kind-number .ensures) (c .position-of-numbers .ensures)))
+    by-kind (a .scheme) (a .n) (a .f) (a .d) (a .chain) (c .before .kind-number .ensures) (c .position-by .ensures)))
