@@ -266,8 +266,8 @@ fn position_by(
     if !is_named(scheme, n, g, i, kind, index, first, last) {
         return Place::Refused(18);
     }
-    let before = layouts::values_through(scheme, n, g - 1);
-    Place::At(before + i)
+    let earlier = layouts::values_through(scheme, n, g - 1);
+    Place::At(earlier + i)
 }
 
 // The same, the four as C has them; any number is taken for the kind.
