@@ -2,19 +2,18 @@
 use mathlib.Core.Path.{_≡_, refl, sym, ap, _∙_}
 use mathlib.Core.Bool.{Bool, true, false, cond}
 use mathlib.Core.Logic.{inl, inr}
-use mathlib.Core.List.{List, [], _∷_, _++_, map, flatMap, List·Memᴰ·head, List·Memᴰ·tail}
+use mathlib.Core.List.{List, [], _∷_, flatMap, List·Memᴰ·head, List·Memᴰ·tail}
 use Prim.Native.Nat.{ℕ, zero, suc, pred, _+_, _-_, _≤_, _<_}
 use native.Mathlib.{Decide.decLe, Omega.arith}
 use lib.ListN.{length, getD, length-append, length-map, List·getD-map}
 use lib.Dec.{leb}
 use borrow.Author.Tests.{le-leb, leb-true}
 use Rattle.lists.specs.Lists.{_among_, same}
-use Rattle.lists.proofs.Laws.{split, true-or-false, and-both, and-of, same-eq, same-refl, eq-same}
-use Rattle.layouts.specs.Layouts.{allowedScheme, allowedN, Name, black, coveredDays, namesOfDay, namesThrough, chains}
+use Rattle.lists.proofs.Laws.{split, and-both, and-of, same-eq, eq-same}
+use Rattle.layouts.specs.Layouts.{allowedScheme, allowedN, black, coveredDays, namesOfDay, namesThrough, chains}
 use Rattle.layouts.proofs.Coverage.{namesThrough-suc, chains-front}
 use Rattle.layouts.proofs.Positions.{in-day}
-use Rattle.positions.specs.declared.Chain.{Chain}
-use Rattle.positions.specs.Positions.{kindNumber, chainOf, bookChains, numbersOf, bookNumbers, firstPlace}
+use Rattle.positions.specs.Positions.{chainOf, bookChains, numbersOf, bookNumbers, firstPlace}
 use Rattle.positions.specs.Private.{closingDay, placeInDay, isNamed}
 use Rattle.positions.proofs.DayLaws.{leads}
 

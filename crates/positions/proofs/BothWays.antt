@@ -1,9 +1,9 @@
 -- Each call undoes the other, and 18 exactly where there is nothing to give.
 use mathlib.Core.Path.{_≡_, refl, sym, ap, _∙_}
-use mathlib.Core.Bool.{true, false, not}
-use mathlib.Core.Logic.{_↔_, inl, inr}
-use mathlib.Core.List.{List, [], _∷_, map}
-use Prim.Native.Nat.{ℕ, zero, suc, pred, _+_, _-_, _^_, _≤_, _<_}
+use mathlib.Core.Bool.{true, not}
+use mathlib.Core.Logic.{inl, inr}
+use mathlib.Core.List.{List, [], _∷_}
+use Prim.Native.Nat.{ℕ, suc, _≤_, _<_}
 use native.Mathlib.{Decide.decLt, Omega.arith}
 use lib.ListN.{length, getD, List·getD-map}
 use lib.Dec.{leb}
@@ -23,7 +23,7 @@ use Rattle.positions.specs.Positions.{kindNumber, chainOf, bookChains, n
 use Rattle.positions.specs.Private.{dayWithin, closingDay}
 use Rattle.positions.specs.Statements.{BothWays, TreeOnly}
 use Rattle.positions.proofs.DayLaws.{black-stored}
-use Rattle.positions.proofs.BookLaws.{book-length, numbers-length, first-le, first-at, first-in, in-first, found, only-place}
+use Rattle.positions.proofs.BookLaws.{numbers-length, first-at, first-in, in-first, found, only-place}
 use Rattle.positions.proofs.CallLaws.{located-beyond, located-at, placed-absent, placed-at}
 
 -- ---- answers apart

@@ -1,17 +1,17 @@
 -- The values of a day, by their place; and that the numbers of a value lead back to its day and its place.
-use mathlib.Core.Path.{_≡_, refl, sym, ap, _∙_}
+use mathlib.Core.Path.{_≡_, refl, ap, _∙_}
 use mathlib.Core.Bool.{Bool, true, false, cond}
 use mathlib.Core.Logic.{_⊎_, inl, inr}
 use mathlib.Core.List.{List, [], _∷_, _++_, map}
-use Prim.Native.Nat.{ℕ, zero, suc, pred, _+_, _-_, _^_, _≤_, _<_}
-use native.Mathlib.{Nat.zero-add, Nat.add-zero, Decide.decLt, Omega.arith}
+use Prim.Native.Nat.{ℕ, suc, pred, _+_, _-_, _^_, _≤_, _<_}
+use native.Mathlib.{Nat.zero-add, Decide.decLt, Omega.arith}
 use lib.ListN.{length, getD, length-append, length-map, List·getD-append}
 use lib.Seq.{getD-append-add}
 use borrow.Author.Tests.{le-leb}
 use Rattle.lists.specs.Lists.{_among_, upFrom}
-use Rattle.lists.proofs.Laws.{split, true-or-false, upFrom-mem, keep-mem, length-upFrom}
+use Rattle.lists.proofs.Laws.{split, upFrom-mem, keep-mem, length-upFrom}
 use Rattle.layouts.specs.Layouts.{allowedScheme, allowedN, divides, lg, Name, black, tile, tree, levels, storesBlackOfTree, namesOfDay}
-use Rattle.layouts.proofs.AllowedLaws.{allowed-scheme-is, allowed-n-is}
+use Rattle.layouts.proofs.AllowedLaws.{allowed-scheme-is}
 use Rattle.layouts.proofs.Coverage.{by-scheme, divisor-le}
 use Rattle.layouts.proofs.Positions.{levels-run, getD-upFrom, getD-map-in}
 use Rattle.positions.specs.Positions.{kindNumber, chainOf}

@@ -2,7 +2,7 @@
 use mathlib.Core.Path.{_≡_, refl, sym, ap, _∙_}
 use mathlib.Core.Bool.{Bool, true, false}
 use mathlib.Core.Logic.{inl, inr}
-use mathlib.Core.List.{List, [], _∷_}
+use mathlib.Core.List.{[]}
 use Prim.Native.Nat.{ℕ, zero, suc, pred, _+_, _-_, _*_, _/_, _%_, _^_, _≤_, _<_}
 use native.Mathlib.Nat.{div-add-mod', suc-mul, mul-comm, pow-succ'}
 use native.Mathlib.{Decide.ℕ-discrete, Omega.arith}
@@ -14,7 +14,7 @@ use Rattle.lists.proofs.Laws.{split}
 use Rattle.layouts.specs.Layouts.{allowedN, divides, lg, black, tile, tree, offset, covers, lastDays}
 use Rattle.layouts.proofs.{AllowedLaws.allowed-n-is, Coverage.divisor-le}
 use Rattle.positions.specs.Positions.{chainOf}
-use Rattle.positions.specs.Statements.{Spans, SpansTold}
+use Rattle.positions.specs.Statements.{SpansTold}
 
 -- ---- runs of numbers, whole and by a test
 

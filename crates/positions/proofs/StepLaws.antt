@@ -1,17 +1,17 @@
 -- Laws for the functions, each after the function that uses it.
 use mathlib.Core.Path.{_≡_, refl, sym, ap, _∙_}
-use mathlib.Core.Bool.{Bool, true, false, cond, _&&_}
+use mathlib.Core.Bool.{Bool, true, false, _&&_}
 use mathlib.Core.Logic.{_⊎_, inl, inr}
-use mathlib.Core.List.{List, [], _∷_, map, flatMap}
+use mathlib.Core.List.{List, [], _∷_, flatMap}
 use Prim.Native.Nat.{ℕ, zero, suc, pred, _+_, _-_, _/_, _^_, _≤_, _<_}
 use native.Mathlib.{Nat.div-le-self, Omega.arith}
-use lib.{Dec.eqb, Dec.leb, Count.ones, ListN.length, ListN.getD, ListN.length-map}
+use lib.{Dec.eqb, Count.ones, ListN.length, ListN.getD, ListN.length-map}
 use borrow.Author.Tests.{eq-eqb, ne-eqb, le-leb, lt-leb}
 use Rattle.lists.specs.Lists.{same}
-use Rattle.layouts.specs.Layouts.{allowedScheme, allowedN, divides, lg, black, tile, tree, lastDays, levels, coveredDays, namesOfDay, namesThrough, chains, chainsOfDay}
+use Rattle.layouts.specs.Layouts.{allowedScheme, allowedN, divides, lg, black, tile, tree, lastDays, coveredDays, namesOfDay, namesThrough, chains, chainsOfDay}
 use Rattle.layouts.proofs.AllowedLaws.{allowed-scheme-is, allowed-n-is, weight}
 use Rattle.layouts.proofs.Coverage.{by-scheme, divisor-le}
-use Rattle.layouts.proofs.Counts.{levels-ones, ones-small}
+use Rattle.layouts.proofs.Counts.{levels-ones}
 use Rattle.positions.specs.declared.Kind.{Kind}
 use Rattle.positions.specs.declared.Kind.the-variants.{Black, Tile, Tree}
 use Rattle.positions.specs.declared.Chain.{Chain}

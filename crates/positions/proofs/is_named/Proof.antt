@@ -17,7 +17,8 @@ returns-2 : tie.Need-returns-2
 returns-2 c =
     let b = c .before .before in
     let a = b .before .before .args in
-    by-numbers (a .scheme) (a .n) (a .g) (a .i) (b .before .values-of-day .ensures) (a .kind ∷ a .index ∷ a .first ∷ a .last ∷ []) (omega arith) (c .before .chain-in-day .ensures) (c .has-numbers .ensures)
+    by-numbers (a .scheme) (a .n) (a .g) (a .i) (b .before .values-of-day .ensures) (a .kind ∷ a .index ∷ a .first ∷ a .last ∷ []) (omega arith)
+    (c .before .chain-in-day .ensures) (c .has-numbers .ensures)
 
 pub is-named-spec : {M : Type 1} → statement M
 is-named-spec = tie.close (tie.spec (λ c κs. search needs)
