@@ -91,6 +91,29 @@ fn positions_in_words() {
     assert_eq!(fs::read_dir(folder.path()).unwrap().count(), 0);
 }
 
+/// The pages print what the command prints.
+#[test]
+fn the_words_of_the_pages() {
+    let folder = Folder::new("locate-pages");
+    let package = concat!(env!("CARGO_MANIFEST_DIR"), "/");
+    for (line, words) in [
+        (
+            format!("{TREE} --position 23"),
+            "tree level 2, days 9 to 12\n",
+        ),
+        (
+            format!("{TILE} --position 8"),
+            "tile chain 2, 8 days from 17 to 28: 17 to 20, 25 to 28\n",
+        ),
+    ] {
+        done(&folder, &line, words);
+        for page in ["README.md", "../../README.md", "../../docs/daybook.1"] {
+            let text = fs::read_to_string(format!("{package}{page}")).unwrap();
+            assert!(text.contains(words.trim_end()), "{page}: {words}");
+        }
+    }
+}
+
 #[test]
 fn chains_in_words() {
     let folder = Folder::new("locate-chains");
@@ -341,8 +364,8 @@ fn wrong_words() {
         ("--kind wood", "--kind wood is not black, tile or tree"),
         ("--kind 4", "--kind 4 is not black, tile or tree"),
         ("--kind 0", "--kind 0 is not black, tile or tree"),
-        ("--position -1", "--position has no value"),
-        ("--position=-1", "--position -1 is not a number"),
+        ("--position -1", "--position -1 is not a number"),
+        ("--position --line", "--position has no value"),
         (
             "--position 4294967296",
             "--position 4294967296 is not a number",

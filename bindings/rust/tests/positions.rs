@@ -50,7 +50,7 @@ fn tile(n: u32, i: u32, g: u32) -> Chain {
     let covers = |day: &u32| i == 0 || ((day - 1) % n) & (n >> i) == 0;
     let mut days = (g - n + 1..=g).filter(covers);
     let first = days.next().unwrap();
-    chain(Kind::Tile, i, first, days.last().unwrap_or(first))
+    chain(Kind::Tile, i, first, days.next_back().unwrap_or(first))
 }
 
 /// The book of `d` days, by the four of each chain.
