@@ -22,8 +22,8 @@ extern "C" {
 #endif
 
 /* The version of this header: 10000 * major + 100 * minor + patch, and as text. */
-#define DAYBOOK_VERSION 300
-#define DAYBOOK_VERSION_TEXT "0.3.0"
+#define DAYBOOK_VERSION 400
+#define DAYBOOK_VERSION_TEXT "0.4.0"
 
 /* The bytes of a record. To be kept on disk as it is: no padding, the same on every machine.
  * Numbers are 32 bits, little-endian:
@@ -45,6 +45,7 @@ extern "C" {
 #define DAYBOOK_DAYS_LIMIT 65536    /* days in a book */
 #define DAYBOOK_BOOK_LIMIT 6290880  /* bytes that are enough for any book: scheme 3, N 1, 65,536 days */
 
+/* The schemes; the kinds of chains have the same numbers. */
 enum daybook_scheme {
   DAYBOOK_BLACK = 1,
   DAYBOOK_TILE = 2,
@@ -68,7 +69,8 @@ enum daybook_refusal {
   DAYBOOK_BAD_OUTCOME = 13,      /* an outcome is neither 0 nor 1 */
   DAYBOOK_IMPOSSIBLE_TABLE = 14, /* no set of changed days gives the outcomes */
   DAYBOOK_FEW_LENGTHS = 16,      /* fewer than D lengths of days */
-  DAYBOOK_LONG_DAY = 17          /* one of the first D lengths is over the day's limit */
+  DAYBOOK_LONG_DAY = 17,         /* one of the first D lengths is over the day's limit */
+  DAYBOOK_NOT_IN_BOOK = 18       /* a position not below the number of values, or no chain of the book */
 };
 
 /* What a refusal says, in words. */
@@ -93,6 +95,7 @@ static inline const char *daybook_refusal_text(uint32_t number) {
   case DAYBOOK_IMPOSSIBLE_TABLE: return "no set of changed days gives these outcomes";
   case DAYBOOK_FEW_LENGTHS: return "there are fewer than D lengths of days";
   case DAYBOOK_LONG_DAY: return "the length of a day is over 16,777,216 bytes";
+  case DAYBOOK_NOT_IN_BOOK: return "the book has no such position or chain";
   default: return "a number that is no refusal";
   }
 }
@@ -166,6 +169,20 @@ uint32_t daybook_record_values(const uint8_t record[DAYBOOK_RECORD], uint32_t va
  * Refusals 1 2 3 7 16 17. */
 uint32_t daybook_forecast(uint32_t scheme, uint32_t n, uint32_t f, uint32_t d,
                           const uint32_t *lengths, size_t lengths_len, uint64_t sizes[3]);
+
+/* The chain at a position of the book of D days, counted from 0: to chain[0] its kind (DAYBOOK_BLACK,
+ * DAYBOOK_TILE or DAYBOOK_TREE), to chain[1] its index (i of the tile chain c(i), the level of the tree,
+ * 0 for black), to chain[2] and chain[3] the first and the last day that it covers. A tile chain from
+ * c(1) on ends before its tile does, and from c(2) on it does not cover all days between the two.
+ * Refusals 1 2 3 7 18. */
+uint32_t daybook_chain_at(uint32_t scheme, uint32_t n, uint32_t f, uint32_t d, uint32_t position,
+                          uint32_t chain[4]);
+
+/* The position of the chain that has these four numbers, to position[0]. It undoes daybook_chain_at.
+ * All four must agree; a value that scheme 3 stores once is in the book as tree only.
+ * Refusals 1 2 3 7 18. */
+uint32_t daybook_position_of(uint32_t scheme, uint32_t n, uint32_t f, uint32_t d,
+                             const uint32_t chain[4], uint32_t position[1]);
 
 /* The version of the archive, as DAYBOOK_VERSION is that of this header. */
 uint32_t daybook_version(void);

@@ -3,16 +3,18 @@
 Scheme 2, N 8, F 3.  A record is opened, nine days of 130 bytes are added and
 closed, and its values are counted.  Then a ledger of the first 24 days of
 thousand.py, with zeros behind up to 1,400 bytes: its values are counted, a
-season of days of 130 bytes, 30 lengths lent, is sized, the ledger is sealed,
-checked with the lowest bit altered in the first byte of day 10, and
-read.  Last the version.
+season of days of 130 bytes, 30 lengths lent, is sized, the chain at position 7
+is found and the position of c(3) of the last tile, the ledger is sealed,
+checked with the lowest bit altered in the first byte of day 10, and read.
+Last the version.
 
 A line is the call, what it returned and what it wrote: of a record the lowest
 bytes of its five numbers, the blocks of an add, of a close the number of
-values, the blocks and the first 32 bytes of a part of 200, the three sizes, of
-a book of 500 bytes and of a work buffer of 800 the first 32, all 20 outcomes,
-the five numbers and all 30 places of a list.  A byte not written is 170 (aa),
-a number 99, one of the five 98, of blocks 97, a size 96.
+values, the blocks and the first 32 bytes of a part of 200, the three sizes,
+the four numbers of a chain, a position, of a book of 500 bytes and of a work
+buffer of 800 the first 32, all 20 outcomes, the five numbers and all 30 places
+of a list.  A byte not written is 170 (aa), a number 99, one of the five 98, of
+blocks 97, a size 96, one of the four 95.
 """
 
 import daybook
@@ -52,7 +54,10 @@ def ledger_lines():
         ends.append(ends[-1] + len(day))
     settings = *SETTINGS, DAYS
     out = [line("values", *daybook.number_of_values(*settings)),
-           line("forecast", *daybook.forecast(*settings, [130] * 30))]
+           line("forecast", *daybook.forecast(*settings, [130] * 30)),
+           line("chain_at", *daybook.chain_at(*settings, 7)),
+           line("position_of",
+                *daybook.position_of(*settings, (2, 3, 17, 23)))]
     book = bytearray([170]) * 500
     refusal = daybook.seal(*settings, ledger, ends[1:], book)
     out.append(line("seal", refusal, book[:32]))

@@ -576,6 +576,81 @@ def values_of_record(case):
     case.call("version")
 
 
+# ------------------------------------------------------------------ positions
+
+NUMBERS = (0, 1, 2, 3, 4, 7, 8, 9, 15, 16, 17, 31, 32, 33, 255, 256, 257,
+           DAYS - 1, DAYS, DAYS + 1, 2 ** 31 - 1, 2 ** 31, TOP - 1, TOP)
+
+
+def chain_at(case, settings, position):
+    """The four numbers at a position, from which it must come back."""
+    rng = case.rng
+    answer, after = case.call("chain_at", *settings, position,
+                              random_words(rng, 4))
+    if answer:
+        return None
+    four = list(after[-1])
+    answer, back = case.call("position_of", *settings, four,
+                             random_words(rng, 1))
+    case.claim(answer == 0 and back[-1][0] == position,
+               "the position does not come back")
+    return four
+
+
+def position_of(case, settings, four):
+    """The position of four numbers, at which they must stand."""
+    rng, four = case.rng, [x & TOP for x in four]
+    answer, after = case.call("position_of", *settings, four,
+                              random_words(rng, 1))
+    if answer == 0:
+        answer, back = case.call("chain_at", *settings, after[-1][0],
+                                 random_words(rng, 4))
+        case.claim(answer == 0 and list(back[-1]) == four,
+                   "the chain does not come back")
+
+
+def one_wrong(rng, four):
+    """The four, with one of them near, at an edge or anything."""
+    for k, x in enumerate(four):
+        for other in (x - 1, x + 1, rng.choice(NUMBERS), rng.getrandbits(32)):
+            yield [*four[:k], other, *four[k + 1:]]
+
+
+def by_rule(rng, n, d):
+    """Chains as the rules would name them, of any kind and at any day."""
+    g = rng.choice((rng.randint(1, d + n), n * rng.randint(1, d // n + 1),
+                    1 << rng.randrange(17)))
+    i = rng.choice((rng.randrange(daybook.lg(n) + 2), rng.randrange(18)))
+    yield 1, 0, 1, g
+    yield 1, i, 1, g
+    yield 2, 0, g - n + 1, g
+    yield 2, i, g - n + 1, g - n // 2 ** i
+    yield 2, i, g - n + 1, g
+    yield 3, i, g - 2 ** i + 1, g
+    yield 3, daybook.lg(g & -g), g - (g & -g) + 1, g
+
+
+def positions(case):
+    """From positions to chains and back: in the book, beyond it, misnamed."""
+    rng, scheme = case.rng, case.scheme
+    n, f, d = layout(scheme, rng)
+    settings = scheme, n, f, d
+    count = daybook.values(scheme, n, d)
+    for position in (0, rng.randrange(count), rng.randrange(count),
+                     count - 1, count, count + rng.randint(1, 40),
+                     rng.choice(NUMBERS), rng.getrandbits(32), TOP):
+        chain_at(case, settings, position)
+    four = daybook.fours(scheme, n, d)[rng.randrange(count)]
+    for wrong in (*one_wrong(rng, four), *by_rule(rng, n, d)):
+        position_of(case, settings, wrong)
+    for kind in (0, 4, TOP):
+        position_of(case, settings, (kind, *four[1:]))
+    for position in (rng.randrange(count), count, TOP):
+        bad = bad_settings(rng, *settings)
+        chain_at(case, bad, position)
+        position_of(case, bad, rng.choice((four, random_words(rng, 4))))
+
+
 # ----------------------------------------------------- cases run once a layout
 
 def whole_book(case):
@@ -814,9 +889,45 @@ def longest_season(case):
             case.claim(answer == last, "the order of 7, 16 and 17")
 
 
+def every_position(case):
+    """All positions of short books; in each of these all wrong numbers."""
+    rng, scheme = case.rng, case.scheme
+    for n in (1, 2, 4, 8, 16, 32, 64, 128, 256):
+        for k in (1, 2, 3, 4, 5, 8):
+            settings = scheme, n, 1, k * n
+            count = daybook.values(scheme, n, k * n)
+            found = [chain_at(case, settings, p) for p in range(count)]
+            case.claim(len({tuple(four) for four in found}) == count,
+                       "two chains have the same four")
+            case.claim(chain_at(case, settings, count) is None,
+                       "there are more chains than values")
+            for four in found if n <= 8 else rng.sample(found, 1):
+                for wrong in one_wrong(rng, four):
+                    position_of(case, settings, wrong)
+
+
+def longest_positions(case):
+    """Positions of books of 65,536 days: about each power of two, and many."""
+    rng, scheme = case.rng, case.scheme
+    for n in (1, 8, 256):
+        settings = scheme, n, 1, DAYS
+        count = daybook.values(scheme, n, DAYS)
+        near = [count_of_chains(scheme, n, 2 ** k) + j for k in range(17)
+                for j in (0, 1, 2)]
+        for position in (*near, 0, count - 2, count - 1, count, TOP,
+                         *(rng.randrange(count) for _ in range(2000))):
+            chain_at(case, settings, position)
+        for _ in range(300):
+            for four in by_rule(rng, n, DAYS):
+                position_of(case, settings, four)
+        case.claim(chain_at(case, settings, count - 1)[3] == DAYS,
+                   "the last chain does not end with the book")
+
+
 ONCE = (whole_book, whole_service, big_day, big_ledger, high_bytes,
-        settings_grid, record_grid, wide_arrays, longest_season)
+        settings_grid, record_grid, wide_arrays, longest_season,
+        every_position, longest_positions)
 KINDS = ((round_trip, 26), (read_table, 24), (refused, 14), (history, 12),
          (made_up_calls, 14), (empty_arrays, 5), (number_of_values, 5),
-         (values_of_record, 4), (sizes, 6))
+         (values_of_record, 4), (sizes, 6), (positions, 6))
 CHOICES = [kind for kind, weight in KINDS for _ in range(weight)]

@@ -19,7 +19,7 @@ DAYS_LIMIT = 65_536         # days in a book
 SLOTS = 17                  # running tile or tree chains in a record
 SUBSETS_LIMIT = 12          # up to this D, reading tries every set of days
 MASKS_LIMIT = 512           # up to this D, it has the chains as masks
-VERSION = 300               # 10000 major + 100 minor + patch: 0.3.0
+VERSION = 400               # 10000 major + 100 minor + patch: 0.4.0
 
 BLACK, TILE, TREE = "black", "tile", "tree"
 
@@ -283,6 +283,52 @@ def forecast(scheme, n, f, d, lengths):
         return refusal, 0, 0, 0
     count = values(scheme, n, d)
     return 0, count, 32 * count, forecast_blocks(scheme, n, lengths[:d])
+
+
+# ----------------------------------------------------------------- positions
+
+KIND_NUMBERS = {BLACK: 1, TILE: 2, TREE: 3}
+
+
+@lru_cache(maxsize=32)
+def fours(scheme, n, d):
+    """The chains of a book of d days, in book order, each by four numbers.
+
+    These are its kind, its index or level, and the first and the last of the
+    days that it covers.
+    """
+    out = []
+    for g in range(1, d + 1):
+        for name, covered in zip(names(scheme, n, g), _closing(scheme, n, g)):
+            kind, index, _ = name
+            out.append((KIND_NUMBERS[kind], index, covered[0], covered[-1]))
+    return out
+
+
+@lru_cache(maxsize=32)
+def places(scheme, n, d):
+    """The place of each chain of the book, by its four numbers."""
+    return {four: place for place, four in enumerate(fours(scheme, n, d))}
+
+
+def chain_at(scheme, n, f, d, position):
+    """(refusal, kind, index, first, last): refusals 1 2 3 7 18."""
+    refusal = days_call_refusal(scheme, n, f, d)
+    if refusal == 0 and position >= values(scheme, n, d):
+        refusal = 18
+    if refusal:
+        return refusal, 0, 0, 0, 0
+    return 0, *fours(scheme, n, d)[position]
+
+
+def position_of(scheme, n, f, d, chain):
+    """(refusal, position) of the chain with these four: 1 2 3 7 18."""
+    refusal = days_call_refusal(scheme, n, f, d)
+    if refusal == 0 and tuple(chain) not in places(scheme, n, d):
+        refusal = 18
+    if refusal:
+        return refusal, 0
+    return 0, places(scheme, n, d)[tuple(chain)]
 
 
 # ------------------------------------------------------------------- service

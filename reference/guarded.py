@@ -12,7 +12,8 @@ from wanted import WANT
 # the same without a length, Q numbers of 64 bits without a length.
 FORMS = {"open": "nnnB", "add": "BbW", "close": "BbWW", "seal": "nnnnbwb",
          "check": "nnnnbwbbb", "read": "nnnnbwW", "values": "nnnnW",
-         "record_values": "BW", "forecast": "nnnnwQ", "version": ""}
+         "record_values": "BW", "forecast": "nnnnwQ", "chain_at": "nnnnnW",
+         "position_of": "nnnnWW", "version": ""}
 LABELS = {
     "open": ("scheme", "n", "f", "record"),
     "add": ("record", "piece", "blocks"),
@@ -24,6 +25,8 @@ LABELS = {
     "values": ("scheme", "n", "f", "d", "values"),
     "record_values": ("record", "values"),
     "forecast": ("scheme", "n", "f", "d", "lengths", "sizes"),
+    "chain_at": ("scheme", "n", "f", "d", "position", "chain"),
+    "position_of": ("scheme", "n", "f", "d", "chain", "position"),
     "version": ()}
 WRITTEN = {"record", "part", "values", "blocks", "work", "list", "numbers",
            "sizes"}
@@ -33,6 +36,8 @@ ANSWERS = {"open": (0, 1, 2, 3), "add": (0, 6, 5, 4), "close": (0, 6, 5, 8),
            "read": (0, 1, 2, 3, 7, 8, 12, 13, 14),
            "values": (0, 1, 2, 3, 7), "record_values": (0, 6),
            "forecast": (0, 1, 2, 3, 7, 16, 17),
+           "chain_at": (0, 1, 2, 3, 7, 18),
+           "position_of": (0, 1, 2, 3, 7, 18),
            "version": (daybook.VERSION,)}
 
 
@@ -41,7 +46,8 @@ def is_written(name, label):
     if name == "record_values":
         return label == "values"
     return (label in WRITTEN or (name, label) in
-            {("seal", "book"), ("check", "outcomes")})
+            {("seal", "book"), ("check", "outcomes"), ("chain_at", "chain"),
+             ("position_of", "position")})
 
 
 def load(path):

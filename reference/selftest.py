@@ -8,6 +8,7 @@ import os
 import random
 import sys
 from collections import Counter
+from itertools import product
 
 import compare
 import daybook as db
@@ -756,6 +757,83 @@ def sizing():
            (0, 196_590, 6_290_880, 17_182_294_016))
 
 
+# ------------------------------------------------------------------ positions
+
+def four_by_rule(n, name):
+    """The four numbers of a named chain in closed form."""
+    kind, index, g = name
+    if kind == db.BLACK:
+        return 1, 0, 1, g
+    if kind == db.TREE:
+        return 3, index, g - 2 ** index + 1, g
+    return 2, index, g - n + 1, g - (n // 2 ** index if index else 0)
+
+
+def positions():
+    """The chain at each position, and back."""
+    # By hand.
+    for arguments, four in [((1, 2, 3, 24, 7), (1, 0, 1, 16)),
+                            ((2, 4, 1, 8, 4), (2, 0, 5, 8)),
+                            ((2, 4, 1, 8, 5), (2, 1, 5, 6)),
+                            ((2, 4, 1, 8, 6), (2, 2, 5, 7)),
+                            ((2, 4, 1, 8, 7), (1, 0, 1, 8)),
+                            ((2, 1, 1, 1, 0), (2, 0, 1, 1)),
+                            ((2, 1, 1, 1, 1), (1, 0, 1, 1)),
+                            ((3, 2, 1, 16, 15), (3, 3, 1, 8)),
+                            ((3, 2, 1, 16, 23), (3, 2, 9, 12)),
+                            ((3, 2, 1, 16, 24), (1, 0, 1, 12)),
+                            ((3, 2, 1, 16, 34), (3, 4, 1, 16)),
+                            ((3, 256, 1, 256, 510), (3, 8, 1, 256))]:
+        *settings, position = arguments
+        expect("by hand", db.chain_at(*arguments), (0, *four))
+        expect("and back", db.position_of(*settings, four), (0, position))
+
+    for scheme, n, f, d in cases(64):
+        named = [name for g in range(1, d + 1)
+                 for name in db.names(scheme, n, g)]
+        expect("in closed form", db.fours(scheme, n, d),
+               [four_by_rule(n, name) for name in named])
+        covered = db.chains(scheme, n, d)
+        count = db.values(scheme, n, d)
+        for position in range(count):
+            refusal, *four = db.chain_at(scheme, n, f, d, position)
+            days = covered[position]
+            expect("first and last", (refusal, *four[2:]),
+                   (0, days[0], days[-1]))
+            expect("back", db.position_of(scheme, n, f, d, four),
+                   (0, position))
+        for position in (count, count + 1, 2 ** 32 - 1):
+            expect("beyond", db.chain_at(scheme, n, f, d, position)[0], 18)
+
+    # All that short books know, and nothing else.
+    for scheme, n, f, d in cases(8):
+        book = db.fours(scheme, n, d)
+        for four in product(range(5), range(5), range(d + 2), range(d + 2)):
+            expect("any four", db.position_of(scheme, n, f, d, four),
+                   (0, book.index(four)) if four in book else (18, 0))
+
+    for scheme, n in [(s, n) for s in (1, 2, 3) for n in SIZES]:
+        count = db.values(scheme, n, 65_536)
+        expect("no two the same", len(db.places(scheme, n, 65_536)), count)
+        expect("the last", db.chain_at(scheme, n, 1, 65_536, count - 1),
+               (0, 3, 16, 1, 65_536) if scheme == 3
+               else (0, 1, 0, 1, 65_536))
+    for n in SIZES:
+        for g in [2 ** k for k in range(17) if 2 ** k % n == 0]:
+            expect("stored once", [db.position_of(3, n, 1, 65_536, four)[0]
+                                   for four in ((1, 0, 1, g),
+                                                (3, db.lg(g), 1, g))],
+                   [18, 0])
+
+    for arguments, want in [((0, 0, 0, 0), 1), ((1, 0, 0, 0), 2),
+                            ((1, 1, 0, 0), 3), ((3, 1, 2, 2), 3),
+                            ((1, 1, 1, 0), 7), ((1, 2, 1, 3), 7),
+                            ((1, 1, 1, 65_537), 7), ((1, 2, 1, 2), 18)]:
+        expect("position refused", db.chain_at(*arguments, 1)[0], want)
+        expect("chain refused", db.position_of(*arguments, (1, 1, 1, 2))[0],
+               want)
+
+
 # ------------------------------------------------------------- record's bytes
 
 def compression():
@@ -931,6 +1009,119 @@ def comparison():
                                                                 count))
         return 17 if answer == 16 and long else answer
 
+    def days_from_0(good, *arguments):
+        answer = good(*arguments)
+        if answer == 0:
+            kind, index, first, last = stand_in.get_words(arguments[-1], 4)
+            stand_in.put_words(arguments[-1], [kind, index, first - 1,
+                                               last - 1])
+        return answer
+
+    def days_to_the_tiles_end(good, scheme, n, f, d, position, chain):
+        answer = good(scheme, n, f, d, position, chain)
+        if answer == 0:
+            kind, index, first, last = stand_in.get_words(chain, 4)
+            if kind == 2:
+                stand_in.put_words(chain, [kind, index, first, first + n - 1])
+        return answer
+
+    def black_where_once(good, scheme, n, f, d, position, chain):
+        answer = good(scheme, n, f, d, position, chain)
+        if answer == 0:
+            kind, _, first, last = stand_in.get_words(chain, 4)
+            if kind == 3 and first == 1 and last % n == 0:
+                stand_in.put_words(chain, [1, 0, first, last])
+        return answer
+
+    def the_last_beyond(good, scheme, n, f, d, position, chain):
+        """A position beyond the book is taken as the last."""
+        if db.days_call_refusal(scheme, n, f, d) == 0:
+            position = min(position, db.values(scheme, n, d) - 1)
+        return good(scheme, n, f, d, position, chain)
+
+    def one_too_far(good, scheme, n, f, d, position, chain):
+        """18 only if the position is over the number of values."""
+        if db.days_call_refusal(scheme, n, f, d) == 0 \
+                and position == db.values(scheme, n, d):
+            return 0
+        return good(scheme, n, f, d, position, chain)
+
+    def position_before_7(good, scheme, n, f, d, position, chain):
+        """18 before 7: no book has so many values."""
+        answer = good(scheme, n, f, d, position, chain)
+        return 18 if answer == 7 and position >= 2 ** 31 else answer
+
+    def chain_before_7(good, scheme, n, f, d, chain, position):
+        """18 before 7: the last day is beyond D."""
+        answer = good(scheme, n, f, d, chain, position)
+        last = stand_in.get_words(chain, 4)[3]
+        return 18 if answer == 7 and last > d else answer
+
+    def without(*left_out):
+        """The four are compared but for those at these places."""
+        def fault(good, scheme, n, f, d, chain, position):
+            answer = good(scheme, n, f, d, chain, position)
+            if answer != 18:
+                return answer
+            named = stand_in.get_words(chain, 4)
+            for place, four in enumerate(db.fours(scheme, n, d)):
+                if all(k in left_out or four[k] == named[k]
+                       for k in range(4)):
+                    stand_in.put_words(position, [place])
+                    return 0
+            return 18
+        return fault
+
+    def any_index_of_black(good, scheme, n, f, d, chain, position):
+        kind, _, first, last = stand_in.get_words(chain, 4)
+        if kind != 1:
+            return good(scheme, n, f, d, chain, position)
+        four = (ctypes.c_uint32 * 4)(kind, 0, first, last)
+        return good(scheme, n, f, d, ctypes.addressof(four), position)
+
+    def once_as_black(good, scheme, n, f, d, chain, position):
+        """A value stored once may be named as black too."""
+        kind, index, first, last = stand_in.get_words(chain, 4)
+        answer = good(scheme, n, f, d, chain, position)
+        if answer != 18 or (kind, index, first) != (1, 0, 1) \
+                or last == 0 or last % n or last & (last - 1):
+            return answer
+        four = (ctypes.c_uint32 * 4)(3, db.lg(last), 1, last)
+        return good(scheme, n, f, d, ctypes.addressof(four), position)
+
+    def a_day_too_far(good, scheme, n, f, d, chain, position):
+        """The values of the closing day are counted with those before."""
+        answer = good(scheme, n, f, d, chain, position)
+        if answer == 0:
+            kind, _, first, last = stand_in.get_words(chain, 4)
+            day = first + n - 1 if kind == 2 else last
+            place, = stand_in.get_words(position, 1)
+            stand_in.put_words(position, [place
+                                          + len(db.names(scheme, n, day))])
+        return answer
+
+    for name, fault, schemes in [
+            ("chain_at", number_of_refused, (1, 2, 3)),
+            ("chain_at", days_from_0, (1, 2, 3)),
+            ("chain_at", days_to_the_tiles_end, (2,)),
+            ("chain_at", black_where_once, (3,)),
+            ("chain_at", the_last_beyond, (1, 2, 3)),
+            ("chain_at", one_too_far, (1, 2, 3)),
+            ("chain_at", position_before_7, (1, 2, 3)),
+            ("position_of", number_of_refused, (1, 2, 3)),
+            ("position_of", chain_before_7, (1, 2, 3)),
+            ("position_of", without(0), (1, 2, 3)),
+            ("position_of", without(1), (1, 2, 3)),
+            ("position_of", without(2), (1, 2, 3)),
+            ("position_of", without(3), (1, 2, 3)),
+            ("position_of", any_index_of_black, (1, 2, 3)),
+            ("position_of", once_as_black, (3,)),
+            ("position_of", a_day_too_far, (1, 2, 3))]:
+        for scheme in schemes:
+            expect(f"fault in {name} is found",
+                   differs(faulty(name, fault), scheme, first, first + 600),
+                   True)
+
     for name, fault in [
             ("add", past_record), ("add", null_is_refused),
             ("add", number_of_refused), ("add", next_call_counts),
@@ -1043,9 +1234,9 @@ def main():
                  call_lists, pieces, service_bounds, made_up_records,
                  last_days, check_tests, check_refusals, reading_tests,
                  reading_large, reading_refusals, whole_chain, values_calls,
-                 record_values_calls, sizing, compression, record_layout,
-                 record_histories, record_made_up, comparison, program,
-                 expected_outputs):
+                 record_values_calls, sizing, positions, compression,
+                 record_layout, record_histories, record_made_up, comparison,
+                 program, expected_outputs):
         before = PASSED, FAILED
         test()
         print(f"{test.__name__}: {PASSED - before[0]} passed, "

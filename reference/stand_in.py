@@ -105,6 +105,20 @@ def forecast(scheme, n, f, d, lengths, count, sizes):
     return refusal
 
 
+def chain_at(scheme, n, f, d, position, chain):
+    refusal, *four = daybook.chain_at(scheme, n, f, d, position)
+    if refusal == 0:
+        put_words(chain, four)
+    return refusal
+
+
+def position_of(scheme, n, f, d, chain, position):
+    refusal, place = daybook.position_of(scheme, n, f, d, get_words(chain, 4))
+    if refusal == 0:
+        put_words(position, [place])
+    return refusal
+
+
 def version():
     return daybook.VERSION
 
@@ -114,4 +128,5 @@ def calls():
     return {"open": open_service, "add": add, "close": close, "seal": seal,
             "check": check, "read": read, "values": values,
             "record_values": record_values, "forecast": forecast,
+            "chain_at": chain_at, "position_of": position_of,
             "version": version}

@@ -83,6 +83,16 @@ def want_forecast(scheme, n, f, d, lengths, sizes):
     return refusal, (scheme, n, f, d, lengths, sizes if refusal else found)
 
 
+def want_chain_at(scheme, n, f, d, position, chain):
+    refusal, *four = daybook.chain_at(scheme, n, f, d, position)
+    return refusal, (scheme, n, f, d, position, chain if refusal else four)
+
+
+def want_position_of(scheme, n, f, d, chain, position):
+    refusal, place = daybook.position_of(scheme, n, f, d, chain)
+    return refusal, (scheme, n, f, d, chain, position if refusal else (place,))
+
+
 def want_version():
     return daybook.VERSION, ()
 
@@ -90,7 +100,8 @@ def want_version():
 WANT = {"open": want_open, "add": want_add, "close": want_close,
         "seal": want_seal, "check": want_check, "read": want_read,
         "values": want_values, "record_values": want_record_values,
-        "forecast": want_forecast, "version": want_version}
+        "forecast": want_forecast, "chain_at": want_chain_at,
+        "position_of": want_position_of, "version": want_version}
 
 
 def day_digests(d, ledger, ends):

@@ -72,6 +72,22 @@ mod c {
             lengths_len: usize,
             sizes: *mut u64,
         ) -> u32;
+        pub fn daybook_chain_at(
+            scheme: u32,
+            n: u32,
+            f: u32,
+            d: u32,
+            position: u32,
+            chain: *mut u32,
+        ) -> u32;
+        pub fn daybook_position_of(
+            scheme: u32,
+            n: u32,
+            f: u32,
+            d: u32,
+            chain: *const u32,
+            position: *mut u32,
+        ) -> u32;
         pub fn daybook_version() -> u32;
     }
 }
@@ -210,6 +226,21 @@ pub fn forecast((scheme, n, f): Setting, d: u32, lengths: &[u32], sizes: &mut [u
     }
 }
 
+pub fn chain_at((scheme, n, f): Setting, d: u32, position: u32, chain: &mut [u32; 4]) -> u32 {
+    // SAFETY: see above; chain has four places.
+    unsafe { c::daybook_chain_at(scheme, n, f, d, position, chain.as_mut_ptr()) }
+}
+
+pub fn position_of(
+    (scheme, n, f): Setting,
+    d: u32,
+    chain: &[u32; 4],
+    position: &mut [u32; 1],
+) -> u32 {
+    // SAFETY: see above; chain has four places, position one.
+    unsafe { c::daybook_position_of(scheme, n, f, d, chain.as_ptr(), position.as_mut_ptr()) }
+}
+
 pub fn version() -> u32 {
     // SAFETY: it takes no pointer.
     unsafe { c::daybook_version() }
@@ -276,5 +307,54 @@ mod tests {
         assert_eq!(forecast((1, 1, 1), 1, &long, &mut sizes), 0);
         // 16,777,225 / 64 rounded down, plus 1, and one link
         assert_eq!(sizes, [1, 32, 262_147]);
+    }
+
+    /// Settings and D that are refused, and those of a book of 35 values.
+    const LOCATED: [(u32, Setting, u32); 5] = [
+        (1, (0, 0, 0), 0),
+        (2, (1, 0, 0), 0),
+        (3, (1, 1, 0), 0),
+        (7, (3, 2, 1), 15),
+        (18, (3, 2, 1), 16),
+    ];
+
+    #[test]
+    fn a_refused_position_leaves_the_chain() {
+        for (number, setting, d) in LOCATED {
+            for position in [35, 36, 1 << 31, u32::MAX] {
+                let mut chain = [77, 78, 79, 80];
+                assert_eq!(chain_at(setting, d, position, &mut chain), number);
+                assert_eq!(chain, [77, 78, 79, 80]);
+            }
+        }
+        let mut chain = [77, 78, 79, 80];
+        assert_eq!(chain_at((3, 2, 1), 16, 34, &mut chain), 0);
+        assert_eq!(chain, [3, 4, 1, 16]);
+    }
+
+    #[test]
+    fn a_refused_chain_leaves_the_position() {
+        // the kind any number, all numbers as high as can be, and black that is stored once
+        for (number, setting, d) in LOCATED {
+            for chain in [
+                [0, 4, 1, 16],
+                [4, 4, 1, 16],
+                [u32::MAX, 4, 1, 16],
+                [1, u32::MAX, 1, 12],
+                [2, 0, u32::MAX, u32::MAX],
+                [2, u32::MAX, u32::MAX, 0],
+                [3, u32::MAX, u32::MAX, u32::MAX],
+                [3, 32, 1, 16],
+                [1, 0, 1, 16],
+                [0, 0, 0, 0],
+            ] {
+                let (given, mut position) = (chain, [77]);
+                assert_eq!(position_of(setting, d, &given, &mut position), number);
+                assert_eq!((given, position), (chain, [77]));
+            }
+        }
+        let mut position = [77];
+        assert_eq!(position_of((3, 2, 1), 16, &[3, 4, 1, 16], &mut position), 0);
+        assert_eq!(position, [34]);
     }
 }

@@ -47,11 +47,13 @@ pub enum Refusal {
     FewLengths = 16,
     /// One of the first D lengths is over [`DAY_LIMIT`](crate::DAY_LIMIT).
     LongDay = 17,
+    /// The position is not below the number of values, or no chain of the book is the one given.
+    NotInBook = 18,
 }
 
 impl Refusal {
     /// Every refusal, by number. 15 is one of the program `readtable` and of no call.
-    pub const ALL: [Refusal; 16] = [
+    pub const ALL: [Refusal; 17] = [
         Refusal::BadScheme,
         Refusal::BadN,
         Refusal::BadF,
@@ -68,9 +70,10 @@ impl Refusal {
         Refusal::ImpossibleTable,
         Refusal::FewLengths,
         Refusal::LongDay,
+        Refusal::NotInBook,
     ];
 
-    /// The number of the cause: 1 to 14, 16 or 17.
+    /// The number of the cause: 1 to 14, or 16 to 18.
     #[must_use]
     pub const fn number(self) -> u32 {
         self as u32
@@ -127,6 +130,7 @@ impl Refusal {
             Refusal::ImpossibleTable => "no set of changed days gives these outcomes",
             Refusal::FewLengths => "there are fewer than D lengths of days",
             Refusal::LongDay => "the length of a day is over 16,777,216 bytes",
+            Refusal::NotInBook => "the book has no such position or chain",
         }
     }
 }
@@ -144,9 +148,9 @@ mod tests {
     use super::*;
 
     #[test]
-    fn numbers_are_1_to_17_without_15() {
+    fn numbers_are_1_to_18_without_15() {
         let numbers: Vec<u32> = Refusal::ALL.into_iter().map(Refusal::number).collect();
-        assert_eq!(numbers, (1..=14).chain(16..=17).collect::<Vec<u32>>());
+        assert_eq!(numbers, (1..=14).chain(16..=18).collect::<Vec<u32>>());
     }
 
     #[test]
@@ -156,7 +160,7 @@ mod tests {
             assert_eq!(Refusal::answer(refusal.number()), Err(refusal));
         }
         assert_eq!(Refusal::answer(0), Ok(()));
-        for number in [0, 15, 18, u32::MAX] {
+        for number in [0, 15, 19, u32::MAX] {
             assert_eq!(Refusal::from_number(number), None);
         }
     }

@@ -341,6 +341,7 @@ fn help() {
         ("read --help", "daybook read --scheme"),
         ("verify -h", "daybook verify --scheme"),
         ("forecast --help", "daybook forecast --scheme"),
+        ("locate --help", "daybook locate --scheme"),
     ] {
         let (status, out, messages) = run(&folder, line);
         assert_eq!((status, messages.as_str()), (0, ""));

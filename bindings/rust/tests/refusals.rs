@@ -4,8 +4,8 @@ mod common;
 
 use common::{day, ledger};
 use daybook::{
-    check, check_to_vecs, forecast, read, read_to_vec, seal, seal_to_vec, values, Layout, Refusal,
-    Service, RECORD,
+    chain_at, check, check_to_vecs, forecast, position_of, read, read_to_vec, seal, seal_to_vec,
+    values, Chain, Kind, Layout, Refusal, Service, RECORD,
 };
 
 /// Settings that are not allowed, with their refusal. Where two causes meet, the first test tells.
@@ -36,6 +36,14 @@ const D: u32 = 8;
 /// The values of D days: 2 intervals of 2 + lg 4.
 const VALUES: usize = 8;
 
+/// A chain of no book.
+const NOWHERE: Chain = Chain {
+    kind: Kind::Tree,
+    index: u32::MAX,
+    first: u32::MAX,
+    last: u32::MAX,
+};
+
 /// Eight days of four bytes.
 fn plain() -> (Vec<u8>, Vec<u32>) {
     ledger(&(1..=D).map(|g| day(g, 4)).collect::<Vec<_>>())
@@ -55,6 +63,8 @@ fn settings_by_every_call() {
         assert_eq!(read(layout, 0, &[], &mut []), Err(refusal));
         assert_eq!(read_to_vec(layout, 0, &[]), Err(refusal));
         assert_eq!(forecast(layout, 0, &[]), Err(refusal));
+        assert_eq!(chain_at(layout, 0, u32::MAX), Err(refusal));
+        assert_eq!(position_of(layout, 0, NOWHERE), Err(refusal));
     }
 }
 
@@ -82,6 +92,8 @@ fn numbers_of_days_by_every_call() {
         assert_eq!(read(LAYOUT, d, &[], &mut []), Err(refusal));
         assert_eq!(read_to_vec(LAYOUT, d, &[]), Err(refusal));
         assert_eq!(forecast(LAYOUT, d, &[u32::MAX; 3]), Err(refusal));
+        assert_eq!(chain_at(LAYOUT, d, u32::MAX), Err(refusal));
+        assert_eq!(position_of(LAYOUT, d, NOWHERE), Err(refusal));
     }
     assert_eq!(values(Layout::tile(4, 3), 65_536), Err(refusal));
     assert_eq!(values(LAYOUT, 65_536), Ok(65_536));

@@ -1,5 +1,5 @@
-// The calls on a ledger of 24 days: its values are counted, days of 130 bytes are sized, it is sealed, checked with
-// day 10 altered, and read.
+// The calls on a ledger of 24 days: its values are counted, days of 130 bytes are sized, a chain and a position of its
+// book are found, it is sealed, checked with day 10 altered, and read.
 use crate::lines;
 use test_samples::days;
 use test_samples::lent;
@@ -32,6 +32,27 @@ fn forecast() {
     print_size(sizes[0]);
     print_size(sizes[1]);
     print_size(sizes[2]);
+    lines::end();
+}
+
+fn chain_at() {
+    let mut chain = [95u32; 4];
+    lines::head(
+        b"chain_at",
+        daybook_c::daybook_chain_at(2, 8, 3, 24, 7, &mut chain),
+    );
+    lines::numbers(&[chain[0], chain[1], chain[2], chain[3]]);
+    lines::end();
+}
+
+fn position_of() {
+    let chain = [2u32, 3, 17, 23];
+    let mut position = 99u32;
+    lines::head(
+        b"position_of",
+        daybook_c::daybook_position_of(2, 8, 3, 24, &chain, &mut position),
+    );
+    lines::numbers(&[position]);
     lines::end();
 }
 
@@ -83,5 +104,7 @@ pub fn run() {
     days::put_all(&mut ledger, &mut ends);
     values();
     forecast();
+    chain_at();
+    position_of();
     seal_check_read(&mut ledger, &ends);
 }

@@ -4,7 +4,7 @@ use std::ffi::{OsStr, OsString};
 use std::os::unix::ffi::OsStringExt;
 use std::path::PathBuf;
 
-use daybook::Layout;
+use daybook::{Chain, Kind, Layout};
 
 use crate::help;
 use crate::state::{Sealed, Service};
@@ -63,6 +63,20 @@ pub enum Command {
         /// Whether the sizes are one line for programs.
         line: bool,
     },
+    Locate {
+        layout: Layout,
+        d: u32,
+        sought: Sought,
+        /// Whether position and chain are one line for programs.
+        line: bool,
+    },
+}
+
+/// What is given of a value of the book, and the rest is sought.
+#[derive(Clone, Copy, Debug, PartialEq, Eq)]
+pub enum Sought {
+    Position(u32),
+    Chain(Chain),
 }
 
 /// Where the days are.
@@ -88,7 +102,7 @@ type Form = (
     fn(&mut Options) -> Result<Command, Stop>,
 );
 
-const FORMS: [Form; 9] = [
+const FORMS: [Form; 10] = [
     (
         "open",
         help::OPEN,
@@ -167,6 +181,24 @@ const FORMS: [Form; 9] = [
             "--line",
         ],
         forecast,
+    ),
+    (
+        "locate",
+        help::LOCATE,
+        &[
+            "--scheme",
+            "--n",
+            "--f",
+            "--d",
+            "--state",
+            "--position",
+            "--kind",
+            "--index",
+            "--first",
+            "--last",
+            "--line",
+        ],
+        locate,
     ),
 ];
 
@@ -267,6 +299,17 @@ fn forecast(options: &mut Options) -> Result<Command, Stop> {
         layout: options.layout()?,
         d: options.number("--d")?,
         lengths: options.lengths()?,
+        line: options.flag("--line"),
+    })
+}
+
+fn locate(options: &mut Options) -> Result<Command, Stop> {
+    let sought = options.sought()?;
+    options.use_state()?;
+    Ok(Command::Locate {
+        layout: options.layout()?,
+        d: options.needed_number("--d")?,
+        sought,
         line: options.flag("--line"),
     })
 }
@@ -460,6 +503,46 @@ impl Options {
         }
     }
 
+    /// A position, or a chain by its four; black may come without its index, which is 0.
+    fn sought(&mut self) -> Result<Sought, Stop> {
+        let position = self.number("--position")?;
+        let kind = self.kind()?;
+        let index = self.number("--index")?;
+        let days = (self.number("--first")?, self.number("--last")?);
+        let black = (kind == Some(Kind::Black)).then_some(0);
+        match (position, kind, index.or(black), days) {
+            (Some(position), None, None, (None, None)) => Ok(Sought::Position(position)),
+            (None, Some(kind), Some(index), (Some(first), Some(last))) => {
+                Ok(Sought::Chain(Chain {
+                    kind,
+                    index,
+                    first,
+                    last,
+                }))
+            }
+            _ => Err(usage(&format!(
+                "{} needs either --position, or --kind, --index, --first and --last",
+                self.command
+            ))),
+        }
+    }
+
+    /// The kind of a chain, by its name or its number.
+    fn kind(&mut self) -> Result<Option<Kind>, Stop> {
+        let Some(value) = self.take("--kind") else {
+            return Ok(None);
+        };
+        match value.to_str() {
+            Some("black" | "1") => Ok(Some(Kind::Black)),
+            Some("tile" | "2") => Ok(Some(Kind::Tile)),
+            Some("tree" | "3") => Ok(Some(Kind::Tree)),
+            _ => Err(usage(&format!(
+                "--kind {} is not black, tile or tree, nor 1, 2 or 3",
+                value.display()
+            ))),
+        }
+    }
+
     /// A command on the folder that is the first word.
     fn service(
         &mut self,
@@ -631,6 +714,86 @@ mod tests {
     }
 
     #[test]
+    fn locations() {
+        let locate = |sought, line| {
+            Ok(Request::Run(Command::Locate {
+                layout: Layout::tree(2),
+                d: 16,
+                sought,
+                line,
+            }))
+        };
+        let layout = "locate --scheme 3 --n 2 --f 1 --d 16";
+        let found = |words: &str| parsed(&format!("{layout} {words}"));
+        let position = |position| Sought::Position(position);
+        assert_eq!(found("--position 23"), locate(position(23), false));
+        let most = locate(position(u32::MAX), true);
+        assert_eq!(found("--line --position 4294967295"), most);
+        let chain = |kind, index, first, last| {
+            Sought::Chain(Chain {
+                kind,
+                index,
+                first,
+                last,
+            })
+        };
+        let tree = locate(chain(Kind::Tree, 2, 9, 12), false);
+        assert_eq!(found("--kind tree --index 2 --first 9 --last 12"), tree);
+        assert_eq!(found("--last=12 --index=2 --first=9 --kind=3"), tree);
+        let tile = locate(chain(Kind::Tile, 0, 1, 2), true);
+        assert_eq!(
+            found("--kind tile --index 0 --first 1 --last 2 --line"),
+            tile
+        );
+        let black = locate(chain(Kind::Black, 0, 1, 12), false);
+        assert_eq!(found("--kind black --first 1 --last 12"), black);
+        assert_eq!(found("--kind 1 --index 0 --first 1 --last 12"), black);
+        let other = locate(chain(Kind::Black, 7, 1, 12), false);
+        assert_eq!(found("--kind black --index 7 --first 1 --last 12"), other);
+    }
+
+    #[test]
+    fn locations_that_are_none() {
+        let layout = "locate --scheme 3 --n 2 --f 1 --d 16";
+        let said = |words: &str| message(&format!("{layout} {words}"));
+        for words in [
+            "",
+            "--kind tree",
+            "--kind tree --first 9 --last 12",
+            "--kind tree --index 2 --first 9",
+            "--kind tree --index 2 --last 12",
+            "--index 2 --first 9 --last 12",
+            "--kind black --index 0 --first 1",
+            "--position 23 --index 2",
+            "--position 23 --last 12",
+            "--position 23 --kind black",
+            "--position 23 --kind tree --index 2 --first 9 --last 12",
+        ] {
+            assert_eq!(
+                said(words),
+                "locate needs either --position, or --kind, --index, --first and --last"
+            );
+        }
+        for kind in ["Black", "4", "0", "01", "trees", "4294967295"] {
+            assert_eq!(
+                said(&format!("--kind {kind}")),
+                format!("--kind {kind} is not black, tile or tree, nor 1, 2 or 3")
+            );
+        }
+        for option in ["--position", "--index", "--first", "--last"] {
+            for number in ["4294967296", "-1", "x", "07"] {
+                let text = said(&format!("{option}={number}"));
+                assert!(text.starts_with(&format!("{option} {number} is not a number")));
+            }
+        }
+        assert_eq!(
+            message("locate --scheme 3 --n 2 --f 1 --position 1"),
+            "locate needs --d"
+        );
+        assert_eq!(message("locate --days in"), "locate has no option --days");
+    }
+
+    #[test]
     fn services() {
         let service = |folder: &str, service| {
             Ok(Request::Run(Command::Service {
@@ -697,6 +860,7 @@ mod tests {
         assert_eq!(parsed("read --d 1 --help"), Ok(Request::Help(help::READ)));
         assert_eq!(parsed("verify --help"), Ok(Request::Help(help::VERIFY)));
         assert_eq!(parsed("forecast -h"), Ok(Request::Help(help::FORECAST)));
+        assert_eq!(parsed("locate -h"), Ok(Request::Help(help::LOCATE)));
         assert_eq!(parsed("help"), Ok(Request::Help(help::ALL)));
         assert_eq!(parsed("help read"), Ok(Request::Help(help::READ)));
         assert_eq!(parsed("--version"), Ok(Request::Help(help::VERSION)));

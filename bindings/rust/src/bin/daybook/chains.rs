@@ -36,6 +36,16 @@ pub struct Chain {
 }
 
 impl Chain {
+    /// The chain of a book that the library gives by its four.
+    pub fn named(chain: daybook::Chain, n: u32) -> Chain {
+        let (kind, day) = match chain.kind {
+            daybook::Kind::Black => (Kind::Black, chain.last),
+            daybook::Kind::Tile => (Kind::Tile(chain.index), chain.first + n - 1),
+            daybook::Kind::Tree => (Kind::Tree(chain.index), chain.last),
+        };
+        Chain { kind, day, n }
+    }
+
     /// The days covered, as runs from one day to another, ascending.
     pub fn runs(&self) -> Vec<(u32, u32)> {
         let last = self.day;
@@ -66,21 +76,26 @@ impl fmt::Display for Chain {
     }
 }
 
-/// Runs of days in words; of many the first and the last.
-fn run_text(runs: &[(u32, u32)]) -> String {
+/// Runs of days in words.
+pub fn run_text(runs: &[(u32, u32)]) -> String {
+    let text = runs_listed(runs);
+    match runs {
+        [(first, last)] if first == last => format!("day {text}"),
+        _ => format!("days {text}"),
+    }
+}
+
+/// Runs of days; of many the first and the last.
+pub fn runs_listed(runs: &[(u32, u32)]) -> String {
     let one = |run: &(u32, u32)| match *run {
         (first, last) if first == last => first.to_string(),
         (first, last) => format!("{first} to {last}"),
     };
-    let text = match runs {
+    match runs {
         [first, second, .., last] if runs.len() > 4 => {
             format!("{}, {}, .. {}", one(first), one(second), one(last))
         }
         runs => runs.iter().map(one).collect::<Vec<_>>().join(", "),
-    };
-    match runs {
-        [(first, last)] if first == last => format!("day {text}"),
-        _ => format!("days {text}"),
     }
 }
 
@@ -178,6 +193,19 @@ mod tests {
             };
             let all: Vec<Vec<u32>> = chains(layout, 48).map(days).collect();
             assert_eq!(all, plain::chains(layout, 48), "{layout}");
+        }
+    }
+
+    /// The four that the library gives name the same days.
+    #[test]
+    fn chains_by_their_four() {
+        for layout in layouts() {
+            for (place, chain) in chains(layout, 48).enumerate() {
+                let four = daybook::chain_at(layout, 48, place as u32).unwrap();
+                let named = Chain::named(four, layout.n);
+                assert_eq!(named.runs(), chain.runs(), "{layout}, {place}");
+                assert_eq!(named.day, chain.day, "{layout}, {place}");
+            }
         }
     }
 

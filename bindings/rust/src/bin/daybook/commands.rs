@@ -17,6 +17,7 @@ use crate::figure::Verified;
 use crate::files::{read_front, test_written, Staged};
 use crate::fit::{moved, Fit};
 use crate::forecast::forecast;
+use crate::locate::locate;
 use crate::names::{field, out_of_order};
 use crate::progress::Progress;
 use crate::say;
@@ -98,6 +99,12 @@ pub fn run(command: &Command) -> Result<Done, Stop> {
             lengths,
             line,
         } => forecast(*layout, *d, lengths, *line),
+        Command::Locate {
+            layout,
+            d,
+            sought,
+            line,
+        } => locate(*layout, *d, *sought, *line),
     }
 }
 

@@ -1,8 +1,8 @@
 //! Which day or value a refusal speaks of, in words.
 
-use daybook::{Layout, DAY_LIMIT, VALUE};
+use daybook::{position_of, Kind, Layout, DAY_LIMIT, VALUE};
 
-use crate::chains::{chains, Chain};
+use crate::chains::{chains, run_text, Chain};
 
 /// Refusal 10: the first of `d` days whose end is wrong, and why. `length` is that of the ledger.
 pub fn bad_end(ends: &[u32], d: u32, length: u64, names: Option<&[String]>) -> Option<String> {
@@ -99,7 +99,70 @@ fn days_not_cleared(layout: Layout, d: u32, outcomes: &[u8]) -> Vec<u32> {
 }
 
 fn value_name(place: usize, chain: &Chain) -> String {
-    format!("value {} of the book ({chain})", place + 1)
+    format!("the value at position {place} of the book ({chain})")
+}
+
+/// Refusal 18: a position beyond the book's values.
+pub fn no_position(values: u32, position: u32) -> String {
+    let last = values.saturating_sub(1);
+    format!("the positions are 0 to {last}, and {position} is beyond them")
+}
+
+/// Refusal 18: why no chain of the book has these four.
+pub fn no_chain(layout: Layout, d: u32, chain: daybook::Chain) -> String {
+    match chain.kind {
+        Kind::Black => no_black(layout, d, chain),
+        Kind::Tile => no_tile(layout, d, chain.index),
+        Kind::Tree => no_tree(layout, d, chain.index),
+    }
+}
+
+fn no_black(layout: Layout, d: u32, chain: daybook::Chain) -> String {
+    let (n, last) = (layout.n, chain.last);
+    if chain.index != 0 {
+        return "the index of black is 0".to_string();
+    }
+    let level = last.checked_ilog2().unwrap_or_default();
+    let root = daybook::Chain {
+        kind: Kind::Tree,
+        index: level,
+        ..chain
+    };
+    match position_of(layout, d, root) {
+        Ok(position) if last.is_multiple_of(n) => format!(
+            "black over {} is stored once, as tree level {level}: at position {position}",
+            run_text(&[(1, last)])
+        ),
+        _ => format!("black goes from day 1 to a multiple of {n}, up to day {d}"),
+    }
+}
+
+fn no_tile(layout: Layout, d: u32, index: u32) -> String {
+    let (scheme, n) = (layout.scheme, layout.n);
+    if scheme != Layout::TILE {
+        return format!("scheme {scheme} has no tile chains");
+    }
+    if index > n.ilog2() {
+        let top = n.ilog2();
+        return format!("with N {n} the last tile chain of a day is {top}");
+    }
+    let last = if index == 0 { n } else { n - (n >> index) };
+    format!(
+        "tile chain {index} goes from day 1 to {last}, and so on by {n}, in tiles up to day {d}"
+    )
+}
+
+fn no_tree(layout: Layout, d: u32, level: u32) -> String {
+    let scheme = layout.scheme;
+    if scheme != Layout::TREE {
+        return format!("scheme {scheme} has no tree chains");
+    }
+    if level > d.ilog2() {
+        let top = d.ilog2();
+        return format!("with D {d} the highest level of the tree is {top}");
+    }
+    let span = 1 << level;
+    format!("tree level {level} goes from day 1 to {span}, and so on by {span}, up to day {d}")
 }
 
 #[cfg(test)]
@@ -150,18 +213,18 @@ mod tests {
         let said = |layout, d, table: &[u8]| impossible_value(layout, d, table);
         assert_eq!(
             said(Layout::tile(4, 1), 4, &[1, 1, 1, 0]).unwrap(),
-            "value 4 of the book (black at day 4, over days 1 to 4) fails, \
+            "the value at position 3 of the book (black at day 4, over days 1 to 4) fails, \
              though each day that it covers is in a value that passes"
         );
         assert_eq!(
             said(Layout::tree(1), 2, &[1, 1, 0]).unwrap(),
-            "value 3 of the book (tree level 1, also black, at day 2, over days 1 to 2) fails, \
-             though each day that it covers is in a value that passes"
+            "the value at position 2 of the book (tree level 1, also black, at day 2, over days 1 to 2) \
+             fails, though each day that it covers is in a value that passes"
         );
         // day 2 fails alone, and a pass over both days clears it
-        assert!(said(Layout::tree(1), 2, &[1, 0, 1])
-            .unwrap()
-            .starts_with("value 2 of the book (tree level 0 at day 2, over day 2)"));
+        assert!(said(Layout::tree(1), 2, &[1, 0, 1]).unwrap().starts_with(
+            "the value at position 1 of the book (tree level 0 at day 2, over day 2)"
+        ));
         assert_eq!(said(Layout::tree(1), 2, &[1, 0, 0]), None);
     }
 
@@ -186,6 +249,96 @@ mod tests {
     }
 
     #[test]
+    fn no_such_position() {
+        assert_eq!(
+            no_position(35, 35),
+            "the positions are 0 to 34, and 35 is beyond them"
+        );
+    }
+
+    #[test]
+    fn no_such_chain() {
+        let said = |layout, d, (kind, index, first, last)| {
+            let chain = daybook::Chain {
+                kind,
+                index,
+                first,
+                last,
+            };
+            assert!(position_of(layout, d, chain).is_err(), "{chain:?}");
+            no_chain(layout, d, chain)
+        };
+        let (black, tile, tree) = (Layout::black(2, 3), Layout::tile(16, 2), Layout::tree(2));
+        let by_two = "black goes from day 1 to a multiple of 2, up to day 24";
+        for days in [(2, 4), (1, 3), (1, 26), (0, 0), (1, u32::MAX)] {
+            let chain = (Kind::Black, 0, days.0, days.1);
+            assert_eq!(said(black, 24, chain), by_two);
+        }
+        let second = (Kind::Black, 1, 1, 4);
+        assert_eq!(said(black, 24, second), "the index of black is 0");
+        for (layout, scheme) in [(black, 1), (tree, 3)] {
+            assert_eq!(
+                said(layout, 48, (Kind::Tile, 0, 1, 2)),
+                format!("scheme {scheme} has no tile chains")
+            );
+        }
+        for (layout, scheme) in [(black, 1), (tile, 2)] {
+            assert_eq!(
+                said(layout, 96, (Kind::Tree, 0, 1, 1)),
+                format!("scheme {scheme} has no tree chains")
+            );
+        }
+        assert_eq!(
+            said(tile, 64, (Kind::Tile, 5, 17, 31)),
+            "with N 16 the last tile chain of a day is 4"
+        );
+        assert_eq!(
+            said(tile, 64, (Kind::Tile, 2, 17, 32)),
+            "tile chain 2 goes from day 1 to 12, and so on by 16, in tiles up to day 64"
+        );
+        assert_eq!(
+            said(tile, 64, (Kind::Tile, 0, 17, 31)),
+            "tile chain 0 goes from day 1 to 16, and so on by 16, in tiles up to day 64"
+        );
+        assert_eq!(
+            said(tree, 16, (Kind::Tree, 2, 8, 12)),
+            "tree level 2 goes from day 1 to 4, and so on by 4, up to day 16"
+        );
+        for level in [5, 31, 32, u32::MAX] {
+            assert_eq!(
+                said(tree, 16, (Kind::Tree, level, 1, 16)),
+                "with D 16 the highest level of the tree is 4"
+            );
+        }
+    }
+
+    #[test]
+    fn black_that_is_stored_once() {
+        let said = |n, d, first, last| {
+            let chain = daybook::Chain {
+                kind: Kind::Black,
+                index: 0,
+                first,
+                last,
+            };
+            no_chain(Layout::tree(n), d, chain)
+        };
+        assert_eq!(
+            said(2, 16, 1, 8),
+            "black over days 1 to 8 is stored once, as tree level 3: at position 15"
+        );
+        assert_eq!(
+            said(1, 4, 1, 1),
+            "black over day 1 is stored once, as tree level 0: at position 0"
+        );
+        // no black closes at these days, or it begins at day 1, or the book ends before
+        let plain = "black goes from day 1 to a multiple of 4, up to day 16";
+        for (first, last) in [(1, 2), (5, 8), (1, 32), (1, 1 << 31), (0, 0)] {
+            assert_eq!(said(4, 16, first, last), plain);
+        }
+    }
+
+    #[test]
     fn other_causes() {
         assert_eq!(
             short_book(8, 255),
@@ -193,7 +346,7 @@ mod tests {
         );
         assert_eq!(
             bad_outcome(Layout::black(2, 1), 4, &[1, 7]).unwrap(),
-            "value 2 of the book (black at day 4, over days 1 to 4) is 7"
+            "the value at position 1 of the book (black at day 4, over days 1 to 4) is 7"
         );
         assert_eq!(bad_outcome(Layout::black(2, 1), 4, &[1, 0, 9]), None);
     }

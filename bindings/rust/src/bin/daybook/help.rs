@@ -20,6 +20,9 @@ Whole books:
 A season before it is sealed:
   daybook forecast  say what sealing it will take, from the lengths of the days alone
 
+A value that a letter quotes:
+  daybook locate    say which days the value at a position of the book is about, or the other way
+
 daybook help COMMAND, or daybook COMMAND --help, says more of each; daybook --version the version.
 An option is written --option value or --option=value.
 
@@ -27,7 +30,8 @@ A command that reads prints the lines
   REF,scheme,listed,first,low,high,lastgood
   DAY,g                 for each day that may have been altered
 on standard output (clean: REF,scheme,0,0,0,0,D). A refusal prints NO,number there.
-forecast prints the sizes there, with --line as SIZE,scheme,values,bytes,blocks.
+forecast prints the sizes there, with --line as SIZE,scheme,values,bytes,blocks; locate the chain or
+its position, with --line as CHAIN,position,kind,index,first,last.
 Messages go to standard error.
 
 Exit status:
@@ -179,4 +183,30 @@ no file is written.
 
 A day of b bytes takes (b + 9) / 64 blocks, rounded down, plus 1; each link of a chain takes 2. Fewer
 lengths than D is refusal 16; a day over 16,777,216 bytes, among the first D, is refusal 17.
+";
+
+pub const LOCATE: &str = "\
+daybook locate --scheme S --n N --f F --d D --position P [--line]
+daybook locate --scheme S --n N --f F --d D --kind K --index I --first G --last H [--line]
+daybook locate --state DIR [--d D] --position P [--line], or with a chain as above
+
+Says which chain stands at a position of the book, counted from 0, and which days it covers: tree level
+2, days 9 to 12. Of a tile chain that leaves out days between its first and its last it says their number
+and the days. With a chain in place of a position it says the position. The book itself is not read.
+
+  --scheme S --n N --f F   the layout: 1 black, 2 tile, 3 tree; days in an interval; intervals per
+                           validation
+  --d D                    the days of the book
+  --state DIR              layout of this state folder; D is then the greatest that is allowed and not
+                           above the days closed
+  --position P             a position, the first value being at 0
+  --kind K                 the kind of a chain: black, tile or tree, or its number 1, 2 or 3
+  --index I                i of the tile chain c(i), the level of the tree; black is 0, and need not
+                           have it
+  --first G --last H       the first and the last day that the chain covers; c(i) from 1 on ends before
+                           its tile does
+  --line                   print one line for programs: CHAIN,position,kind,index,first,last
+
+A position beyond the values, or a chain that is not in the book, is refusal 18. All four of a chain
+must agree. A value that scheme 3 stores once, for black and for the tree, is in the book as tree.
 ";

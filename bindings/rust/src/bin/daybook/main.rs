@@ -15,6 +15,7 @@ mod forecast;
 mod help;
 mod leavings;
 mod lengths;
+mod locate;
 mod names;
 mod progress;
 mod state;
