@@ -317,8 +317,8 @@ fn the_value_of_refusal_14() {
         &[
             "daybook: refusal 14 (scheme 2, N 4, F 2, D 8): no set of changed days gives these \
              outcomes",
-            "daybook: the value at position 7 of the book (black at day 8, over days 1 to 8) fails, \
-             though each day that it covers is in a value that passes",
+            "daybook: value 8 of the book (black at day 8, over days 1 to 8) fails, though each day \
+             that it covers is in a value that passes",
         ],
     );
     fs::write(folder.file("table"), [1, 1, 3, 1, 1, 1, 1, 1]).unwrap();
@@ -327,9 +327,7 @@ fn the_value_of_refusal_14() {
         "read --scheme 2 --n 4 --f 2 --d 8 --outcomes table",
     );
     assert_eq!((status, out.as_str()), (2, "NO,13\n"));
-    let text =
-        "daybook: the value at position 2 of the book (tile chain c(2) at day 4, over days 1, 3) \
-                is 3";
+    let text = "daybook: value 3 of the book (tile chain c(2) at day 4, over days 1, 3) is 3";
     assert_eq!(messages.lines().nth(1), Some(text));
 }
 
