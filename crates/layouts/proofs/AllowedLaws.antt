@@ -202,7 +202,7 @@ day-values s n (suc g) {p} {q} l e h =
     let w = rw k at h in
     omega arith
 
-namesThrough-length : (s n g : ℕ) → length (chains s n g) ≡ length (namesThrough s n g)
+pub namesThrough-length : (s n g : ℕ) → length (chains s n g) ≡ length (namesThrough s n g)
 unfolding chains
 namesThrough-length s n g = length-map (namesThrough s n g) (coveredDays n)
 

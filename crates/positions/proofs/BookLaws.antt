@@ -10,7 +10,8 @@ use lib.Dec.{leb}
 use borrow.Author.Tests.{le-leb, leb-true}
 use Rattle.lists.specs.Lists.{_among_, same}
 use Rattle.lists.proofs.Laws.{split, and-both, and-of, same-eq, eq-same}
-use Rattle.layouts.specs.Layouts.{allowedScheme, allowedN, black, coveredDays, namesOfDay, namesThrough, chains}
+use Rattle.layouts.specs.Layouts.{allowedScheme, allowedN, black, namesOfDay, namesThrough, chains}
+use Rattle.layouts.proofs.AllowedLaws.{namesThrough-length}
 use Rattle.layouts.proofs.Coverage.{namesThrough-suc, chains-front}
 use Rattle.layouts.proofs.Positions.{in-day}
 use Rattle.positions.specs.Positions.{chainOf, bookChains, numbersOf, bookNumbers, firstPlace}
@@ -19,13 +20,9 @@ use Rattle.positions.proofs.DayLaws.{leads}
 
 -- ---- lengths
 
-pub names-length : (s n d : ℕ) → length (chains s n d) ≡ length (namesThrough s n d)
-unfolding chains
-names-length s n d = length-map (namesThrough s n d) (coveredDays n)
-
 pub book-length : (s n d : ℕ) → length (bookChains s n d) ≡ length (chains s n d)
 unfolding bookChains
-book-length s n d = length-map (namesThrough s n d) (chainOf n) ∙ sym (names-length s n d)
+book-length s n d = length-map (namesThrough s n d) (chainOf n) ∙ sym (namesThrough-length s n d)
 
 pub numbers-length : (s n d : ℕ) → length (bookNumbers s n d) ≡ length (chains s n d)
 unfolding bookNumbers
@@ -41,7 +38,7 @@ pub record Closes (s n d p g i : ℕ) : Type 0 where
   pub place-is : length (chains s n (pred g)) + i ≡ p
 
 day-length : (s n g : ℕ) → length (chains s n (suc g)) ≡ length (chains s n g) + length (namesOfDay s n (suc g))
-day-length s n g = rw (names-length s n (suc g), names-length s n g, namesThrough-suc s n g, length-append)
+day-length s n g = rw (namesThrough-length s n (suc g), namesThrough-length s n g, namesThrough-suc s n g, length-append)
 
 pub closes : (s n d p g : ℕ) → 1 ≤ g → g ≤ d → length (chains s n (pred g)) ≤ p → p < length (chains s n g) → Closes s n d p g (p - length (chains s n (pred g)))
 closes s n d p zero o m a b = absurd (omega arith)
@@ -71,7 +68,7 @@ module _ (s n d p g i : ℕ) (c : Closes s n d p g i) where
       go : (h : ℕ) → Closes s n d p h i → getD (namesThrough s n d) p (black 0) ≡ getD (namesOfDay s n h) i (black 0)
       go zero k = absurd (omega (arith, k .some))
       go (suc h) k =
-          let e : length (namesThrough s n h) + i ≡ p = omega (arith, k .place-is, names-length s n h) in
+          let e : length (namesThrough s n h) + i ≡ p = omega (arith, k .place-is, namesThrough-length s n h) in
           ap (λ (x : ℕ). getD (namesThrough s n d) x (black 0)) (sym e) ∙ in-day s n h d i (black 0) (omega (arith, k .most)) (k .inside)
 
   pub chain-there : getD (bookChains s n d) p (chainOf n (black 0)) ≡ chainOf n (getD (namesOfDay s n g) i (black 0))

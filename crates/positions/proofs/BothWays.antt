@@ -1,17 +1,20 @@
 -- Each call undoes the other, and 18 exactly where there is nothing to give.
 use mathlib.Core.Path.{_≡_, refl, sym, ap, _∙_}
-use mathlib.Core.Bool.{true, not}
+use mathlib.Core.Bool.{true, not, _&&_, cond}
 use mathlib.Core.Logic.{inl, inr}
-use mathlib.Core.List.{List, [], _∷_}
-use Prim.Native.Nat.{ℕ, suc, _≤_, _<_}
-use native.Mathlib.{Decide.decLt, Omega.arith}
+use mathlib.Core.List.{List, [], _∷_, Memᴰ·append-left, Memᴰ·map, Memᴰ·cast}
+use Prim.Native.Nat.{ℕ, suc, _-_, _%_, _^_, _≤_, _<_}
+use native.Mathlib.{Nat.mod-self, Decide.decLt, Omega.arith}
+use lib.Pow.{pow-pos}
 use lib.ListN.{length, getD, List·getD-map}
 use lib.Dec.{leb}
-use borrow.Author.Tests.{leb-true, not-true}
-use Rattle.lists.specs.Lists.{_among_}
-use Rattle.lists.proofs.Laws.{split, true-or-false, and-both}
-use Rattle.layouts.specs.Layouts.{allowedScheme, allowedN, layoutRefusal, valueCount, chains, black, divides, levels, storedOnce, namesOfDay}
+use borrow.Author.Tests.{eq-eqb, leb-true, not-true}
+use Rattle.lists.specs.Lists.{_among_, upFrom}
+use Rattle.lists.proofs.Laws.{split, true-or-false, and-both, upFrom-mem, mem-keep}
+use Rattle.layouts.specs.Layouts.{allowedScheme, allowedN, layoutRefusal, valueCount, chains, lg, black, tree, divides, levels, storedOnce, namesOfDay, namesThrough}
 use Rattle.layouts.proofs.AllowedLaws.{layout-asks, values-counted}
+use Rattle.layouts.proofs.Counts.{below-pow, power-of, lg-unique}
+use Rattle.layouts.proofs.Coverage.{namesThrough-in}
 use Rattle.positions.specs.declared.Kind.{Kind}
 use Rattle.positions.specs.declared.Kind.the-variants.{Black, Tile, Tree}
 use Rattle.positions.specs.declared.Chain.{Chain}
@@ -22,8 +25,10 @@ use Rattle.positions.specs.declared.Place.the-variants as case-of-place
 use Rattle.positions.specs.Positions.{kindNumber, chainOf, bookChains, numbersOf, bookNumbers, firstPlace, located, placed}
 use Rattle.positions.specs.Private.{dayWithin, closingDay}
 use Rattle.positions.specs.Statements.{BothWays, TreeOnly}
+use Rattle.positions.proofs.Spans.{tree-days}
 use Rattle.positions.proofs.DayLaws.{black-stored}
 use Rattle.positions.proofs.BookLaws.{numbers-length, first-at, first-in, in-first, found, only-place}
+use Rattle.positions.proofs.StepLaws.{four}
 use Rattle.positions.proofs.CallLaws.{located-beyond, located-at, placed-absent, placed-at}
 
 -- ---- answers apart
@@ -57,11 +62,7 @@ kind-same Tile Tree e = absurd (omega arith)
 kind-same Tree Black e = absurd (omega arith)
 kind-same Tree Tile e = absurd (omega arith)
 
-four : Kind → ℕ → ℕ → ℕ → Chain
-four kind index first last = record { kind = kind; index = index; first = first; last = last }
-
 chain-same : (a b : Chain) → numbersOf a ≡ numbersOf b → a ≡ b
-unfolding four
 chain-same a b e =
     let k = kind-same (a .kind) (b .kind) (ap (λ (x : List ℕ). getD x 0 0) e) in
     let i : a .index ≡ b .index = ap (λ (x : List ℕ). getD x 1 0) e in
@@ -154,8 +155,8 @@ not-black n d g h once o e l = elim (split (leb g d)) [
   | inr t ↦ let z : h ≡ 0 = e ∙ rw t in absurd (omega arith)
 ]
 
-pub tree-only : TreeOnly
-tree-only n d g ok once = elim (decLt (firstPlace numbers (bookNumbers 3 n d)) (length (bookNumbers 3 n d))) [
+once-not-black : (n d g : ℕ) → layoutRefusal 3 n 1 d ≡ 0 → storedOnce g ≡ true → placed 3 n 1 d (1 ∷ 0 ∷ 1 ∷ g ∷ []) ≡ case-of-place.Refused 18
+once-not-black n d g ok once = elim (decLt (firstPlace numbers (bookNumbers 3 n d)) (length (bookNumbers 3 n d))) [
   | yes l ↦
       let a = layout-asks 3 n 1 d refl ok in
       let r = found 3 n d 1 0 1 g (a .0) (a .1) l in
@@ -165,3 +166,28 @@ tree-only n d g ok once = elim (decLt (firstPlace numbers (bookNumbers 3 n d)) (
   where
     numbers : List ℕ
     numbers = 1 ∷ 0 ∷ 1 ∷ g ∷ []
+
+-- the level over days 1 to g = 2^l
+level-there : (n d g l : ℕ) → 2 ^ l ≡ g → g ≤ d → 3 ∷ l ∷ 1 ∷ g ∷ [] among bookNumbers 3 n d
+unfolding bookNumbers bookChains
+level-there n d g l e m =
+    let o : 1 ≤ g = rw e at (pow-pos l) in
+    let b = below-pow l in
+    let w : divides (2 ^ l) g ≡ true = rw e (eq-eqb (g % g) 0 (mod-self g)) in
+    let t = tree-days n g l o w in
+    let one : suc (g - 2 ^ l) ≡ 1 = omega arith in
+    let i : tree l g among namesThrough 3 n d =
+    namesThrough-in 3 n d (upFrom-mem 1 d g o (omega arith)) (tree l g) (Memᴰ·append-left (cond (divides n g && not (storedOnce g)) (black g ∷ []) [])
+    (Memᴰ·map (λ (j : ℕ). tree j g) (mem-keep (λ x. divides (2 ^ x) g) (upFrom 0 g) l (upFrom-mem 0 g l (omega arith) (omega arith)) w))) in
+    let q : numbersOf (chainOf n (tree l g)) ≡ 3 ∷ l ∷ 1 ∷ g ∷ [] = rw (t .0, t .1, one) in
+    Memᴰ·cast (sym q) (Memᴰ·map numbersOf (Memᴰ·map (chainOf n) i))
+
+pub tree-only : TreeOnly
+tree-only n d g ok once =
+    let r = power-of g once in
+    let k = lg-unique g (r .0) (omega (arith, r .1)) (omega (arith, r .1, pow-pos (r .0))) in
+    let e : 2 ^ lg g ≡ g = ap (λ (x : ℕ). 2 ^ x) k ∙ r .1 in
+    record {
+      not-black = once-not-black n d g ok once;
+      but-tree = λ m. (_, sym (placed-at 3 n 1 d refl (3 ∷ lg g ∷ 1 ∷ g ∷ []) ok (in-first (level-there n d g (lg g) e m)) refl));
+    }

@@ -50,7 +50,8 @@ tiles-by s n g k q e = rw (q, e) (omega arith)
 
 -- ---- black_chain, tile_last, tile_chain, tree_chain
 
-abbrev four : Kind → ℕ → ℕ → ℕ → Chain
+-- a chain of these four
+abbrev pub four : Kind → ℕ → ℕ → ℕ → Chain
 four kind index first last = record { kind = kind; index = index; first = first; last = last }
 
 four-of : {k : Kind} {i a b x y : ℕ} → x ≡ a → y ≡ b → four k i a b ≡ four k i x y
