@@ -2,16 +2,16 @@
 use mathlib.Core.Path.{_≡_, refl, sym, ap, _∙_}
 use mathlib.Core.Bool.{true, not, _&&_, cond}
 use mathlib.Core.Logic.{inl, inr}
-use mathlib.Core.List.{List, [], _∷_, Memᴰ·append-left, Memᴰ·map, Memᴰ·cast}
+use mathlib.Core.List.{List, [], _∷_, map, Memᴰ·append-left, Memᴰ·map, Memᴰ·cast}
 use Prim.Native.Nat.{ℕ, suc, _-_, _%_, _^_, _≤_, _<_}
 use native.Mathlib.{Nat.mod-self, Decide.decLt, Omega.arith}
 use lib.Pow.{pow-pos}
 use lib.ListN.{length, getD, List·getD-map}
 use lib.Dec.{leb}
 use borrow.Author.Tests.{eq-eqb, leb-true, not-true}
-use Rattle.lists.specs.Lists.{_among_, upFrom}
+use Rattle.lists.specs.Lists.{_among_, upFrom, firstOf, lastOf}
 use Rattle.lists.proofs.Laws.{split, true-or-false, and-both, upFrom-mem, mem-keep}
-use Rattle.layouts.specs.Layouts.{allowedScheme, allowedN, layoutRefusal, valueCount, chains, lg, black, tree, divides, levels, storedOnce, namesOfDay, namesThrough}
+use Rattle.layouts.specs.Layouts.{allowedScheme, allowedN, layoutRefusal, valueCount, chains, lg, Name, black, tile, tree, coveredDays, divides, levels, storedOnce, namesOfDay, namesThrough}
 use Rattle.layouts.proofs.AllowedLaws.{layout-asks, values-counted}
 use Rattle.layouts.proofs.Counts.{below-pow, power-of, lg-unique}
 use Rattle.layouts.proofs.Coverage.{namesThrough-in}
@@ -96,16 +96,34 @@ module _ (s n f d : ℕ) (ok : layoutRefusal s n f d ≡ 0) where
   unfolding bookNumbers
   numbers-at p = List·getD-map numbersOf (bookChains s n d) p (chainOf n (black 0))
 
-  forth : (p : ℕ) (c : Chain) → located s n f d p ≡ case-of-located.At c → placed s n f d (numbersOf c) ≡ case-of-place.At p
+  -- the chain that is given
+  is-there : (p : ℕ) (c : Chain) → located s n f d p ≡ case-of-located.At c → (p < valueCount s n d) × (getD (bookChains s n d) p (chainOf n (black 0)) ≡ c)
   unfolding chain-in
-  forth p c e = elim (decLt p (valueCount s n d)) [
-    | yes l ↦
-        let k : getD (bookChains s n d) p (chainOf n (black 0)) ≡ c = ap (λ (a : Located). chain-in a c) (sym (there p l) ∙ e) in
-        let h : p < length (bookNumbers s n d) = omega (arith, counted, numbers-length s n d) in
-        let q = only-place s n d (kindNumber (c .kind)) (c .index) (c .first) (c .last) (asks .0) (asks .1) p h (numbers-at p ∙ ap numbersOf k) in
-        sym (placed-at s n f d refl (numbersOf c) ok (omega arith) (sym q))
+  is-there p c e = elim (decLt p (valueCount s n d)) [
+    | yes l ↦ (l, ap (λ (a : Located). chain-in a c) (sym (there p l) ∙ e))
     | no h ↦ absurd (located-apart c 18 (sym e ∙ beyond p (omega arith)))
   ]
+
+  its-days : (p : ℕ) (c : Chain) → located s n f d p ≡ case-of-located.At c →
+      (c .first ≡ firstOf (getD (chains s n d) p [])) × (c .last ≡ lastOf 0 (getD (chains s n d) p []))
+  unfolding bookChains chains
+  its-days p c e =
+      let x = getD (namesThrough s n d) p (black 0) in
+      let k : c ≡ chainOf n x = sym (is-there p c e .1) ∙ List·getD-map (chainOf n) (namesThrough s n d) p (black 0) in
+      let q : getD (map (coveredDays n) (namesThrough s n d)) p [] ≡ coveredDays n x = List·getD-map (coveredDays n) (namesThrough s n d) p (black 0) in
+      rw (k, q) (by-days x)
+    where
+      by-days : (y : Name) → (chainOf n y .first ≡ firstOf (coveredDays n y)) × (chainOf n y .last ≡ lastOf 0 (coveredDays n y))
+      by-days (black g) = (refl, refl)
+      by-days (tile i g) = (refl, refl)
+      by-days (tree l g) = (refl, refl)
+
+  forth : (p : ℕ) (c : Chain) → located s n f d p ≡ case-of-located.At c → placed s n f d (numbersOf c) ≡ case-of-place.At p
+  forth p c e =
+      let k = is-there p c e in
+      let h : p < length (bookNumbers s n d) = omega (arith, k .0, counted, numbers-length s n d) in
+      let q = only-place s n d (kindNumber (c .kind)) (c .index) (c .first) (c .last) (asks .0) (asks .1) p h (numbers-at p ∙ ap numbersOf (k .1)) in
+      sym (placed-at s n f d refl (numbersOf c) ok (omega arith) (sym q))
 
   -- where four numbers have a place
   has-place : (numbers : List ℕ) (p : ℕ) → placed s n f d numbers ≡ case-of-place.At p →
@@ -140,6 +158,7 @@ pub both-ways : BothWays
 both-ways s n f d ok =
     record {
       chain-at-place = there s n f d ok;
+      days-of-value = its-days s n f d ok;
       no-place = λ p. (below-count s n f d ok p 18, beyond s n f d ok p);
       there-and-back = forth s n f d ok;
       back-and-there = back s n f d ok;

@@ -5,18 +5,21 @@ use mathlib.Core.Logic.{_↔_}
 use mathlib.Core.List.{List, [], _∷_}
 use Prim.Native.Nat.{ℕ, suc, _-_, _/_, _^_, _≤_, _<_}
 use lib.ListN.{getD}
-use Rattle.lists.specs.Lists.{_among_}
-use Rattle.layouts.specs.Layouts.{allowedN, divides, lg, black, tile, tree, storedOnce, valueCount, layoutRefusal}
+use Rattle.lists.specs.Lists.{_among_, firstOf, lastOf}
+use Rattle.layouts.specs.Layouts.{allowedN, divides, lg, black, tile, tree, storedOnce, chains, valueCount}
+use Rattle.layouts.specs.Layouts.{layoutRefusal}
 use Rattle.positions.specs.declared.Chain.{Chain}
 use Rattle.positions.specs.declared.Located.the-variants as case-of-located
 use Rattle.positions.specs.declared.Place.the-variants as case-of-place
 use Rattle.positions.specs.Positions.{chainOf, bookChains, bookNumbers, numbersOf, located, placed}
 
--- chain_at gives the chain of that place; each call undoes the other; 18 exactly where there is no such place, or no
--- chain with these four (SPEC 18.6)
+-- chain_at gives the chain of that place, whose days are those that the value there covers; each call undoes the other;
+-- 18 exactly where there is no such place, or no chain with these four (SPEC 18.6)
 pub record BothWaysOf (scheme n f d : ℕ) : Type 0 where
   pub chain-at-place : (p : ℕ) → p < valueCount scheme n d →
       located scheme n f d p ≡ case-of-located.At (getD (bookChains scheme n d) p (chainOf n (black 0)))
+  pub days-of-value : (p : ℕ) (c : Chain) → located scheme n f d p ≡ case-of-located.At c →
+      (c .first ≡ firstOf (getD (chains scheme n d) p [])) × (c .last ≡ lastOf 0 (getD (chains scheme n d) p []))
   pub no-place : (p : ℕ) → (located scheme n f d p ≡ case-of-located.Refused 18) ↔ (valueCount scheme n d ≤ p)
   pub there-and-back : (p : ℕ) (c : Chain) → located scheme n f d p ≡ case-of-located.At c →
       placed scheme n f d (numbersOf c) ≡ case-of-place.At p
