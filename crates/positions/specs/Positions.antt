@@ -31,7 +31,7 @@ chainOf n (black g) = chainOver Black 0 (coveredDays n (black g))
 chainOf n (tile i g) = chainOver Tile i (coveredDays n (tile i g))
 chainOf n (tree l g) = chainOver Tree l (coveredDays n (tree l g))
 
--- the chains of a book, in 01's book order (SPEC 4.10); a value stored once (SPEC 4.9) is among them as the tree's alone
+-- the chains of a book, in 01's book order (SPEC 4.10); a value stored once (SPEC 4.9) is there as the tree's alone
 unfoldable pub bookChains : ℕ → ℕ → ℕ → List Chain
 bookChains scheme n d = map (chainOf n) (namesThrough scheme n d)
 

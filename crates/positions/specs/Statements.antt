@@ -43,8 +43,8 @@ pub record Spans (n g : ℕ) : Type 0 where
 abbrev pub SpansTold : Type 0
 SpansTold = (n g : ℕ) → allowedN n ≡ true → 1 ≤ g → Spans n g
 
--- under scheme 3 black over the days 1 to g, a power of two, is stored once: as black it is no chain of the book, as the
--- tree's level lg g it is (SPEC 18.8)
+-- under scheme 3 black over the days 1 to g, a power of two, is stored once: as black it is no chain of the book, as
+-- the tree's level lg g it is (SPEC 18.8)
 pub record StoredOnce (n d g : ℕ) : Type 0 where
   pub not-black : placed 3 n 1 d (1 ∷ 0 ∷ 1 ∷ g ∷ []) ≡ case-of-place.Refused 18
   pub but-tree : g ≤ d → (p : ℕ) × (placed 3 n 1 d (3 ∷ lg g ∷ 1 ∷ g ∷ []) ≡ case-of-place.At p)
