@@ -8,6 +8,7 @@ use native.Mathlib.{Nat.div-le-self, Omega.arith}
 use lib.{Dec.eqb, Count.ones, ListN.length, ListN.getD, ListN.length-map}
 use borrow.Author.Tests.{eq-eqb, ne-eqb, le-leb, lt-leb}
 use Rattle.lists.specs.Lists.{same}
+use Rattle.refusals.specs.Refusals.{bookLimit}
 use Rattle.layouts.specs.Layouts.{allowedScheme, allowedN, divides, lg, black, tile, tree, lastDays, coveredDays, namesOfDay, namesThrough, chains, chainsOfDay}
 use Rattle.layouts.proofs.AllowedLaws.{allowed-scheme-is, allowed-n-is, weight}
 use Rattle.layouts.proofs.Coverage.{by-scheme, divisor-le}
@@ -89,18 +90,22 @@ out : {e k : ℕ} → (k < e) ⊎ (e < 1) → e ≤ k → 1 ≤ e → ⊥
 out (inl h) a b = omega arith
 out (inr h) a b = omega arith
 
-module _ (s n g i : ℕ) (a : allowedScheme s ≡ true) (e : allowedN n ≡ true) (o : 1 ≤ g) (m : g ≤ 65536) (l : i < length (namesOfDay s n g)) where
+-- what it asks: value i of day g
+abbrev Asked : ℕ → ℕ → ℕ → ℕ → Type 0
+Asked s n g i = (allowedScheme s ≡ true) × (allowedN n ≡ true) × (1 ≤ g) × (g ≤ bookLimit) × (i < length (namesOfDay s n g))
+
+module _ (s n g i : ℕ) (asked : Asked s n g i) where
   third : (s ≡ 1 → ⊥) → (s ≡ 2 → ⊥) → s ≡ 3
-  third x y = let r = allowed-scheme-is s a in omega arith
+  third x y = let r = allowed-scheme-is s (asked .0) in omega arith
 
   place-most : i ≤ blackPlace s n g
   place-most =
-      let r = allowed-scheme-is s a in
+      let r = allowed-scheme-is s (asked .0) in
       by-scheme (λ s. i < length (namesOfDay s n g) → i ≤ blackPlace s n g)
       (λ h. omega (arith, value-1 n g i h .place))
       (λ h. elim (value-2 n g i h) [ inl v ↦ omega (arith, v .inside) | inr v ↦ omega (arith, v .place) ])
       (λ h. elim (value-3 n g i h) [ inl v ↦ omega (arith, v .inside) | inr v ↦ omega (arith, v .place) ])
-      s (r .0) (r .1) l
+      s (r .0) (r .1) (asked .4)
 
   module _ {b : ℕ} (q : b ≡ blackPlace s n g) where
     pub under : i ≤ b
@@ -108,18 +113,18 @@ module _ (s n g i : ℕ) (a : allowedScheme s ≡ true) (e : allowedN n ≡ true
 
     -- the ranges decide
     tile-there : s ≡ 2 → 1 ≤ b - i → IsTile n g i
-    tile-there z h = elim (value-2 n g i (rw z at l)) [ inl v ↦ v | inr v ↦ (let p = rw z at q in absurd (omega (arith, v .place))) ]
+    tile-there z h = elim (value-2 n g i (rw z at (asked .4))) [ inl v ↦ v | inr v ↦ (let p = rw z at q in absurd (omega (arith, v .place))) ]
 
     level-there : (s ≡ 1 → ⊥) → (s ≡ 2 → ⊥) → 1 ≤ b - i → IsLevel n g i
     level-there x y h =
         let z = third x y in
-        elim (value-3 n g i (rw z at l)) [ inl v ↦ v | inr v ↦ (let p = rw z at q in absurd (omega (arith, v .place))) ]
+        elim (value-3 n g i (rw z at (asked .4))) [ inl v ↦ v | inr v ↦ (let p = rw z at q in absurd (omega (arith, v .place))) ]
 
     pub tile-asks : s ≡ 2 → 1 ≤ b - i → (allowedN n ≡ true) × (i ≤ lg n) × (1 ≤ g) × (divides n g ≡ true)
-    tile-asks z h = let v = tile-there z h in (e, v .inside, o, v .whole)
+    tile-asks z h = let v = tile-there z h in (asked .1, v .inside, asked .2, v .whole)
 
     pub level-asks : (s ≡ 1 → ⊥) → (s ≡ 2 → ⊥) → 1 ≤ b - i → (i ≤ 16) × (1 ≤ g) × (divides (2 ^ i) g ≡ true)
-    level-asks x y h = let v = level-there x y h in (omega (arith, v .inside, levels-few g o m), o, v .whole)
+    level-asks x y h = let v = level-there x y h in (omega (arith, v .inside, levels-few g (asked .2) (asked .3)), asked .2, v .whole)
 
     module _ {c : Chain} where
       pub is-tile : s ≡ 2 → 1 ≤ b - i → c ≡ chainOf n (tile i g) → c ≡ chainOf n (getD (namesOfDay s n g) i (black 0))
@@ -132,19 +137,19 @@ module _ (s n g i : ℕ) (a : allowedScheme s ≡ true) (e : allowedN n ≡ true
       is-black v k = k ∙ sym (ap (chainOf n) (v .name))
 
       pub black-1 : s ≡ 1 → c ≡ chainOver Black 0 (lastDays g g) → c ≡ chainOf n (getD (namesOfDay s n g) i (black 0))
-      black-1 z = is-black (rw z (value-1 n g i (rw z at l)))
+      black-1 z = is-black (rw z (value-1 n g i (rw z at (asked .4))))
 
       pub black-2 : s ≡ 2 → (9 < b - i) ⊎ (b - i < 1) → c ≡ chainOver Black 0 (lastDays g g) → c ≡ chainOf n (getD (namesOfDay s n g) i (black 0))
-      black-2 z h = is-black (elim (value-2 n g i (rw z at l)) [
-        | inl v ↦ (let p = rw z at q in let w = allowed-n-is n e .small in absurd (out h (omega (arith, v .inside)) (omega (arith, v .inside))))
+      black-2 z h = is-black (elim (value-2 n g i (rw z at (asked .4))) [
+        | inl v ↦ (let p = rw z at q in let w = allowed-n-is n (asked .1) .small in absurd (out h (omega (arith, v .inside)) (omega (arith, v .inside))))
         | inr v ↦ rw z v
       ])
 
       pub black-3 : (s ≡ 1 → ⊥) → (s ≡ 2 → ⊥) → (17 < b - i) ⊎ (b - i < 1) → c ≡ chainOver Black 0 (lastDays g g) → c ≡ chainOf n (getD (namesOfDay s n g) i (black 0))
       black-3 x y h =
           let z = third x y in
-          is-black (elim (value-3 n g i (rw z at l)) [
-            | inl v ↦ (let p = rw z at q in let w = levels-few g o m in absurd (out h (omega (arith, v .inside)) (omega (arith, v .inside))))
+          is-black (elim (value-3 n g i (rw z at (asked .4))) [
+            | inl v ↦ (let p = rw z at q in let w = levels-few g (asked .2) (asked .3) in absurd (out h (omega (arith, v .inside)) (omega (arith, v .inside))))
             | inr v ↦ rw z v
           ])
 

@@ -6,58 +6,58 @@ use Rattle.positions.proofs.chain_in_day.Statement.{statement}
 use Rattle.positions.proofs.chain_in_day.Tie as tie
 
 sub-e : tie.Need-sub-e
-sub-e c = let b = c .before in let a = b .args in let p = b .pre in under (a .scheme) (a .n) (a .g) (a .i) (p .0) (p .1) (p .2) (p .3) (p .4) (c .black-place .ensures)
+sub-e c = let s = c .before in let a = s .args in under (a .scheme) (a .n) (a .g) (a .i) (s .pre) (c .black-place .ensures)
 
 tile-chain-requires : tie.Need-tile-chain-requires
 tile-chain-requires c κs =
     let k = c .before .before in
-    let a = k .before .before .args in
-    let p = k .before .before .pre in
-    tile-asks (a .scheme) (a .n) (a .g) (a .i) (p .0) (p .1) (p .2) (p .3) (p .4) (k .before .black-place .ensures) (k .match .keys2) (c .before .if1 .left)
+    let s = k .before .before in
+    let a = s .args in
+    tile-asks (a .scheme) (a .n) (a .g) (a .i) (s .pre) (k .before .black-place .ensures) (k .match .keys2) (c .before .if1 .left)
 
 tree-chain-requires : tie.Need-tree-chain-requires
 tree-chain-requires c κs =
     let k = c .before .before in
-    let a = k .before .before .args in
-    let p = k .before .before .pre in
-    level-asks (a .scheme) (a .n) (a .g) (a .i) (p .0) (p .1) (p .2) (p .3) (p .4) (k .before .black-place .ensures) (k .match .rest .0 .1) (k .match .rest .1) (c .before .if3 .left)
+    let s = k .before .before in
+    let a = s .args in
+    level-asks (a .scheme) (a .n) (a .g) (a .i) (s .pre) (k .before .black-place .ensures) (k .match .rest .0 .1) (k .match .rest .1) (c .before .if3 .left)
 
 returns : tie.Need-returns
 returns c =
     let k = c .before in
-    let a = k .before .before .args in
-    let p = k .before .before .pre in
-    black-1 (a .scheme) (a .n) (a .g) (a .i) (p .0) (p .1) (p .2) (p .3) (p .4) (k .before .black-place .ensures) (k .match .keys1) (c .black-chain .ensures)
+    let s = k .before .before in
+    let a = s .args in
+    black-1 (a .scheme) (a .n) (a .g) (a .i) (s .pre) (k .before .black-place .ensures) (k .match .keys1) (c .black-chain .ensures)
 
 returns-2 : tie.Need-returns-2
 returns-2 c =
     let k = c .before .before .before in
-    let a = k .before .before .args in
-    let p = k .before .before .pre in
-    is-tile (a .scheme) (a .n) (a .g) (a .i) (p .0) (p .1) (p .2) (p .3) (p .4) (k .before .black-place .ensures) (k .match .keys2) (c .before .before .if1 .left) (c .tile-chain .ensures)
+    let s = k .before .before in
+    let a = s .args in
+    is-tile (a .scheme) (a .n) (a .g) (a .i) (s .pre) (k .before .black-place .ensures) (k .match .keys2) (c .before .before .if1 .left) (c .tile-chain .ensures)
 
 returns-3 : tie.Need-returns-3
 returns-3 c =
     let k = c .before .before in
-    let a = k .before .before .args in
-    let p = k .before .before .pre in
-    black-2 (a .scheme) (a .n) (a .g) (a .i) (p .0) (p .1) (p .2) (p .3) (p .4) (k .before .black-place .ensures) (k .match .keys2)
+    let s = k .before .before in
+    let a = s .args in
+    black-2 (a .scheme) (a .n) (a .g) (a .i) (s .pre) (k .before .black-place .ensures) (k .match .keys2)
     (⊎-elim (λ w. inr (w .taken)) (λ w. inl (w .1 .left)) (c .before .if1 .came)) (c .black-chain2 .ensures)
 
 returns-4 : tie.Need-returns-4
 returns-4 c =
     let k = c .before .before .before in
-    let a = k .before .before .args in
-    let p = k .before .before .pre in
-    is-level (a .scheme) (a .n) (a .g) (a .i) (p .0) (p .1) (p .2) (p .3) (p .4) (k .before .black-place .ensures) (k .match .rest .0 .1) (k .match .rest .1)
+    let s = k .before .before in
+    let a = s .args in
+    is-level (a .scheme) (a .n) (a .g) (a .i) (s .pre) (k .before .black-place .ensures) (k .match .rest .0 .1) (k .match .rest .1)
     (c .before .before .if3 .left) (c .tree-chain .ensures)
 
 returns-5 : tie.Need-returns-5
 returns-5 c =
     let k = c .before .before in
-    let a = k .before .before .args in
-    let p = k .before .before .pre in
-    black-3 (a .scheme) (a .n) (a .g) (a .i) (p .0) (p .1) (p .2) (p .3) (p .4) (k .before .black-place .ensures) (k .match .rest .0 .1) (k .match .rest .1)
+    let s = k .before .before in
+    let a = s .args in
+    black-3 (a .scheme) (a .n) (a .g) (a .i) (s .pre) (k .before .black-place .ensures) (k .match .rest .0 .1) (k .match .rest .1)
     (⊎-elim (λ w. inr (w .taken)) (λ w. inl (w .1 .left)) (c .before .if3 .came)) (c .black-chain3 .ensures)
 
 pub chain-in-day-spec : {M : Type 1} → statement M
