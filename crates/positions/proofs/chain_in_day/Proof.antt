@@ -1,5 +1,6 @@
 -- `positions::chain_in_day` meets its contract: the ranges decide which value it is.
 use mathlib.Core.Logic.{⊎-elim, inl, inr}
+use native.Mathlib.Omega.{arith}
 use borrow.Author.Needs.{needs}
 use Rattle.positions.proofs.StepLaws.{under, tile-asks, level-asks, is-tile, is-level, black-1, black-2, black-3}
 use Rattle.positions.proofs.chain_in_day.Statement.{statement}
@@ -13,14 +14,14 @@ tile-chain-requires c κs =
     let k = c .before .before in
     let s = k .before .before in
     let a = s .args in
-    tile-asks (a .scheme) (a .n) (a .g) (a .i) (s .pre) (k .before .black-place .ensures) (k .match .keys2) (c .before .if1 .left)
+    tile-asks (a .scheme) (a .n) (a .g) (a .i) (s .pre) (k .before .black-place .ensures) (k .match .keys2) (omega (arith, c .before .if1 .left))
 
 tree-chain-requires : tie.Need-tree-chain-requires
 tree-chain-requires c κs =
     let k = c .before .before in
     let s = k .before .before in
     let a = s .args in
-    level-asks (a .scheme) (a .n) (a .g) (a .i) (s .pre) (k .before .black-place .ensures) (k .match .rest .0 .1) (k .match .rest .1) (c .before .if3 .left)
+    level-asks (a .scheme) (a .n) (a .g) (a .i) (s .pre) (k .before .black-place .ensures) (k .match .rest .0 .1) (k .match .rest .1) (omega (arith, c .before .if3 .left))
 
 returns : tie.Need-returns
 returns c =
@@ -34,7 +35,7 @@ returns-2 c =
     let k = c .before .before .before in
     let s = k .before .before in
     let a = s .args in
-    is-tile (a .scheme) (a .n) (a .g) (a .i) (s .pre) (k .before .black-place .ensures) (k .match .keys2) (c .before .before .if1 .left) (c .tile-chain .ensures)
+    is-tile (a .scheme) (a .n) (a .g) (a .i) (s .pre) (k .before .black-place .ensures) (k .match .keys2) (omega (arith, c .before .before .if1 .left)) (c .tile-chain .ensures)
 
 returns-3 : tie.Need-returns-3
 returns-3 c =
@@ -50,7 +51,7 @@ returns-4 c =
     let s = k .before .before in
     let a = s .args in
     is-level (a .scheme) (a .n) (a .g) (a .i) (s .pre) (k .before .black-place .ensures) (k .match .rest .0 .1) (k .match .rest .1)
-    (c .before .before .if3 .left) (c .tree-chain .ensures)
+    (omega (arith, c .before .before .if3 .left)) (c .tree-chain .ensures)
 
 returns-5 : tie.Need-returns-5
 returns-5 c =
