@@ -52,6 +52,14 @@ pub struct Chain {
     pub last: u32,
 }
 
+impl Chain {
+    /// The four as numbers: that of the kind, index, first and last day.
+    #[must_use]
+    pub const fn numbers(self) -> [u32; 4] {
+        [self.kind.number(), self.index, self.first, self.last]
+    }
+}
+
 /// The chain at a position of the book of `d` days, counted from 0.
 ///
 /// # Errors
@@ -104,13 +112,7 @@ fn known(number: u32) -> Kind {
 /// assert_eq!(position_of(layout, 16, wrong), Err(Refusal::NotInBook));
 /// ```
 pub fn position_of(layout: Layout, d: u32, chain: Chain) -> Result<u32, Refusal> {
-    let Chain {
-        kind,
-        index,
-        first,
-        last,
-    } = chain;
-    let four = [kind.number(), index, first, last];
+    let four = chain.numbers();
     let mut position = [0];
     Refusal::answer(ffi::position_of(layout.setting(), d, &four, &mut position))?;
     Ok(position[0])

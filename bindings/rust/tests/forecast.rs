@@ -1,14 +1,15 @@
 //! The command `daybook forecast`.
 
 mod common;
+#[path = "common/program.rs"]
+mod program;
 
 use std::fs::{self, File};
 use std::io::Write;
-use std::process::{Command, Stdio};
+use std::process::Stdio;
 
 use common::{day, Folder};
-
-const PROGRAM: &str = env!("CARGO_BIN_EXE_daybook");
+use program::{command, done, ended, fault, run, said, Ran};
 
 /// The thousand days of the reference under scheme 3, N 8.
 const THOUSAND: &str = "\
@@ -18,26 +19,8 @@ notary   2,112 values of 32 bytes, in 125 intervals of 8 days
 hashing  37,668 SHA-256 blocks of 64 bytes
 ";
 
-fn command(folder: &Folder, line: &str) -> Command {
-    let mut command = Command::new(PROGRAM);
-    command.current_dir(folder.path());
-    command.args(line.split_whitespace()).stdin(Stdio::null());
-    command
-}
-
-/// Exit status, standard output, standard error.
-fn run(folder: &Folder, line: &str) -> (i32, String, String) {
-    ended(command(folder, line).output().unwrap())
-}
-
-fn ended(output: std::process::Output) -> (i32, String, String) {
-    let text = |bytes| String::from_utf8(bytes).unwrap();
-    let status = output.status.code().unwrap();
-    (status, text(output.stdout), text(output.stderr))
-}
-
-/// The same, with these bytes on standard input.
-fn run_with(folder: &Folder, line: &str, input: &str) -> (i32, String, String) {
+/// The line is run with these bytes on standard input.
+fn run_with(folder: &Folder, line: &str, input: &str) -> Ran {
     let mut command = command(folder, line);
     command.stdin(Stdio::piped());
     command.stdout(Stdio::piped()).stderr(Stdio::piped());
@@ -46,28 +29,8 @@ fn run_with(folder: &Folder, line: &str, input: &str) -> (i32, String, String) {
     ended(child.wait_with_output().unwrap())
 }
 
-/// The line ends with this status and these lines, and with these messages.
-fn said(folder: &Folder, line: &str, (status, out): (i32, &str), messages: &[&str]) {
-    let ran = run(folder, line);
-    assert_eq!((ran.0, ran.1.as_str()), (status, out), "{line}: {}", ran.2);
-    let lines: Vec<&str> = ran.2.lines().collect();
-    assert_eq!(lines, messages, "{line}");
-}
-
-fn done(folder: &Folder, line: &str, out: &str) {
-    said(folder, line, (0, out), &[]);
-}
-
 fn refused(folder: &Folder, line: &str, number: u32, messages: &[&str]) {
     said(folder, line, (2, &format!("NO,{number}\n")), messages);
-}
-
-/// The line is a fault, whose message has this text.
-fn fault(folder: &Folder, line: &str, text: &str) {
-    let (status, out, messages) = run(folder, line);
-    assert_eq!((status, out.as_str()), (3, ""), "{line}: {messages}");
-    assert!(messages.starts_with("daybook: "), "{line}: {messages}");
-    assert!(messages.contains(text), "{line}: {messages}");
 }
 
 /// A folder `in` with a file for each length.

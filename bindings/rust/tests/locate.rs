@@ -1,63 +1,25 @@
 //! The command `daybook locate`.
 
 mod common;
+#[path = "common/program.rs"]
+mod program;
 
 use std::fs::{self, File};
-use std::process::{Command, Output, Stdio};
 
 use common::{chains, Folder};
 use daybook::Layout;
-
-const PROGRAM: &str = env!("CARGO_BIN_EXE_daybook");
+use program::{command, done, ended, fault, run, said};
 
 /// A book of 35 values.
 const TREE: &str = "locate --scheme 3 --n 2 --f 1 --d 16";
 /// A book of 24 values, in tiles of 16 days.
 const TILE: &str = "locate --scheme 2 --n 16 --f 2 --d 64";
 
-fn command(folder: &Folder, line: &str) -> Command {
-    let mut command = Command::new(PROGRAM);
-    command.current_dir(folder.path());
-    command.args(line.split_whitespace()).stdin(Stdio::null());
-    command
-}
-
-fn ended(output: Output) -> (i32, String, String) {
-    let text = |bytes| String::from_utf8(bytes).unwrap();
-    let status = output.status.code().unwrap();
-    (status, text(output.stdout), text(output.stderr))
-}
-
-/// Exit status, standard output, standard error.
-fn run(folder: &Folder, line: &str) -> (i32, String, String) {
-    ended(command(folder, line).output().unwrap())
-}
-
-/// The line ends with this status and these lines, and with these messages.
-fn said(folder: &Folder, line: &str, (status, out): (i32, &str), messages: &[&str]) {
-    let ran = run(folder, line);
-    assert_eq!((ran.0, ran.1.as_str()), (status, out), "{line}: {}", ran.2);
-    let lines: Vec<&str> = ran.2.lines().collect();
-    assert_eq!(lines, messages, "{line}");
-}
-
-fn done(folder: &Folder, line: &str, out: &str) {
-    said(folder, line, (0, out), &[]);
-}
-
 /// The line is refused with 18, of this position or chain and for this reason.
 fn refused(folder: &Folder, line: &str, context: &str, reason: &str) {
     let first = format!("daybook: refusal 18 ({context}): the book has no such position or chain");
     let reason = format!("daybook: {reason}");
     said(folder, line, (2, "NO,18\n"), &[&first, &reason]);
-}
-
-/// The line is a fault, whose message has this text.
-fn fault(folder: &Folder, line: &str, text: &str) {
-    let (status, out, messages) = run(folder, line);
-    assert_eq!((status, out.as_str()), (3, ""), "{line}: {messages}");
-    assert!(messages.starts_with("daybook: "), "{line}: {messages}");
-    assert!(messages.contains(text), "{line}: {messages}");
 }
 
 #[test]

@@ -62,13 +62,8 @@ impl Book {
 
 /// The four numbers of a chain, for a message.
 fn numbers_of(chain: Chain) -> String {
-    let Chain {
-        kind,
-        index,
-        first,
-        last,
-    } = chain;
-    let kind = scheme_name(kind.number());
+    let [kind, index, first, last] = chain.numbers();
+    let kind = scheme_name(kind);
     format!("kind {kind}, index {index}, first {first}, last {last}")
 }
 
@@ -95,13 +90,7 @@ fn days_text(runs: &[(u32, u32)]) -> String {
 
 /// Position and chain as a line for programs.
 fn line_of(position: u32, chain: Chain) -> String {
-    let Chain {
-        kind,
-        index,
-        first,
-        last,
-    } = chain;
-    let kind = kind.number();
+    let [kind, index, first, last] = chain.numbers();
     format!("CHAIN,{position},{kind},{index},{first},{last}\n")
 }
 
