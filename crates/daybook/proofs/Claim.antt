@@ -38,6 +38,7 @@ module _ (s n f : ℕ) (opens : numberOf (opened s n f .answer) ≡ 0) (cs : Lis
         work-long = p .work-long;
         outcomes-long = p .outcomes-long;
         list-long = p .list-long;
+        passed-ok = p .passed-ok;
       }
 
   guaranteed : Guarantee s n f cs

@@ -22,8 +22,8 @@ use Rattle.chains.proofs.BookLaws.{book-front, values-of-length, check-finds, c
 use Rattle.checking.specs.Contract.{roomTests, checkTests, checkRefusal, digestsOf, outcomesOf, checked}
 use Rattle.checking.proofs.Through.{digests-length, outcomes-length}
 use Rattle.reading.specs.Numbers.{lastGood}
-use Rattle.reading.specs.Contract.{Report, Readout, tableIn, readRefusal, listedIn, found}
-use Rattle.reading.proofs.{LastGood.good-given, RefusalLaws.set-read, Report.readout-found, Statements.count-found}
+use Rattle.reading.specs.Contract.{Report, Readout, tableIn, passedRefusal, readRefusal, listedIn, found}
+use Rattle.reading.proofs.{LastGood.good-given, RefusalLaws.passed-0, RefusalLaws.set-read, Report.readout-found, Statements.count-found}
 use Rattle.daybook.specs.Detection.{Handed, ledgerDays, changedDays, checking, reading, listedDays, tableOfChanges, SealedApart, Premises, Detected}
 use Rattle.daybook.specs.Claim.{ReadsClean}
 
@@ -34,15 +34,15 @@ layout-ok s n f d e a =
 
 -- ---- a list of days, its number, its first
 
-found-refusal : (n f d good : ℕ) (l : List ℕ) → found n f d l good .refusal ≡ 0
+found-refusal : (d p good : ℕ) (l : List ℕ) → found d p l good .refusal ≡ 0
 unfolding found
-found-refusal n f d good [] = refl
-found-refusal n f d good (g ∷ gs) = refl
+found-refusal d p good [] = refl
+found-refusal d p good (g ∷ gs) = refl
 
-clean-empty : (n f d good : ℕ) (l : List ℕ) → (found n f d l good .clean ≡ true) ↔ (l ≡ [])
+clean-empty : (d p good : ℕ) (l : List ℕ) → (found d p l good .clean ≡ true) ↔ (l ≡ [])
 unfolding found
-clean-empty n f d good [] = (λ e. refl, λ e. refl)
-clean-empty n f d good (g ∷ gs) = (λ e. let z : _≡_ {A = ℕ} 0 1 = cc in absurd (omega arith), λ e. let z : _≡_ {A = ℕ} 0 1 = cc in absurd (omega arith))
+clean-empty d p good [] = (λ e. refl, λ e. refl)
+clean-empty d p good (g ∷ gs) = (λ e. let z : _≡_ {A = ℕ} 0 1 = cc in absurd (omega arith), λ e. let z : _≡_ {A = ℕ} 0 1 = cc in absurd (omega arith))
 
 module _ (s n f : ℕ) (opens : setupRefusal s n f ≡ 0) (E : List (List ℕ)) (W : List ℕ) (book-is : W ≡ bookOf s n E) (d : ℕ) (x : Handed) (fit : Premises s n f E W d x) where
   abbrev C : List (List ℕ)
@@ -132,23 +132,26 @@ module _ (s n f : ℕ) (opens : setupRefusal s n f ≡ 0) (E : List (List ℕ)) 
     gives : Gives C d X T
     gives = record { within = within; gives = refl }
 
-    read-ok : readRefusal s n f d O (length (x .list)) ≡ 0
-    read-ok = set-read s n f d O (length (x .list)) X layout (fit .list-long) outcomes-enough (rw table-in gives)
+    passes : passedRefusal s n f d (x .passed) ≡ 0
+    passes = sym (passed-0 s n f d (x .passed) refl layout refl (rw (fit .passed-ok)))
 
-    readout-is : reading s n f d x ≡ record { report = found n f d L (lastGood s n d T); list = L ++ drop (length L) (x .list) }
+    read-ok : readRefusal s n f d (x .passed) O (length (x .list)) ≡ 0
+    read-ok = set-read s n f d (x .passed) O (length (x .list)) X passes (fit .list-long) outcomes-enough (rw table-in gives)
+
+    readout-is : reading s n f d x ≡ record { report = found d (x .passed) L (lastGood s n d T); list = L ++ drop (length L) (x .list) }
     unfolding listedIn
     readout-is =
-        readout-found s n f d O (x .list) read-ok ∙
-        ap (λ (t : List ℕ). record { report = found n f d (listing C d t) (lastGood s n d t); list = listing C d t ++ drop (length (listing C d t)) (x .list) }) table-in
+        readout-found s n f d (x .passed) O (x .list) read-ok ∙
+        ap (λ (t : List ℕ). record { report = found d (x .passed) (listing C d t) (lastGood s n d t); list = listing C d t ++ drop (length (listing C d t)) (x .list) }) table-in
 
-    report-is : reading s n f d x .report ≡ found n f d L (lastGood s n d T)
+    report-is : reading s n f d x .report ≡ found d (x .passed) L (lastGood s n d T)
     report-is = ap (λ (r : Readout). r .report) readout-is
 
     list-is : reading s n f d x .list ≡ L ++ drop (length L) (x .list)
     list-is = ap (λ (r : Readout). r .list) readout-is
 
     count-is : reading s n f d x .report .listed ≡ length L
-    count-is = ap (λ (r : Report). r .listed) report-is ∙ count-found n f d (lastGood s n d T) L
+    count-is = ap (λ (r : Report). r .listed) report-is ∙ count-found d (x .passed) (lastGood s n d T) L
 
     days-are : listedDays s n f d x ≡ L
     days-are = ap₂ take count-is list-is ∙ take-at L (drop (length L) (x .list)) (length L) refl
@@ -170,15 +173,15 @@ module _ (s n f : ℕ) (opens : setupRefusal s n f ≡ 0) (E : List (List ℕ)) 
         check-done = done;
         digests-written = digests-left;
         table-written = t;
-        read-done = ap (λ (r : Report). r .refusal) (report-is X w t) ∙ found-refusal n f d (lastGood s n d (tableOf C X)) (listing C d (tableOf C X));
+        read-done = ap (λ (r : Report). r .refusal) (report-is X w t) ∙ found-refusal d (x .passed) (lastGood s n d (tableOf C X)) (listing C d (tableOf C X));
         counted = ap length (days-are X w t) ∙ sym (count-is X w t);
         ascending = rw (days-are X w t) (listing-ascends C d (tableOf C X));
         listed = rw (days-are X w t) (listed-iff C d (tableOf C X) (accepts X w t));
         rest-left = behind X w t;
         complete = λ g m. rw (days-are X w t) (changed-listed C d E B g m);
         exact = λ e g m. rw (tree-list e) at (rw (days-are X w t) at m);
-        clean = rw (report-is X w t) (both (clean-empty n f d (lastGood s n d (tableOf C X)) (listing C d (tableOf C X))) (none-listed C d E B covered));
-        numbers = report-is X w t ∙ ap (λ (l : List ℕ). found n f d l (lastGood s n d (tableOf C X))) (sym (days-are X w t));
+        clean = rw (report-is X w t) (both (clean-empty d (x .passed) (lastGood s n d (tableOf C X)) (listing C d (tableOf C X))) (none-listed C d E B covered));
+        numbers = report-is X w t ∙ ap (λ (l : List ℕ). found d (x .passed) l (lastGood s n d (tableOf C X))) (sym (days-are X w t));
         last-good = let r = allowed-scheme-is s (setup .scheme-ok) in good-given s n d X (tableOf C X) (r .0) (r .1) (gives X w t);
       }
     where
@@ -208,8 +211,8 @@ module _ (s n f : ℕ) (opens : setupRefusal s n f ≡ 0) (E : List (List ℕ)) 
   unchanged-clean same =
       record {
         check-done = done;
-        read-done = ap (λ (r : Report). r .refusal) (report-is [] w t) ∙ found-refusal n f d (lastGood s n d (tableOf C [])) (listing C d (tableOf C []));
-        clean = rw (report-is [] w t) (clean-empty n f d (lastGood s n d (tableOf C [])) (listing C d (tableOf C [])) .1 none);
+        read-done = ap (λ (r : Report). r .refusal) (report-is [] w t) ∙ found-refusal d (x .passed) (lastGood s n d (tableOf C [])) (listing C d (tableOf C []));
+        clean = rw (report-is [] w t) (clean-empty d (x .passed) (lastGood s n d (tableOf C [])) (listing C d (tableOf C [])) .1 none);
         list-left = list-is [] w t ∙ rw none;
       }
     where

@@ -46,11 +46,12 @@ pub limited : (s n : ℕ) (cs : List Call) → Limited (journalOf s n cs)
 limited s n cs = limited-after s n (map argumentOf cs) empty (record { entries-limited = λ e m. elim m [ ]; day-limited = omega arith })
 
 pub premises-met : PremisesMet
-premises-met s n f opens cs a = (
+premises-met s n f opens cs a p ok = (
   x,
   record {
     premises = fit;
     same-days = days-joined E;
+    same-passed = refl;
     reads-clean = unaltered-clean s n f opens cs d x fit
         (λ g m. ap (λ (l : List (List ℕ)). getD l (pred g) []) (sym (days-joined E)));
   },
@@ -63,7 +64,7 @@ premises-met s n f opens cs a = (
     d = length E
 
     x : Handed
-    x = record { ledger = joined E; ends = endsFrom 0 E; book = wrote s n f cs; work = replicate (32 * d) 0; outcomes = replicate (length (chains s n d)) 0; list = replicate d 0 }
+    x = record { ledger = joined E; ends = endsFrom 0 E; book = wrote s n f cs; passed = p; work = replicate (32 * d) 0; outcomes = replicate (length (chains s n d)) 0; list = replicate d 0 }
 
     fit : Premises s n f (sealed s n cs) (wrote s n f cs) d x
     fit =
@@ -75,4 +76,5 @@ premises-met s n f opens cs a = (
           work-long = omega (arith, length-replicate {A = ℕ} (32 * d) 0);
           outcomes-long = omega (arith, length-replicate {A = ℕ} (length (chains s n d)) 0);
           list-long = omega (arith, length-replicate {A = ℕ} d 0);
+          passed-ok = ok;
         }

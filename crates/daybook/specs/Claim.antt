@@ -19,6 +19,7 @@ use Rattle.service.specs.Contract.{opened}
 use Rattle.journal.specs.Journal.{empty, refusals}
 use Rattle.journal.specs.Run.{Call, add, close, argumentOf, answers, bookWritten, journalOf}
 use Rattle.sealing.specs.Contract.{sealedBook}
+use Rattle.reading.specs.Contract.{allowedPassed}
 use Rattle.daybook.specs.Detection.{Handed, ledgerDays, checking, reading, Premises, SealedApart, Detected}
 
 -- the days sealed by the calls, 01's entries of the diary (SPEC 6.2); and the book that the calls wrote (SPEC 5.7)
@@ -31,7 +32,8 @@ wrote scheme n f cs = bookWritten (opened scheme n f .state) cs
 -- ---- the claim
 
 module _ (scheme n f : ℕ) (cs : List Call) where
-  -- the premises p to s for all days sealed, in the request's words: the book begins with the one that the calls wrote
+  -- the premises p to s and u for all days sealed, in the request's words: the book begins with the one that the calls
+  -- wrote
   pub record AllPremises (x : Handed) : Type 0 where
     pub allowed : allowedD n f (length (sealed scheme n cs)) ≡ true
     pub begins : take (length (wrote scheme n f cs)) (x .book) ≡ wrote scheme n f cs
@@ -39,6 +41,7 @@ module _ (scheme n f : ℕ) (cs : List Call) where
     pub work-long : 32 * length (sealed scheme n cs) ≤ length (x .work)
     pub outcomes-long : length (chains scheme n (length (sealed scheme n cs))) ≤ length (x .outcomes)
     pub list-long : length (sealed scheme n cs) ≤ length (x .list)
+    pub passed-ok : allowedPassed n (length (sealed scheme n cs)) (x .passed) ≡ true
 
   pub record Guarantee : Type 0 where
     -- a: the service refuses exactly the calls that the diary refuses, with the same number
@@ -81,16 +84,20 @@ Unaltered =
     ((g : ℕ) → g among days d → dayOf (sealed scheme n cs) g ≡ dayOf (ledgerDays d x) g) → ReadsClean scheme n f d x
 
 -- ---- the premises can be met: for whatever was sealed, if 01 allows the number of days, by a ledger of the same days
+-- and with each P that 19 lets pass
 
-pub record SameDays (scheme n f : ℕ) (cs : List Call) (x : Handed) : Type 0 where
+pub record SameDays (scheme n f : ℕ) (cs : List Call) (passed : ℕ) (x : Handed) : Type 0 where
   pub premises : Premises scheme n f (sealed scheme n cs) (wrote scheme n f cs) (length (sealed scheme n cs)) x
   pub same-days : ledgerDays (length (sealed scheme n cs)) x ≡ sealed scheme n cs
+  pub same-passed : x .passed ≡ passed
   pub reads-clean : ReadsClean scheme n f (length (sealed scheme n cs)) x
 
 abbrev pub PremisesMet : Type 0
 PremisesMet =
     (scheme n f : ℕ) → numberOf (opened scheme n f .answer) ≡ 0 → (cs : List Call) →
-    allowedD n f (length (sealed scheme n cs)) ≡ true → (x : Handed) × SameDays scheme n f cs x
+    allowedD n f (length (sealed scheme n cs)) ≡ true →
+    (passed : ℕ) → allowedPassed n (length (sealed scheme n cs)) passed ≡ true →
+    (x : Handed) × SameDays scheme n f cs passed x
 
 -- ---- a book written by seal
 

@@ -1,5 +1,5 @@
 -- What checking and reading find out about a ledger, over the days that were sealed and the book that was written for
--- them, whoever sealed them: the premises (SPEC 9.3 p to t), and what then holds (SPEC 9.3 c to f). Definitions only.
+-- them, whoever sealed them: the premises (SPEC 9.3 p to u), and what then holds (SPEC 9.3 c to f). Definitions only.
 use mathlib.Core.Path.{_≡_}
 use mathlib.Core.Logic.{_↔_}
 use mathlib.Core.Bool.{true, not, _&&_}
@@ -15,14 +15,15 @@ use Rattle.sha256.specs.Sha256.{sha256}
 use Rattle.chains.specs.Book.{inputsOf}
 use Rattle.checking.specs.Contract.{Checked, checked, digestsOf}
 use Rattle.reading.specs.Numbers.{lastGood}
-use Rattle.reading.specs.Contract.{found, Readout, readout}
+use Rattle.reading.specs.Contract.{allowedPassed, found, Readout, readout}
 
--- what is handed to checking and reading: the altered ledger with its ends, the book, and the buffers, with any
--- contents
+-- what is handed to checking and reading: the altered ledger with its ends, the book, 02's P (SPEC 19.1), and the
+-- buffers, with any contents
 pub record Handed : Type 0 where
   pub ledger : List ℕ
   pub ends : List ℕ
   pub book : List ℕ
+  pub passed : ℕ
   pub work : List ℕ
   pub outcomes : List ℕ
   pub list : List ℕ
@@ -48,7 +49,7 @@ module _ (scheme n f d : ℕ) (x : Handed) where
 
   -- read, on the outcome buffer as check left it, and all that it leaves
   abbrev pub reading : Readout
-  reading = readout scheme n f d (checking .outcomes) (x .list)
+  reading = readout scheme n f d (x .passed) (checking .outcomes) (x .list)
 
   -- the days that it listed
   abbrev pub listedDays : List ℕ
@@ -79,6 +80,8 @@ pub record Premises (scheme n f : ℕ) (sealed : List (List ℕ)) (written : Lis
   pub work-long : 32 * d ≤ length (x .work)
   pub outcomes-long : length (chains scheme n d) ≤ length (x .outcomes)
   pub list-long : d ≤ length (x .list)
+  -- u: test 19 lets P pass
+  pub passed-ok : allowedPassed n d (x .passed) ≡ true
 
 -- ---- what checking and reading do then
 
@@ -101,9 +104,10 @@ pub record Detected (scheme n f : ℕ) (sealed : List (List ℕ)) (d : ℕ) (x :
   -- e: every changed day is there, and under the tree layout no other
   pub complete : (g : ℕ) → g among changedDays sealed d x → g among listedDays scheme n f d x
   pub exact : scheme ≡ 3 → (g : ℕ) → g among listedDays scheme n f d x → g among changedDays sealed d x
-  -- f: the result says clean exactly when no day is changed, and its numbers are those of 01 (SPEC 8.6)
+  -- f: the result says clean exactly when no day is changed, and its numbers are those of 01 (SPEC 8.6), low by P
+  -- (SPEC 19.2)
   pub clean : (reading scheme n f d x .report .clean ≡ true) ↔ (changedDays sealed d x ≡ [])
   pub numbers : reading scheme n f d x .report ≡
-      found n f d (listedDays scheme n f d x) (lastGood scheme n d (tableOfChanges scheme n sealed d x))
+      found d (x .passed) (listedDays scheme n f d x) (lastGood scheme n d (tableOfChanges scheme n sealed d x))
   -- last good, the last day whose black value passes, is the last that n divides with no changed day up to it
   pub last-good : lastGood scheme n d (tableOfChanges scheme n sealed d x) ≡ lastUnchanged n d (changedDays sealed d x)

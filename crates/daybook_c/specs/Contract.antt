@@ -81,4 +81,4 @@ positionAfter (case-of-place.Refused number) position = position
 
 -- the version of the calls: 10000 · major + 100 · minor + patch
 abbrev pub version : ℕ
-version = 400
+version = 500

@@ -130,17 +130,19 @@ pub extern "C" fn daybook_read(
     n: u32,
     f: u32,
     d: u32,
+    passed: u32,
     outcomes: &[u8],
     list: &mut [u32],
     numbers: &mut [u32; 5],
 ) -> u32
-    ensures { λ r. ⌜ r ≡ readout scheme n f d (now (outcomes .entry)) (now (list .entry)) .report .refusal ⌝ }
-    ensures { λ r. ⌜ now (list .exit) ≡ readout scheme n f d (now (outcomes .entry)) (now (list .entry)) .list ⌝ }
+    ensures { λ r. ⌜ r ≡ readout scheme n f d passed (now (outcomes .entry)) (now (list .entry)) .report .refusal ⌝ }
+    ensures { λ r. ⌜ now (list .exit) ≡
+        readout scheme n f d passed (now (outcomes .entry)) (now (list .entry)) .list ⌝ }
     ensures { λ r. ⌜ now (numbers .exit) ≡
-        numbersAfter (readout scheme n f d (now (outcomes .entry)) (now (list .entry)) .report)
+        numbersAfter (readout scheme n f d passed (now (outcomes .entry)) (now (list .entry)) .report)
         (now (numbers .entry)) ⌝ }
 {
-    let a = reading::read(scheme, n, f, d, outcomes, list);
+    let a = reading::read(scheme, n, f, d, passed, outcomes, list);
     let x = reading::answers::number_of(d, a);
     if x == 0 {
         let m = reading::answers::numbers_of(d, a);
@@ -249,5 +251,5 @@ pub extern "C" fn daybook_position_of(
 pub extern "C" fn daybook_version() -> u32
     ensures { λ r. ⌜ r ≡ version ⌝ }
 {
-    400
+    500
 }

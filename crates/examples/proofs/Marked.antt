@@ -7,7 +7,7 @@ use Rattle.lists.proofs.Laws.{true-or-false}
 use Rattle.evidence.proofs.TableLaws.{listing-ascends, given-iff-accepted, listed-iff}
 use Rattle.layouts.specs.Layouts.{lg, namesThrough, chains}
 use Rattle.reading.specs.Numbers.{lastGood}
-use Rattle.examples.specs.Examples.{Lists, NotGiven, Examples, LastGoods}
+use Rattle.examples.specs.Examples.{Lists, NotGiven, Examples, LastGoods, Skipped}
 
 lists : (s n d : ℕ) (table list : List ℕ) → accepted (chains s n d) d table ≡ true → listing (chains s n d) d table ≡ list → Lists s n d table list
 lists s n d table list a e =
@@ -24,12 +24,12 @@ pub examples : Examples
 unfolding listing accepted tableOf lg namesThrough flatMap chains lastGood lib.Count.ones lib.Count.onesIn
 examples =
     record {
-      figure = record { lists = lists 2 16 64 _ _ refl refl; low-is = refl; good-is = refl };
+      figure = record { lists = lists 2 16 64 _ _ refl refl; passed-ok = refl; low-is = refl; good-is = refl };
       tree-16 = record { formula = refl; chains-are = refl };
       tree-14 = record { formula = refl; chains-are = refl };
       tree-3 = record { formula = refl; chains-are = refl };
-      tree-days = record { lists = lists 3 2 16 _ _ refl refl; low-is = refl; good-is = refl };
-      black-day = record { lists = lists 1 2 24 _ _ refl refl; low-is = refl; good-is = refl };
+      tree-days = record { lists = lists 3 2 16 _ _ refl refl; passed-ok = refl; low-is = refl; good-is = refl };
+      black-day = record { lists = lists 1 2 24 _ _ refl refl; passed-ok = refl; low-is = refl; good-is = refl };
       tile-1 = lists 2 1 1 _ _ refl refl;
       tile-4 = lists 2 4 4 _ _ refl refl;
       tile-14 = refused 2 4 4 _ refl;
@@ -41,6 +41,15 @@ pub last-goods : LastGoods
 unfolding listing accepted tableOf lg namesThrough flatMap chains lastGood
 last-goods =
     record {
-      no-black = record { lists = lists 3 4 4 _ _ refl refl; low-is = refl; good-is = refl };
-      stored-once = record { lists = lists 3 4 8 _ _ refl refl; low-is = refl; good-is = refl };
+      no-black = record { lists = lists 3 4 4 _ _ refl refl; passed-ok = refl; low-is = refl; good-is = refl };
+      stored-once = record { lists = lists 3 4 8 _ _ refl refl; passed-ok = refl; low-is = refl; good-is = refl };
+    }
+
+pub skipped : Skipped
+skipped =
+    let e = examples .figure in
+    record {
+      one-skipped = record { lists = e .lists; passed-ok = refl; low-is = refl; good-is = e .good-is };
+      all-skipped = record { lists = e .lists; passed-ok = refl; low-is = refl; good-is = e .good-is };
+      one-between = record { lists = e .lists; passed-ok = refl; low-is = refl; good-is = e .good-is };
     }

@@ -1,13 +1,15 @@
 -- The examples that 01 marks (SPEC 13), as statements about tables, the sets that give them, counts, low and last good.
 use mathlib.Core.Path.{_≡_}
 use mathlib.Core.Logic.{_↔_}
+use mathlib.Core.Bool.{true}
 use mathlib.Core.List.{List, [], _∷_}
 use Prim.Native.Nat.{ℕ}
 use lib.ListN.{length}
 use Rattle.lists.specs.Lists.{_among_, upFrom, Ascends, firstOf}
 use Rattle.evidence.specs.Evidence.{tableOf, Gives}
 use Rattle.layouts.specs.Layouts.{chains, valueCount}
-use Rattle.reading.specs.Numbers.{lowOf, lastGood}
+use Rattle.reading.specs.Numbers.{lowOf, validationBefore, lastGood}
+use Rattle.reading.specs.Contract.{allowedPassed}
 
 -- some set gives the table, and the list is that of the days of such sets (SPEC 8.5), ascending, each once
 pub record Lists (scheme n d : ℕ) (table list : List ℕ) : Type 0 where
@@ -24,11 +26,16 @@ pub record Counts (scheme n d count : ℕ) : Type 0 where
   pub formula : valueCount scheme n d ≡ count
   pub chains-are : length (chains scheme n d) ≡ count
 
--- reading the table that the days S give: the list, low, last good
-pub record Reads (scheme n f d : ℕ) (S list : List ℕ) (low good : ℕ) : Type 0 where
+-- reading the table that the days S give, with a P that 19 lets pass: the list, low, last good
+pub record ReadsBy (scheme n d passed : ℕ) (S list : List ℕ) (low good : ℕ) : Type 0 where
   pub lists : Lists scheme n d (tableOf (chains scheme n d) S) list
-  pub low-is : lowOf n f d (firstOf list) ≡ low
+  pub passed-ok : allowedPassed n d passed ≡ true
+  pub low-is : lowOf passed (firstOf list) ≡ low
   pub good-is : lastGood scheme n d (tableOf (chains scheme n d) S) ≡ good
+
+-- 01's case: P is D − F·N (SPEC 19.4)
+abbrev pub Reads : ℕ → ℕ → ℕ → ℕ → List ℕ → List ℕ → ℕ → ℕ → Type 0
+Reads scheme n f d S list low good = ReadsBy scheme n d (validationBefore n f d) S list low good
 
 -- in the order of SPEC 13.1 to 13.11; the first is 001's figure
 pub record Examples : Type 0 where
@@ -49,3 +56,10 @@ pub record Examples : Type 0 where
 pub record LastGoods : Type 0 where
   pub no-black : Reads 3 4 1 4 (3 ∷ []) (3 ∷ []) 2 0
   pub stored-once : Reads 3 4 1 8 (7 ∷ []) (7 ∷ []) 6 4
+
+-- 02's skipped validations (SPEC 19.7): 001's figure, if the last check was at day 16, if there was none, and if there
+-- was one at day 48, which is no multiple of F·N
+pub record Skipped : Type 0 where
+  pub one-skipped : ReadsBy 2 16 64 16 (19 ∷ 20 ∷ 27 ∷ []) (19 ∷ 20 ∷ 23 ∷ 24 ∷ 27 ∷ 28 ∷ 31 ∷ 32 ∷ []) 18 16
+  pub all-skipped : ReadsBy 2 16 64 0 (19 ∷ 20 ∷ 27 ∷ []) (19 ∷ 20 ∷ 23 ∷ 24 ∷ 27 ∷ 28 ∷ 31 ∷ 32 ∷ []) 18 16
+  pub one-between : ReadsBy 2 16 64 48 (19 ∷ 20 ∷ 27 ∷ []) (19 ∷ 20 ∷ 23 ∷ 24 ∷ 27 ∷ 28 ∷ 31 ∷ 32 ∷ []) 48 16

@@ -3,3 +3,4 @@ pub mod LastGood
 pub mod RefusalLaws
 pub mod Report
 pub mod Statements
+pub mod Passed

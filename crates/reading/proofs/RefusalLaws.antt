@@ -1,20 +1,20 @@
 -- The refusal by the tests, and what no refusal leaves.
 use mathlib.Core.{Path._≡_, Path.refl, Path.sym, Path._∙_, List.List, List.[], List._∷_}
 use mathlib.Core.Bool.{Bool, true, false, not, _&&_, _||_, cond}
-use Prim.Native.Nat.{ℕ, _*_, _≤_, _<_}
+use Prim.Native.Nat.{ℕ, _-_, _*_, _≤_, _<_}
 use native.Mathlib.Omega.{arith}
 use lib.{Dec.eqb, ListN.length, ListN.take, Seq.length-take-le}
 use borrow.Author.Tests.{le-leb, lt-leb, leb-true}
 use Rattle.evidence.specs.Evidence.{meets, tableOf, Gives, accepted}
 use Rattle.evidence.proofs.TableLaws.{given-iff-accepted}
-use Rattle.refusals.specs.Refusals.{firstRefusal}
-use Rattle.refusals.proofs.TestLaws.{passed, failed, Pass, none-fails, all-pass, pass-split, pass-both, refused-before, refused-after}
-use Rattle.layouts.specs.Layouts.{layoutTests, layoutRefusal, chains}
+use Rattle.refusals.specs.Refusals.{_orRefuse_, firstRefusal}
+use Rattle.refusals.proofs.TestLaws.{passed, failed, Pass, none-fails, all-pass, pass-split, pass-both, refused-before, refused-after, last-fails, last-passes}
+use Rattle.layouts.specs.Layouts.{divides, layoutTests, layoutRefusal, chains}
 use Rattle.layouts.proofs.AllowedLaws.{allowed-n-is, allowed-d-is, divides-factor, layout-is}
 use Rattle.layouts.proofs.Coverage.{divisor-le}
 use Rattle.acceptance.specs.Private.{Table, rules}
 use Rattle.acceptance.proofs.Accepted.{accepted-rules}
-use Rattle.reading.specs.Contract.{tableIn, bits, tableTests, readTests, readRefusal}
+use Rattle.reading.specs.Contract.{tableIn, bits, allowedPassed, passedTests, passedRefusal, tableTests, readTests, readRefusal}
 use Rattle.reading.specs.Private.{Layout, least, givenTests, Given}
 use Rattle.reading.proofs.BitLaws.{bits-at, pass-accepted}
 
@@ -58,7 +58,7 @@ part-length x o m = sym (length-take-le x o m)
 pub table-part : (s n d : ℕ) (o : List ℕ) {v x : ℕ} → Layout s n d → v ≡ length (chains s n d) → x ≡ v → x ≤ length o → Table s n d (take x o)
 table-part s n d o {v} {x} L q k m = layout-table s n d (take x o) L (length-take-le x o m ∙ k ∙ q)
 
--- ---- tests 1 2 3 7 8 12 13 14
+-- ---- tests 1 2 3 7 19
 
 -- the facts of an allowed layout
 pub layout-facts : (s n f d : ℕ) {r : ℕ} → r ≡ layoutRefusal s n f d → r ≡ 0 → Layout s n d
@@ -68,39 +68,67 @@ layout-facts s n f d e z =
     let v = allowed-d-is n f d (u .1) in
     record { scheme-ok = u .0 .scheme-ok; n-ok = u .0 .n-ok; some = v .some; most = v .most; whole = divides-factor n f d (w .some) (v .whole) }
 
-module _ (s n f d : ℕ) (o : List ℕ) (places : ℕ) where
-  pub layout-refused : {r : ℕ} → r ≡ layoutRefusal s n f d → (r ≡ 0 → ⊥) → r ≡ readRefusal s n f d o places
-  unfolding readRefusal layoutRefusal
-  layout-refused e h = refused-before (layoutTests s n f d) (tableTests s n d o places) e h
+module _ (s n f d p : ℕ) where
+  pub layout-refused : {r : ℕ} → r ≡ layoutRefusal s n f d → (r ≡ 0 → ⊥) → r ≡ passedRefusal s n f d p
+  unfolding passedRefusal layoutRefusal
+  layout-refused e h = refused-before (layoutTests s n f d) (allowedPassed n d p orRefuse 19 ∷ []) e h
 
-  pub table-refused : {r p : ℕ} → r ≡ layoutRefusal s n f d → r ≡ 0 → p ≡ firstRefusal (tableTests s n d o places) → p ≡ readRefusal s n f d o places
-  unfolding readRefusal layoutRefusal
-  table-refused e z h = h ∙ sym (refused-after (layoutTests s n f d) (tableTests s n d o places) refl (sym e ∙ z))
+  module _ {r : ℕ} (e : r ≡ layoutRefusal s n f d) (z : r ≡ 0) where
+    pub passed-19 : {b : Bool} → b ≡ allowedPassed n d p → not b ≡ true → 19 ≡ passedRefusal s n f d p
+    unfolding passedRefusal layoutRefusal
+    passed-19 h t = last-fails (layoutTests s n f d) (allowedPassed n d p) 19 refl e z (failed h t)
+
+    pub passed-0 : {b : Bool} → b ≡ allowedPassed n d p → not b ≡ false → 0 ≡ passedRefusal s n f d p
+    unfolding passedRefusal layoutRefusal
+    passed-0 h t = last-passes (layoutTests s n f d) (allowedPassed n d p) 19 refl e z (passed h t)
+
+  -- each test of a P that is let pass
+  passed-passes : passedRefusal s n f d p ≡ 0 → Pass (layoutTests s n f d) × (allowedPassed n d p ≡ true)
+  unfolding passedRefusal
+  passed-passes e = let q = pass-split (layoutTests s n f d) (allowedPassed n d p orRefuse 19 ∷ []) (none-fails (passedTests s n f d p) refl e) in (q .0, q .1 .0)
+
+  pub passed-layout : passedRefusal s n f d p ≡ 0 → layoutRefusal s n f d ≡ 0
+  unfolding layoutRefusal
+  passed-layout e = all-pass (layoutTests s n f d) (passed-passes e .0)
+
+  pub passed-facts : {r : ℕ} → r ≡ passedRefusal s n f d p → r ≡ 0 → Layout s n d
+  passed-facts e z = layout-facts s n f d refl (passed-layout (sym e ∙ z))
+
+-- ---- tests 1 2 3 7 19 8 12 13 14
+
+module _ (s n f d p : ℕ) (o : List ℕ) (places : ℕ) where
+  pub passed-refused : {r : ℕ} → r ≡ passedRefusal s n f d p → (r ≡ 0 → ⊥) → r ≡ readRefusal s n f d p o places
+  unfolding readRefusal passedRefusal
+  passed-refused e h = refused-before (passedTests s n f d p) (tableTests s n d o places) e h
+
+  pub table-refused : {r q : ℕ} → r ≡ passedRefusal s n f d p → r ≡ 0 → q ≡ firstRefusal (tableTests s n d o places) → q ≡ readRefusal s n f d p o places
+  unfolding readRefusal passedRefusal
+  table-refused e z h = h ∙ sym (refused-after (passedTests s n f d p) (tableTests s n d o places) refl (sym e ∙ z))
 
   -- each test of a call that is not refused
-  pub read-passes : readRefusal s n f d o places ≡ 0 → Pass (layoutTests s n f d) × Pass (tableTests s n d o places)
+  read-passes : readRefusal s n f d p o places ≡ 0 → Pass (passedTests s n f d p) × Pass (tableTests s n d o places)
   unfolding readRefusal
-  read-passes e = pass-split (layoutTests s n f d) (tableTests s n d o places) (none-fails (readTests s n f d o places) refl e)
+  read-passes e = pass-split (passedTests s n f d p) (tableTests s n d o places) (none-fails (readTests s n f d p o places) refl e)
 
-  pub read-layout : readRefusal s n f d o places ≡ 0 → layoutRefusal s n f d ≡ 0
-  unfolding layoutRefusal
-  read-layout e = all-pass (layoutTests s n f d) (read-passes e .0)
+  pub read-passed : readRefusal s n f d p o places ≡ 0 → passedRefusal s n f d p ≡ 0
+  unfolding passedRefusal
+  read-passed e = all-pass (passedTests s n f d p) (read-passes e .0)
 
-  pub read-enough : readRefusal s n f d o places ≡ 0 → length (chains s n d) ≤ length o
+  pub read-facts : readRefusal s n f d p o places ≡ 0 → Layout s n d
+  read-facts e = passed-facts s n f d p refl (read-passed e)
+
+  pub read-enough : readRefusal s n f d p o places ≡ 0 → length (chains s n d) ≤ length o
   read-enough e = leb-true (length (chains s n d)) (length o) (read-passes e .1 .1 .0)
 
   -- the outcomes needed are a table that some set gives
-  pub read-given : readRefusal s n f d o places ≡ 0 → Given s n f d (tableIn s n d o) places
+  pub read-given : readRefusal s n f d p o places ≡ 0 → Given s n d (tableIn s n d o) places
   read-given e =
-      let p = read-passes e .1 in
-      let u = layout-is s n f d (read-layout e) in
-      let v = allowed-d-is n f d (u .1) in
+      let q = read-passes e .1 in
       record {
-        table = layout-table s n d (tableIn s n d o) (layout-facts s n f d refl (read-layout e)) (length-take-le (length (chains s n d)) o (read-enough e));
-        bits-ok = p .1 .1 .0;
-        accepted-ok = p .1 .1 .1 .0;
-        validation = divisor-le (f * n) d (v .some) (v .whole);
-        room = leb-true d places (p .0);
+        table = layout-table s n d (tableIn s n d o) (read-facts e) (length-take-le (length (chains s n d)) o (read-enough e));
+        bits-ok = q .1 .1 .0;
+        accepted-ok = q .1 .1 .1 .0;
+        room = leb-true d places (q .0);
       }
 
 -- ---- for theorems above: a table that a set gives is not refused
@@ -110,12 +138,12 @@ unfolding tableOf
 bits-given [] S = refl
 bits-given (c ∷ cs) S = rw (bits-given cs S) (elim (meets S c) as (λ b. (eqb (cond b 0 1) 0 || eqb (cond b 0 1) 1) && true ≡ true) [ true ↦ refl | false ↦ refl ])
 
-pub set-read : (s n f d : ℕ) (o : List ℕ) (places : ℕ) (S : List ℕ) → layoutRefusal s n f d ≡ 0 → d ≤ places → length (chains s n d) ≤ length o →
-    Gives (chains s n d) d S (tableIn s n d o) → readRefusal s n f d o places ≡ 0
-unfolding readRefusal layoutRefusal
-set-read s n f d o places S e l m h =
-    all-pass (readTests s n f d o places)
-    (pass-both (layoutTests s n f d) (tableTests s n d o places) (none-fails (layoutTests s n f d) refl e) (
+pub set-read : (s n f d p : ℕ) (o : List ℕ) (places : ℕ) (S : List ℕ) → passedRefusal s n f d p ≡ 0 → d ≤ places → length (chains s n d) ≤ length o →
+    Gives (chains s n d) d S (tableIn s n d o) → readRefusal s n f d p o places ≡ 0
+unfolding readRefusal passedRefusal
+set-read s n f d p o places S e l m h =
+    all-pass (readTests s n f d p o places)
+    (pass-both (passedTests s n f d p) (tableTests s n d o places) (none-fails (passedTests s n f d p) refl e) (
       le-leb d places l,
       (le-leb (length (chains s n d)) (length o) m, (rw (h .gives) at (bits-given (chains s n d) S), (given-iff-accepted (chains s n d) d (tableIn s n d o) .0 (S, h), tt))),
     ))

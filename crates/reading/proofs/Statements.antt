@@ -18,42 +18,42 @@ use Rattle.reading.proofs.Report.{readout-found}
 
 -- ---- what a call says, by its refusal and the days listed
 
-by-refusal : (r n f d good : ℕ) (F : List ℕ) → unlessRefused r (found n f d F good) (refusedReport r) .refusal ≡ r
+by-refusal : (r d p good : ℕ) (F : List ℕ) → unlessRefused r (found d p F good) (refusedReport r) .refusal ≡ r
 unfolding found
-by-refusal zero n f d good [] = refl
-by-refusal zero n f d good (g ∷ gs) = refl
-by-refusal (suc r) n f d good F = refl
+by-refusal zero d p good [] = refl
+by-refusal zero d p good (g ∷ gs) = refl
+by-refusal (suc r) d p good F = refl
 
 -- no refusal and not clean: a day is listed
-by-days : (r n f d good : ℕ) (F : List ℕ) → unlessRefused r (found n f d F good) (refusedReport r) .refusal ≡ 0 →
-    unlessRefused r (found n f d F good) (refusedReport r) .clean ≡ false → 1 ≤ unlessRefused r (found n f d F good) (refusedReport r) .listed
+by-days : (r d p good : ℕ) (F : List ℕ) → unlessRefused r (found d p F good) (refusedReport r) .refusal ≡ 0 →
+    unlessRefused r (found d p F good) (refusedReport r) .clean ≡ false → 1 ≤ unlessRefused r (found d p F good) (refusedReport r) .listed
 unfolding found
-by-days zero n f d good [] z e = absurd (true-or-false refl e)
-by-days zero n f d good (g ∷ gs) z e = omega arith
-by-days (suc r) n f d good F z e = absurd (omega arith)
+by-days zero d p good [] z e = absurd (true-or-false refl e)
+by-days zero d p good (g ∷ gs) z e = omega arith
+by-days (suc r) d p good F z e = absurd (omega arith)
 
-pub count-found : (n f d good : ℕ) (F : List ℕ) → found n f d F good .listed ≡ length F
+pub count-found : (d p good : ℕ) (F : List ℕ) → found d p F good .listed ≡ length F
 unfolding found
-count-found n f d good [] = refl
-count-found n f d good (g ∷ gs) = refl
+count-found d p good [] = refl
+count-found d p good (g ∷ gs) = refl
 
-module _ (s n f d : ℕ) (o l : List ℕ) where
-  pub refusal-said : readout s n f d o l .report .refusal ≡ readRefusal s n f d o (length l)
+module _ (s n f d p : ℕ) (o l : List ℕ) where
+  pub refusal-said : readout s n f d p o l .report .refusal ≡ readRefusal s n f d p o (length l)
   unfolding readout
-  refusal-said = by-refusal (readRefusal s n f d o (length l)) n f d (lastGood s n d (tableIn s n d o)) (listedIn s n d o)
+  refusal-said = by-refusal (readRefusal s n f d p o (length l)) d p (lastGood s n d (tableIn s n d o)) (listedIn s n d o)
 
-  changed-lists : readout s n f d o l .report .refusal ≡ 0 → readout s n f d o l .report .clean ≡ false → 1 ≤ readout s n f d o l .report .listed
+  changed-lists : readout s n f d p o l .report .refusal ≡ 0 → readout s n f d p o l .report .clean ≡ false → 1 ≤ readout s n f d p o l .report .listed
   unfolding readout
-  changed-lists = by-days (readRefusal s n f d o (length l)) n f d (lastGood s n d (tableIn s n d o)) (listedIn s n d o)
+  changed-lists = by-days (readRefusal s n f d p o (length l)) d p (lastGood s n d (tableIn s n d o)) (listedIn s n d o)
 
 -- ---- acceptance
 
--- with tests 1 2 3 7 8 12 passed, the call says what tests 13 14 find
-module _ (s n f d : ℕ) (o l : List ℕ) (u : Supplied s n f d o l) where
-  by-given : readout s n f d o l .report .refusal ≡ firstRefusal (givenTests s n d (tableIn s n d o))
+-- with tests 1 2 3 7 19 8 12 passed, the call says what tests 13 14 find
+module _ (s n f d p : ℕ) (o l : List ℕ) (u : Supplied s n f d p o l) where
+  by-given : readout s n f d p o l .report .refusal ≡ firstRefusal (givenTests s n d (tableIn s n d o))
   by-given =
-      refusal-said s n f d o l ∙
-      sym (table-refused s n f d o (length l) refl (u .layout) (table-given s n d o (length l) refl (u .places) refl refl (u .enough) refl))
+      refusal-said s n f d p o l ∙
+      sym (table-refused s n f d p o (length l) refl (u .passed-ok) (table-given s n d o (length l) refl (u .places) refl refl (u .enough) refl))
 
   set-accepted : SomeSet s n d o → accepted (chains s n d) d (tableIn s n d o) ≡ true
   set-accepted h = given-iff-accepted (chains s n d) d (tableIn s n d o) .0 h
@@ -72,31 +72,31 @@ failed true false e = (refl, refl)
 failed false a e = absurd (omega arith)
 
 pub read-if-given : ReadIfGiven
-read-if-given s n f d o l u = (
-  λ e. accepted-set s n f d o l u (passed (bits (tableIn s n d o)) (accepted (chains s n d) d (tableIn s n d o)) (sym (by-given s n f d o l u) ∙ e)),
-  λ h. refusal-said s n f d o l ∙ set-read s n f d o (length l) (h .0) (u .layout) (u .places) (u .enough) (h .1),
+read-if-given s n f d p o l u = (
+  λ e. accepted-set s n f d p o l u (passed (bits (tableIn s n d o)) (accepted (chains s n d) d (tableIn s n d o)) (sym (by-given s n f d p o l u) ∙ e)),
+  λ h. refusal-said s n f d p o l ∙ set-read s n f d p o (length l) (h .0) (u .passed-ok) (u .places) (u .enough) (h .1),
 )
 
 pub says-no-set : SaysNoSet
-says-no-set s n f d o l u =
+says-no-set s n f d p o l u =
     let a = accepted (chains s n d) d (tableIn s n d o) in (
-      λ e. let q = failed (bits (tableIn s n d o)) a (sym (by-given s n f d o l u) ∙ e) in (q .0, λ h. true-or-false (set-accepted s n f d o l u h) (q .1)),
-      λ h. let no : a ≡ false = elim (split a) [ inl e ↦ absurd (h .1 (accepted-set s n f d o l u e)) | inr e ↦ e ] in by-given s n f d o l u ∙ rw (h .0, no),
+      λ e. let q = failed (bits (tableIn s n d o)) a (sym (by-given s n f d p o l u) ∙ e) in (q .0, λ h. true-or-false (set-accepted s n f d p o l u h) (q .1)),
+      λ h. let no : a ≡ false = elim (split a) [ inl e ↦ absurd (h .1 (accepted-set s n f d p o l u e)) | inr e ↦ e ] in by-given s n f d p o l u ∙ rw (h .0, no),
     )
 
 -- ---- the days listed
 
 pub lists-days-of-sets : ListsDaysOfSets
 unfolding listedIn
-lists-days-of-sets s n f d o l e =
-    let z : readRefusal s n f d o (length l) ≡ 0 = sym (refusal-said s n f d o l) ∙ e in
+lists-days-of-sets s n f d p o l e =
+    let z : readRefusal s n f d p o (length l) ≡ 0 = sym (refusal-said s n f d p o l) ∙ e in
     let F = listing (chains s n d) d (tableIn s n d o) in
     let front : take (length F) (F ++ drop (length F) l) ≡ F = take-at F (drop (length F) l) (length F) refl in
-    rw (readout-found s n f d o l z, count-found n f d (lastGood s n d (tableIn s n d o)) F)
+    rw (readout-found s n f d p o l z, count-found d p (lastGood s n d (tableIn s n d o)) F)
     (record {
       counted = ap length front;
       ascending = rw front (listing-ascends (chains s n d) d (tableIn s n d o));
-      days = rw front (listed-iff (chains s n d) d (tableIn s n d o) (read-given s n f d o (length l) z .accepted-ok));
+      days = rw front (listed-iff (chains s n d) d (tableIn s n d o) (read-given s n f d p o (length l) z .accepted-ok));
       rest = drop-at F (drop (length F) l) (length F) refl;
     })
 
@@ -104,7 +104,7 @@ lists-days-of-sets s n f d o l e =
 
 pub outcomes-read : OutcomesRead
 unfolding readout readRefusal listedIn
-outcomes-read s n f d o l =
+outcomes-read s n f d p o l =
     let k = length (chains s n d) in
     rw (take-take k k o (le-refl k), ← (enough-read k o))
 
@@ -143,7 +143,7 @@ case-of d (Refused x) r K e =
     number (suc y) z k = omega arith
 
 pub case-told : CaseTold
-case-told s n f d o l a e = case-of d a (readout s n f d o l .report) (changed-lists s n f d o l) e
+case-told s n f d p o l a e = case-of d a (readout s n f d p o l .report) (changed-lists s n f d p o l) e
 
 determined : (d : ℕ) (a b : Reading) (r : Report) → CaseOf a r → CaseOf b r → reportOf d a ≡ r → reportOf d b ≡ r → a ≡ b
 unfolding reportOf
@@ -155,5 +155,5 @@ determined d (Changed m) (Refused y) r A B e h = A .refused y .1 (B .refused y .
 determined d (Refused x) b r A B e h = sym (B .refused x .1 (A .refused x .0 refl))
 
 pub one-answer : OneAnswer
-one-answer s n f d o l a b e h =
-    determined d a b (readout s n f d o l .report) (case-told s n f d o l a e) (case-told s n f d o l b h) e h
+one-answer s n f d p o l a b e h =
+    determined d a b (readout s n f d p o l .report) (case-told s n f d p o l a e) (case-told s n f d p o l b h) e h

@@ -1,12 +1,12 @@
--- 01's reading (SPEC 8): its tests, what it says, and the list after it. Definitions only.
+-- 01's reading (SPEC 8), with 02's P (SPEC 19): its tests, what it says, and the list after it. Definitions only.
 use mathlib.Core.Bool.{Bool, true, false, _&&_, _||_}
 use mathlib.Core.List.{List, [], _∷_, _++_}
 use Prim.Native.Nat.{ℕ}
-use lib.Dec.{eqb, leb}
+use lib.Dec.{eqb, leb, ltb}
 use lib.ListN.{length, take}
 use Rattle.evidence.specs.Evidence.{listing, accepted}
 use Rattle.refusals.specs.Refusals.{Test, _orRefuse_, firstRefusal, unlessRefused, frontWritten}
-use Rattle.layouts.specs.Layouts.{layoutTests, chains}
+use Rattle.layouts.specs.Layouts.{divides, layoutTests, chains}
 use Rattle.reading.specs.Numbers.{lowOf, lastGood}
 use Rattle.reading.specs.declared.Reading.{Reading}
 use Rattle.reading.specs.declared.Reading.the-variants.{Clean, Changed, Refused}
@@ -72,12 +72,24 @@ outcomeTests scheme n d outcomes =
 abbrev pub tableTests : ℕ → ℕ → ℕ → List ℕ → ℕ → List Test
 tableTests scheme n d outcomes places = leb d places orRefuse 8 ∷ outcomeTests scheme n d outcomes
 
--- 01's tests 1 2 3 7 8 12 13 14 (SPEC 11.5)
-abbrev pub readTests : ℕ → ℕ → ℕ → ℕ → List ℕ → ℕ → List Test
-readTests scheme n f d outcomes places = layoutTests scheme n f d ++ tableTests scheme n d outcomes places
+-- 02's P (SPEC 19.1): a day below D, or 0, that N divides
+abbrev pub allowedPassed : ℕ → ℕ → ℕ → Bool
+allowedPassed n d passed = ltb passed d && divides n passed
 
-unfoldable pub readRefusal : ℕ → ℕ → ℕ → ℕ → List ℕ → ℕ → ℕ
-readRefusal scheme n f d outcomes places = firstRefusal (readTests scheme n f d outcomes places)
+-- 01's tests 1 2 3 7, then 02's test 19 (SPEC 10.19)
+abbrev pub passedTests : ℕ → ℕ → ℕ → ℕ → ℕ → List Test
+passedTests scheme n f d passed = layoutTests scheme n f d ++ (allowedPassed n d passed orRefuse 19 ∷ [])
+
+unfoldable pub passedRefusal : ℕ → ℕ → ℕ → ℕ → ℕ → ℕ
+passedRefusal scheme n f d passed = firstRefusal (passedTests scheme n f d passed)
+
+-- tests 1 2 3 7 19 8 12 13 14 (SPEC 11.5)
+abbrev pub readTests : ℕ → ℕ → ℕ → ℕ → ℕ → List ℕ → ℕ → List Test
+readTests scheme n f d passed outcomes places =
+    passedTests scheme n f d passed ++ tableTests scheme n d outcomes places
+
+unfoldable pub readRefusal : ℕ → ℕ → ℕ → ℕ → ℕ → List ℕ → ℕ → ℕ
+readRefusal scheme n f d passed outcomes places = firstRefusal (readTests scheme n f d passed outcomes places)
 
 -- ---- the call
 
@@ -85,16 +97,16 @@ readRefusal scheme n f d outcomes places = firstRefusal (readTests scheme n f d 
 unfoldable pub listedIn : ℕ → ℕ → ℕ → List ℕ → List ℕ
 listedIn scheme n d outcomes = listing (chains scheme n d) d (tableIn scheme n d outcomes)
 
--- 01's result (SPEC 8.6): clean if no day is listed; else changed, with the numbers
-unfoldable pub found : ℕ → ℕ → ℕ → List ℕ → ℕ → Report
-found n f d [] last-good = cleanReport d
-found n f d (g ∷ gs) last-good =
+-- 01's result (SPEC 8.6): clean if no day is listed; else changed, with the numbers, low being 02's (SPEC 19.2)
+unfoldable pub found : ℕ → ℕ → List ℕ → ℕ → Report
+found d passed [] last-good = cleanReport d
+found d passed (g ∷ gs) last-good =
     record {
       refusal = 0;
       clean = false;
       listed = length (g ∷ gs);
       first = g;
-      low = lowOf n f d g;
+      low = lowOf passed g;
       high = d;
       last-good = last-good;
     }
@@ -105,13 +117,13 @@ pub record Readout : Type 0 where
   pub list : List ℕ
 
 -- what was found, and the listed days before what stood in the list; a refusal says its number and changes nothing
-unfoldable pub readout : ℕ → ℕ → ℕ → ℕ → List ℕ → List ℕ → Readout
-readout scheme n f d outcomes list =
-    let refusal = readRefusal scheme n f d outcomes (length list) in
+unfoldable pub readout : ℕ → ℕ → ℕ → ℕ → ℕ → List ℕ → List ℕ → Readout
+readout scheme n f d passed outcomes list =
+    let refusal = readRefusal scheme n f d passed outcomes (length list) in
     record {
       report =
           unlessRefused refusal
-          (found n f d (listedIn scheme n d outcomes) (lastGood scheme n d (tableIn scheme n d outcomes)))
+          (found d passed (listedIn scheme n d outcomes) (lastGood scheme n d (tableIn scheme n d outcomes)))
           (refusedReport refusal);
       list = frontWritten refusal (listedIn scheme n d outcomes) list;
     }

@@ -1,4 +1,4 @@
--- The numbers that reading gives beside the listed days (SPEC 8.6, 8.7). Definitions only.
+-- The numbers that reading gives beside the listed days (SPEC 8.6, 8.7, 19.2). Definitions only.
 use mathlib.Core.Bool.{Bool, false, _&&_, _||_}
 use mathlib.Core.List.{List, [], _∷_}
 use Prim.Native.Nat.{ℕ, pred, _-_, _*_, max}
@@ -7,9 +7,13 @@ use Rattle.lists.specs.Lists.{lastOf, keep}
 use Rattle.evidence.specs.Evidence.{days}
 use Rattle.layouts.specs.Layouts.{divides, Name, blackAt, namesThrough}
 
--- 01's low (SPEC 8.6), for the first listed day
-abbrev pub lowOf : ℕ → ℕ → ℕ → ℕ → ℕ
-lowOf n f d first = max (d - f * n) (pred first)
+-- 02's low (SPEC 19.2), for P and the first listed day
+abbrev pub lowOf : ℕ → ℕ → ℕ
+lowOf passed first = max passed (pred first)
+
+-- the validation that 01's low (SPEC 8.6) supposes: 01's low is the one with this day as P (SPEC 19.4)
+abbrev pub validationBefore : ℕ → ℕ → ℕ → ℕ
+validationBefore n f d = d - f * n
 
 -- 01's black value of day g (SPEC 8.7) passes
 abbrev pub blackPasses : ℕ → List Name → List ℕ → Bool

@@ -37,17 +37,16 @@ abbrev pub givenTests : ℕ → ℕ → ℕ → List ℕ → List Test
 givenTests scheme n d t = bits t orRefuse 13 ∷ accepted (chains scheme n d) d t orRefuse 14 ∷ []
 
 -- what no refusal leaves: a table that some set gives, and places for its days
-pub record Given (scheme n f d : ℕ) (t : List ℕ) (places : ℕ) : Type 0 where
+pub record Given (scheme n d : ℕ) (t : List ℕ) (places : ℕ) : Type 0 where
   pub table : Table scheme n d t
   pub bits-ok : bits t ≡ true
   pub accepted-ok : accepted (chains scheme n d) d t ≡ true
-  pub validation : f * n ≤ d
   pub room : d ≤ places
 
 -- by how many days are listed and the first of them
 unfoldable pub numbersOf : ℕ → ℕ → ℕ → ℕ → ℕ → Numbers
-numbersOf n f d count day =
-    record { listed = count; first = day; low = lowOf n f d day; high = d; «last_good» = (day - 1) / n * n }
+numbersOf n d passed count day =
+    record { listed = count; first = day; low = lowOf passed day; high = d; «last_good» = (day - 1) / n * n }
 
 -- the five numbers of a report, as a struct
 pub record NumbersOf (r : Report) (m : Numbers) : Type 0 where

@@ -1,23 +1,25 @@
 -- What holds of every call of read. Statements only; proofs/Statements.antt proves each.
 use mathlib.Core.Path.{_≡_}
-use mathlib.Core.Logic.{_↔_}
-use mathlib.Core.Bool.{true}
+use mathlib.Core.Logic.{_↔_, _⊎_}
+use mathlib.Core.Bool.{true, false}
 use mathlib.Core.List.{List}
 use Prim.Native.Nat.{ℕ, _≤_}
 use lib.ListN.{length, take, drop}
 use Rattle.lists.specs.Lists.{_among_, Ascends}
 use Rattle.evidence.specs.Evidence.{Gives}
-use Rattle.layouts.specs.Layouts.{layoutRefusal, chains}
+use Rattle.layouts.specs.Layouts.{divides, layoutRefusal, chains}
+use Rattle.reading.specs.Numbers.{validationBefore}
 use Rattle.reading.specs.declared.Numbers.{Numbers}
 use Rattle.reading.specs.declared.Reading.{Reading}
 use Rattle.reading.specs.declared.Reading.the-variants.{Clean, Changed, Refused}
-use Rattle.reading.specs.Contract.{Report, reportOf, tableIn, bits, Readout, readout}
+use Rattle.reading.specs.Contract.{Report, reportOf, tableIn, bits, allowedPassed, passedRefusal, Readout}
+use Rattle.reading.specs.Contract.{readout}
 
 -- ---- acceptance: demand 2's last sentence (SPEC 9.2)
 
--- tests 1 2 3 7 8 12 find no cause
-pub record Supplied (scheme n f d : ℕ) (outcomes list : List ℕ) : Type 0 where
-  pub layout : layoutRefusal scheme n f d ≡ 0
+-- tests 1 2 3 7 19 8 12 find no cause
+pub record Supplied (scheme n f d passed : ℕ) (outcomes list : List ℕ) : Type 0 where
+  pub passed-ok : passedRefusal scheme n f d passed ≡ 0
   pub places : d ≤ length list
   pub enough : length (chains scheme n d) ≤ length outcomes
 
@@ -28,15 +30,44 @@ SomeSet scheme n d outcomes = (S : List ℕ) × Gives (chains scheme n d) d S (t
 -- a table is read exactly if some set gives it; one that is not of 0 and 1 no set gives
 abbrev pub ReadIfGiven : Type 0
 ReadIfGiven =
-    (scheme n f d : ℕ) (outcomes list : List ℕ) → Supplied scheme n f d outcomes list →
-    (readout scheme n f d outcomes list .report .refusal ≡ 0) ↔ SomeSet scheme n d outcomes
+    (scheme n f d passed : ℕ) (outcomes list : List ℕ) → Supplied scheme n f d passed outcomes list →
+    (readout scheme n f d passed outcomes list .report .refusal ≡ 0) ↔ SomeSet scheme n d outcomes
 
 -- 14 is said exactly if the outcomes needed are 0 and 1 and no set gives them
 abbrev pub SaysNoSet : Type 0
 SaysNoSet =
-    (scheme n f d : ℕ) (outcomes list : List ℕ) → Supplied scheme n f d outcomes list →
-    (readout scheme n f d outcomes list .report .refusal ≡ 14) ↔
+    (scheme n f d passed : ℕ) (outcomes list : List ℕ) → Supplied scheme n f d passed outcomes list →
+    (readout scheme n f d passed outcomes list .report .refusal ≡ 14) ↔
     ((bits (tableIn scheme n d outcomes) ≡ true) × (SomeSet scheme n d outcomes → ⊥))
+
+-- ---- 02's P (SPEC 19)
+
+-- 19 is said exactly if tests 1 2 3 7 find no cause, and P is not below D or N does not divide it (SPEC 10.19)
+abbrev pub SaysNotPassed : Type 0
+SaysNotPassed =
+    (scheme n f d passed : ℕ) (outcomes list : List ℕ) →
+    (readout scheme n f d passed outcomes list .report .refusal ≡ 19) ↔
+    ((layoutRefusal scheme n f d ≡ 0) × ((d ≤ passed) ⊎ (divides n passed ≡ false)))
+
+-- D − F·N, 01's P, is always let pass (SPEC 19.4)
+abbrev pub ValidationAllowed : Type 0
+ValidationAllowed =
+    (scheme n f d : ℕ) → layoutRefusal scheme n f d ≡ 0 → allowedPassed n d (validationBefore n f d) ≡ true
+
+-- two calls that differ in P alone, both let pass: all but low is the same (SPEC 19.2)
+pub record SameButLow (a b : Readout) : Type 0 where
+  pub refusal : a .report .refusal ≡ b .report .refusal
+  pub clean : a .report .clean ≡ b .report .clean
+  pub listed : a .report .listed ≡ b .report .listed
+  pub first : a .report .first ≡ b .report .first
+  pub high : a .report .high ≡ b .report .high
+  pub last-good : a .report .last-good ≡ b .report .last-good
+  pub list : a .list ≡ b .list
+
+abbrev pub MovesLowAlone : Type 0
+MovesLowAlone =
+    (scheme n f d p q : ℕ) (outcomes list : List ℕ) → allowedPassed n d p ≡ true → allowedPassed n d q ≡ true →
+    SameButLow (readout scheme n f d p outcomes list) (readout scheme n f d q outcomes list)
 
 -- ---- the days listed
 
@@ -50,14 +81,15 @@ pub record ListsDays (scheme n d : ℕ) (outcomes list : List ℕ) (r : Readout)
 
 abbrev pub ListsDaysOfSets : Type 0
 ListsDaysOfSets =
-    (scheme n f d : ℕ) (outcomes list : List ℕ) → readout scheme n f d outcomes list .report .refusal ≡ 0 →
-    ListsDays scheme n d outcomes list (readout scheme n f d outcomes list)
+    (scheme n f d passed : ℕ) (outcomes list : List ℕ) →
+    readout scheme n f d passed outcomes list .report .refusal ≡ 0 →
+    ListsDays scheme n d outcomes list (readout scheme n f d passed outcomes list)
 
 -- outcomes past the values are not read (SPEC 8.1)
 abbrev pub OutcomesRead : Type 0
 OutcomesRead =
-    (scheme n f d : ℕ) (outcomes list : List ℕ) →
-    readout scheme n f d outcomes list ≡ readout scheme n f d (tableIn scheme n d outcomes) list
+    (scheme n f d passed : ℕ) (outcomes list : List ℕ) →
+    readout scheme n f d passed outcomes list ≡ readout scheme n f d passed (tableIn scheme n d outcomes) list
 
 -- ---- the answer: what the contract says of it leaves no choice
 
@@ -69,13 +101,13 @@ pub record CaseOf (a : Reading) (r : Report) : Type 0 where
 
 abbrev pub CaseTold : Type 0
 CaseTold =
-    (scheme n f d : ℕ) (outcomes list : List ℕ) (a : Reading) →
-    reportOf d a ≡ readout scheme n f d outcomes list .report →
-    CaseOf a (readout scheme n f d outcomes list .report)
+    (scheme n f d passed : ℕ) (outcomes list : List ℕ) (a : Reading) →
+    reportOf d a ≡ readout scheme n f d passed outcomes list .report →
+    CaseOf a (readout scheme n f d passed outcomes list .report)
 
 abbrev pub OneAnswer : Type 0
 OneAnswer =
-    (scheme n f d : ℕ) (outcomes list : List ℕ) (a b : Reading) →
-    reportOf d a ≡ readout scheme n f d outcomes list .report →
-    reportOf d b ≡ readout scheme n f d outcomes list .report →
+    (scheme n f d passed : ℕ) (outcomes list : List ℕ) (a b : Reading) →
+    reportOf d a ≡ readout scheme n f d passed outcomes list .report →
+    reportOf d b ≡ readout scheme n f d passed outcomes list .report →
     a ≡ b

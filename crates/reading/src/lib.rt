@@ -3,7 +3,7 @@ pub mod answers;
 
 ghost use mathlib.Core.Path.{_≡_};
 ghost use mathlib.Core.List.{_++_};
-ghost use Prim.Native.Nat.{_*_, _≤_, min, max};
+ghost use Prim.Native.Nat.{_≤_, min, max};
 ghost use lib.ListN.{length, drop};
 ghost use Rattle.evidence.specs.Evidence.{listing};
 ghost use Rattle.refusals.specs.Refusals.{bookLimit, firstRefusal};
@@ -11,7 +11,8 @@ ghost use Rattle.layouts.specs.Layouts.{chains};
 ghost use Rattle.acceptance.specs.Private.{Table};
 ghost use Rattle.reading.specs.Numbers.{lowOf, lastGood};
 ghost use Rattle.reading.specs.Contract as answer;
-ghost use Rattle.reading.specs.Contract.{reportOf, tableTests, readRefusal, found, readout};
+ghost use Rattle.reading.specs.Contract.{reportOf, allowedPassed, passedRefusal, tableTests, readRefusal};
+ghost use Rattle.reading.specs.Contract.{found, readout};
 ghost use Rattle.reading.specs.Private.{Layout, givenTests, Given, numbersOf};
 ghost use Rattle.reading.specs.Private as private;
 
@@ -114,11 +115,36 @@ pub fn table_refusal(scheme: u32, n: u32, d: u32, outcomes: &[u8], places: usize
     given_refusal(scheme, n, d, &outcomes[..values])
 }
 
-// Tests 1 2 3 7 8 12 13 14 (SPEC 11.5).
-fn refusal(scheme: u32, n: u32, f: u32, d: u32, outcomes: &[u8], places: usize) -> u32
-    ensures { λ r. ⌜ r ≡ readRefusal scheme n f d (now (outcomes .entry)) places ⌝ }
+// P is below d, and n divides it.
+fn allowed_passed(n: u32, d: u32, passed: u32) -> bool
+    requires { ⌜ 1 ≤ n ⌝ }
+    ensures { λ r. ⌜ r ≡ allowedPassed n d passed ⌝ }
+{
+    if d <= passed {
+        return false;
+    }
+    passed % n == 0
+}
+
+// Tests 1 2 3 7 19.
+pub fn passed_refusal(scheme: u32, n: u32, f: u32, d: u32, passed: u32) -> u32
+    ensures { λ r. ⌜ r ≡ passedRefusal scheme n f d passed ⌝ }
 {
     let r = layouts::layout_refusal(scheme, n, f, d);
+    if r != 0 {
+        return r;
+    }
+    if !allowed_passed(n, d, passed) {
+        return 19;
+    }
+    0
+}
+
+// Tests 1 2 3 7 19 8 12 13 14 (SPEC 11.5).
+fn refusal(scheme: u32, n: u32, f: u32, d: u32, passed: u32, outcomes: &[u8], places: usize) -> u32
+    ensures { λ r. ⌜ r ≡ readRefusal scheme n f d passed (now (outcomes .entry)) places ⌝ }
+{
+    let r = passed_refusal(scheme, n, f, d, passed);
     if r != 0 {
         return r;
     }
@@ -127,23 +153,22 @@ fn refusal(scheme: u32, n: u32, f: u32, d: u32, outcomes: &[u8], places: usize) 
 
 // ---- the answer
 
-fn low(n: u32, f: u32, d: u32, first: u32) -> u32
-    requires { ⌜ (f * n ≤ d) × (1 ≤ first) ⌝ }
-    ensures { λ r. ⌜ r ≡ lowOf n f d first ⌝ }
+fn low(passed: u32, first: u32) -> u32
+    requires { ⌜ 1 ≤ first ⌝ }
+    ensures { λ r. ⌜ r ≡ lowOf passed first ⌝ }
 {
-    let a = d - f * n;
-    let b = first - 1;
-    if a < b {
-        return b;
+    let before = first - 1;
+    if passed < before {
+        return before;
     }
-    a
+    passed
 }
 
-fn changed(n: u32, f: u32, d: u32, count: u32, first: u32) -> Numbers
-    requires { ⌜ (1 ≤ n) × (f * n ≤ d) × (1 ≤ first) ⌝ }
-    ensures { λ r. ⌜ r ≡ numbersOf n f d count first ⌝ }
+fn changed(n: u32, d: u32, passed: u32, count: u32, first: u32) -> Numbers
+    requires { ⌜ (1 ≤ n) × (1 ≤ first) ⌝ }
+    ensures { λ r. ⌜ r ≡ numbersOf n d passed count first ⌝ }
 {
-    let below = low(n, f, d, first);
+    let below = low(passed, first);
     let good = (first - 1) / n * n;
     Numbers {
         listed: count,
@@ -162,10 +187,10 @@ fn narrow(x: usize) -> u32
 }
 
 // A table that some set gives: its listed days to the front of the list, and the numbers.
-fn read_table(scheme: u32, n: u32, f: u32, d: u32, t: &[u8], list: &mut [u32]) -> Reading
-    requires { ⌜ Given scheme n f d (now t) (length (now list)) ⌝ }
+fn read_table(scheme: u32, n: u32, d: u32, passed: u32, t: &[u8], list: &mut [u32]) -> Reading
+    requires { ⌜ Given scheme n d (now t) (length (now list)) ⌝ }
     ensures { λ r. ⌜ reportOf d r ≡
-        found n f d (listing (chains scheme n d) d (now (t .entry))) (lastGood scheme n d (now (t .entry))) ⌝ }
+        found d passed (listing (chains scheme n d) d (now (t .entry))) (lastGood scheme n d (now (t .entry))) ⌝ }
     ensures { λ r. ⌜ now (list .exit) ≡ listing (chains scheme n d) d (now (t .entry)) ++
         drop (length (listing (chains scheme n d) d (now (t .entry)))) (now (list .entry)) ⌝ }
 {
@@ -174,19 +199,28 @@ fn read_table(scheme: u32, n: u32, f: u32, d: u32, t: &[u8], list: &mut [u32]) -
         return Reading::Clean;
     }
     let first = list[0];
-    Reading::Changed(changed(n, f, d, narrow(k), first))
+    Reading::Changed(changed(n, d, passed, narrow(k), first))
 }
 
-// Reads the outcomes needed, in book order: writes the listed days to the front of the list and gives the numbers, or
-// refuses and writes nothing.
-pub fn read(scheme: u32, n: u32, f: u32, d: u32, outcomes: &[u8], list: &mut [u32]) -> Reading
-    ensures { λ r. ⌜ reportOf d r ≡ readout scheme n f d (now (outcomes .entry)) (now (list .entry)) .report ⌝ }
-    ensures { λ r. ⌜ now (list .exit) ≡ readout scheme n f d (now (outcomes .entry)) (now (list .entry)) .list ⌝ }
+// Reads the outcomes needed, in book order, P being the last day at which a check passed: writes the listed days to the
+// front of the list and gives the numbers, or refuses and writes nothing.
+pub fn read(
+    scheme: u32,
+    n: u32,
+    f: u32,
+    d: u32,
+    passed: u32,
+    outcomes: &[u8],
+    list: &mut [u32],
+) -> Reading
+    ensures { λ r. ⌜ reportOf d r ≡ readout scheme n f d passed (now (outcomes .entry)) (now (list .entry)) .report ⌝ }
+    ensures { λ r. ⌜ now (list .exit) ≡
+        readout scheme n f d passed (now (outcomes .entry)) (now (list .entry)) .list ⌝ }
 {
-    let r = refusal(scheme, n, f, d, outcomes, list.len());
+    let r = refusal(scheme, n, f, d, passed, outcomes, list.len());
     if r != 0 {
         return Reading::Refused(r);
     }
     let values = buffers::wide(layouts::values_through(scheme, n, d));
-    read_table(scheme, n, f, d, &outcomes[..values], list)
+    read_table(scheme, n, d, passed, &outcomes[..values], list)
 }

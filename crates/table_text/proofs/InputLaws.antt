@@ -1,6 +1,6 @@
 -- Laws of the two lines: where they end, their numbers, their outcomes.
 use mathlib.Core.Path.{_≡_, refl, sym, ap, ap₂, _∙_}
-use mathlib.Core.Bool.{Bool, false, _&&_, and-true, and-false}
+use mathlib.Core.Bool.{Bool, true, false, _&&_, and-true, and-false, cond}
 use mathlib.Core.List.{List, [], _∷_, _++_, map, append-assoc, map-append}
 use Prim.Native.Nat.{ℕ, suc, _+_, _-_, _≤_, _<_}
 use native.Mathlib.{Numerals.add-one, Omega.arith}
@@ -10,7 +10,7 @@ use Rattle.lists.specs.Lists.{same}
 use Rattle.number_text.specs.Numbers.{digitOf, digits, afterDigits, isField, valueIn, afterField}
 use Rattle.number_text.specs.{Private.FieldAt, declared.Field.Field}
 use Rattle.number_text.proofs.FieldLaws.{digits-part, digits-within}
-use Rattle.table_text.specs.{Text.isFormed, Text.lastLine, Private.TypedIs}
+use Rattle.table_text.specs.{Text.isFormed, Text.fromD, Text.fromPassed, Text.hasPassed, Text.lastField, Text.lastLine, Private.TypedIs}
 
 -- ---- the end
 
@@ -27,30 +27,43 @@ end-one s at h = sym (rw (drop-cons s at 0 (omega arith), drop-of-length-le s {i
 
 -- ---- the two lines
 
-pub typed-is : (s : List ℕ) {a b c e : Field} {end : ℕ} {last ok : Bool} → FieldAt s 0 44 a → FieldAt s (a .next) 44 b → FieldAt s (b .next) 44 c → FieldAt s (c .next) 10 e →
-    end ≡ e .next + length (digits (drop (e .next) s)) → last ≡ same (drop end s) (10 ∷ []) → ok ≡ a .ok && (b .ok && (c .ok && (e .ok && last))) →
-    TypedIs s (record { ok = ok; scheme = a .value; n = b .value; f = c .value; d = e .value; at = e .next; end = end })
-unfolding isFormed afterDigits
-typed-is s {a} {b} {c} {e} {end} {last} A B C E h l t =
+drop-cond : (b : Bool) (i j : ℕ) (s : List ℕ) → drop (cond b i j) s ≡ cond b (drop i s) (drop j s)
+drop-cond true i j s = refl
+drop-cond false i j s = refl
+
+pub last-within : (s : List ℕ) (b : Bool) (i j : ℕ) {at : ℕ} → i ≤ length s → j ≤ length s → at ≡ cond b i j → at ≤ length s
+last-within s true i j k l h = rw h k
+last-within s false i j k l h = rw h l
+
+pub typed-is : (s : List ℕ) {a b c e l : Field} {at end : ℕ} {last ok : Bool} → FieldAt s 0 44 a → FieldAt s (a .next) 44 b → FieldAt s (b .next) 44 c → FieldAt s (c .next) 44 e →
+    at ≡ cond (e .ok) (e .next) (c .next) → FieldAt s at 10 l → end ≡ l .next + length (digits (drop (l .next) s)) → last ≡ same (drop end s) (10 ∷ []) →
+    ok ≡ a .ok && (b .ok && (c .ok && (l .ok && last))) →
+    TypedIs s (record { ok = ok; scheme = a .value; n = b .value; f = c .value; d = e .value; «has_passed» = e .ok; last = l .value; at = l .next; end = end })
+unfolding isFormed hasPassed afterDigits
+typed-is s {a} {b} {c} {e} {l} {at} {end} {last} A B C E g L h k t =
     let u : drop (b .next) s ≡ afterField (afterField s) = B .rest-is ∙ ap afterField (A .rest-is) in
-    let v : drop (c .next) s ≡ afterField (afterField (afterField s)) = C .rest-is ∙ ap afterField u in
-    let w : drop (e .next) s ≡ lastLine s = E .rest-is ∙ ap afterField v in
+    let v : drop (c .next) s ≡ fromD s = C .rest-is ∙ ap afterField u in
+    let five : e .ok ≡ hasPassed s = E .ok-is ∙ ap (isField 44) v in
+    let x : drop at s ≡ lastField s = ap (λ (i : ℕ). drop i s) g ∙ drop-cond (e .ok) (e .next) (c .next) s ∙ rw (five, E .rest-is, v) in
+    let w : drop (l .next) s ≡ lastLine s = L .rest-is ∙ ap afterField x in
     let y : drop end s ≡ drop (length (digits (lastLine s))) (lastLine s) =
-    ap (λ (i : ℕ). drop i s) h ∙ sym (drop-drop (length (digits (drop (e .next) s))) (e .next) s) ∙ ap (λ (i : List ℕ). drop (length (digits i)) i) w in
-    let k = digits-within s (e .next) end (E .within) h in
+    ap (λ (i : ℕ). drop i s) h ∙ sym (drop-drop (length (digits (drop (l .next) s))) (l .next) s) ∙ ap (λ (i : List ℕ). drop (length (digits i)) i) w in
+    let z = digits-within s (l .next) end (L .within) h in
     record {
       ok-is =
           t ∙
           ap₂ _&&_ (A .ok-is)
           (ap₂ _&&_ (B .ok-is ∙ ap (isField 44) (A .rest-is))
-          (ap₂ _&&_ (C .ok-is ∙ ap (isField 44) u) (ap₂ _&&_ (E .ok-is ∙ ap (isField 10) v) (l ∙ ap (λ (i : List ℕ). same i (10 ∷ [])) y))));
+          (ap₂ _&&_ (C .ok-is ∙ ap (isField 44) u) (ap₂ _&&_ (L .ok-is ∙ ap (isField 10) x) (k ∙ ap (λ (i : List ℕ). same i (10 ∷ [])) y))));
       scheme-is = A .value-is;
       n-is = B .value-is ∙ ap valueIn (A .rest-is);
       f-is = C .value-is ∙ ap valueIn u;
       d-is = E .value-is ∙ ap valueIn v;
-      outcomes-are = digits-part s (e .next) end h ∙ ap digits w;
-      ordered = k .0;
-      within = k .1;
+      has-passed-is = five;
+      last-is = L .value-is ∙ ap valueIn x;
+      outcomes-are = digits-part s (l .next) end h ∙ ap digits w;
+      ordered = z .0;
+      within = z .1;
     }
 
 -- ---- the outcomes

@@ -1,18 +1,18 @@
 -- The text that readtable takes, its tests, and the text that it prints. Definitions only.
-use mathlib.Core.Bool.{Bool, _&&_}
+use mathlib.Core.Bool.{Bool, _&&_, cond}
 use mathlib.Core.List.{List, [], _∷_, _++_, map}
 use Prim.Native.Nat.{ℕ}
 use lib.Dec.{leb}
 use lib.ListN.{length}
 use Rattle.lists.specs.Lists.{same}
 use Rattle.refusals.specs.Refusals.{Test, _orRefuse_, firstRefusal, unlessRefused}
-use Rattle.layouts.specs.Layouts.{layoutTests, chains}
-use Rattle.reading.specs.Numbers.{lastGood}
-use Rattle.reading.specs.Contract.{Report, tableIn, outcomeTests, listedIn, found}
+use Rattle.layouts.specs.Layouts.{chains}
+use Rattle.reading.specs.Numbers.{validationBefore, lastGood}
+use Rattle.reading.specs.Contract.{Report, tableIn, passedTests, outcomeTests, listedIn, found}
 use Rattle.number_text.specs.Numbers.{comma, lineFeed, digitOf, digits, afterDigits, isField, valueIn, afterField}
 use Rattle.number_text.specs.Numbers.{commaNumbers}
 
--- ---- the two lines (SPEC 12.1): `scheme,N,F,D`, and the outcomes
+-- ---- the two lines (SPEC 12.1, 19.5): `scheme,N,F,D` or `scheme,N,F,D,P`, and the outcomes
 
 abbrev pub fromN : List ℕ → List ℕ
 fromN s = afterField s
@@ -23,13 +23,24 @@ fromF s = afterField (fromN s)
 abbrev pub fromD : List ℕ → List ℕ
 fromD s = afterField (fromF s)
 
-abbrev pub lastLine : List ℕ → List ℕ
-lastLine s = afterField (fromD s)
+abbrev pub fromPassed : List ℕ → List ℕ
+fromPassed s = afterField (fromD s)
 
--- two lines, each ended by a line feed, nothing after; the first has four fields, the second digits only
+-- D is followed by 02's P, a fifth field
+unfoldable pub hasPassed : List ℕ → Bool
+hasPassed s = isField comma (fromD s)
+
+-- the last field of the first line, P or D
+abbrev pub lastField : List ℕ → List ℕ
+lastField s = cond (hasPassed s) (fromPassed s) (fromD s)
+
+abbrev pub lastLine : List ℕ → List ℕ
+lastLine s = afterField (lastField s)
+
+-- two lines, each ended by a line feed, nothing after; the first has four or five fields, the second digits only
 unfoldable pub isFormed : List ℕ → Bool
 isFormed s =
-    isField comma s && (isField comma (fromN s) && (isField comma (fromF s) && (isField lineFeed (fromD s) &&
+    isField comma s && (isField comma (fromN s) && (isField comma (fromF s) && (isField lineFeed (lastField s) &&
     same (afterDigits (lastLine s)) (lineFeed ∷ []))))
 
 abbrev pub schemeIn : List ℕ → ℕ
@@ -44,6 +55,10 @@ fIn s = valueIn (fromF s)
 abbrev pub dIn : List ℕ → ℕ
 dIn s = valueIn (fromD s)
 
+-- 02's P (SPEC 19.5): the fifth field, or D − F·N for a line of four
+abbrev pub passedIn : List ℕ → ℕ
+passedIn s = cond (hasPassed s) (valueIn (fromPassed s)) (validationBefore (nIn s) (fIn s) (dIn s))
+
 unfoldable pub outcomesIn : List ℕ → List ℕ
 outcomesIn s = map digitOf (digits (lastLine s))
 
@@ -53,19 +68,21 @@ outcomesIn s = map digitOf (digits (lastLine s))
 abbrev pub formTests : Bool → ℕ → ℕ → List Test
 formTests formed size d = (formed && (leb size 1024 && leb d 256)) orRefuse 15 ∷ []
 
--- then 1 2 3 7, and 15 for extra digits, of count digits
-abbrev pub digitTests : ℕ → ℕ → ℕ → ℕ → ℕ → List Test
-digitTests scheme n f d count =
-    layoutTests scheme n f d ++ (leb count (length (chains scheme n d)) orRefuse 15 ∷ [])
+-- then 1 2 3 7 19, and 15 for extra digits, of count digits
+abbrev pub digitTests : ℕ → ℕ → ℕ → ℕ → ℕ → ℕ → List Test
+digitTests scheme n f d passed count =
+    passedTests scheme n f d passed ++ (leb count (length (chains scheme n d)) orRefuse 15 ∷ [])
 
 -- then 12 13 14
-abbrev pub answerTests : ℕ → ℕ → ℕ → ℕ → List ℕ → List Test
-answerTests scheme n f d outcomes = digitTests scheme n f d (length outcomes) ++ outcomeTests scheme n d outcomes
+abbrev pub answerTests : ℕ → ℕ → ℕ → ℕ → ℕ → List ℕ → List Test
+answerTests scheme n f d passed outcomes =
+    digitTests scheme n f d passed (length outcomes) ++ outcomeTests scheme n d outcomes
 
 -- 01's tests of the program (SPEC 11.6)
 abbrev pub textTests : List ℕ → List Test
 textTests s =
-    formTests (isFormed s) (length s) (dIn s) ++ answerTests (schemeIn s) (nIn s) (fIn s) (dIn s) (outcomesIn s)
+    formTests (isFormed s) (length s) (dIn s) ++
+    answerTests (schemeIn s) (nIn s) (fIn s) (dIn s) (passedIn s) (outcomesIn s)
 
 unfoldable pub textRefusal : List ℕ → ℕ
 textRefusal s = firstRefusal (textTests s)
@@ -93,13 +110,13 @@ dayLines (g ∷ gs) = line (68 ∷ 65 ∷ 89 ∷ []) (g ∷ []) ++ dayLines gs
 
 -- what was found in a table, and the days listed
 unfoldable pub tableLines : ℕ → ℕ → ℕ → ℕ → List ℕ → List ℕ
-tableLines scheme n f d outcomes =
+tableLines scheme n d passed outcomes =
     let days = listedIn scheme n d outcomes in
-    refLine scheme (found n f d days (lastGood scheme n d (tableIn scheme n d outcomes))) ++ dayLines days
+    refLine scheme (found d passed days (lastGood scheme n d (tableIn scheme n d outcomes))) ++ dayLines days
 
 -- the refusal alone, or these lines
 abbrev pub printed : ℕ → List ℕ → List ℕ
 printed refusal lines = unlessRefused refusal lines (noLine refusal)
 
 unfoldable pub textOf : List ℕ → List ℕ
-textOf s = printed (textRefusal s) (tableLines (schemeIn s) (nIn s) (fIn s) (dIn s) (outcomesIn s))
+textOf s = printed (textRefusal s) (tableLines (schemeIn s) (nIn s) (dIn s) (passedIn s) (outcomesIn s))

@@ -1,7 +1,7 @@
-// The two lines: four fields, and the outcomes.
+// The two lines: four or five fields, and the outcomes.
 use crate::Typed;
 ghost use mathlib.Core.Path.{_≡_};
-ghost use mathlib.Core.Bool.{_&&_};
+ghost use mathlib.Core.Bool.{_&&_, cond};
 ghost use mathlib.Core.List.{_∷_, [], _++_, map};
 ghost use Prim.Native.Nat.{_≤_};
 ghost use lib.ListN.{length, drop};
@@ -20,8 +20,8 @@ fn is_end(s: &[u8], at: usize) -> bool
     s[at] == b'\n'
 }
 
-fn all(scheme: bool, n: bool, f: bool, d: bool, outcomes: bool) -> bool
-    ensures { λ r. ⌜ r ≡ scheme && (n && (f && (d && outcomes))) ⌝ }
+fn all(scheme: bool, n: bool, f: bool, last: bool, outcomes: bool) -> bool
+    ensures { λ r. ⌜ r ≡ scheme && (n && (f && (last && outcomes))) ⌝ }
 {
     if !scheme {
         return false;
@@ -32,10 +32,20 @@ fn all(scheme: bool, n: bool, f: bool, d: bool, outcomes: bool) -> bool
     if !f {
         return false;
     }
-    if !d {
+    if !last {
         return false;
     }
     outcomes
+}
+
+// Where the last field of the first line begins: P's where there is one, else D's.
+fn last_field(five: bool, d: usize, passed: usize) -> usize
+    ensures { λ r. ⌜ r ≡ cond five passed d ⌝ }
+{
+    if five {
+        return passed;
+    }
+    d
 }
 
 // The whole text.
@@ -45,16 +55,19 @@ pub fn read_lines(s: &[u8]) -> Typed
     let a = number_text::read_field(s, 0, b',');
     let b = number_text::read_field(s, a.next, b',');
     let c = number_text::read_field(s, b.next, b',');
-    let e = number_text::read_field(s, c.next, b'\n');
-    let end = number_text::digits_end(s, e.next);
-    let ok = all(a.ok, b.ok, c.ok, e.ok, is_end(s, end));
+    let e = number_text::read_field(s, c.next, b',');
+    let l = number_text::read_field(s, last_field(e.ok, c.next, e.next), b'\n');
+    let end = number_text::digits_end(s, l.next);
+    let ok = all(a.ok, b.ok, c.ok, l.ok, is_end(s, end));
     Typed {
         ok: ok,
         scheme: a.value,
         n: b.value,
         f: c.value,
         d: e.value,
-        at: e.next,
+        has_passed: e.ok,
+        last: l.value,
+        at: l.next,
         end: end,
     }
 }

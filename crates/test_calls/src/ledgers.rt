@@ -76,12 +76,12 @@ fn check(ledger: &[u8], ends: &[u32], book: &[u8], outcomes: &mut [u8]) {
     lines::end();
 }
 
-fn read(outcomes: &[u8]) {
+fn read(passed: u32, outcomes: &[u8]) {
     let mut list = [99u32; 30];
     let mut numbers = [98u32; 5];
     lines::head(
         b"read",
-        daybook_c::daybook_read(2, 8, 3, 24, outcomes, &mut list, &mut numbers),
+        daybook_c::daybook_read(2, 8, 3, 24, passed, outcomes, &mut list, &mut numbers),
     );
     lines::numbers(&[numbers[0], numbers[1], numbers[2], numbers[3], numbers[4]]);
     lines::numbers(&list);
@@ -95,7 +95,9 @@ fn seal_check_read(ledger: &mut [u8], ends: &[u32]) {
     seal(ledger, ends, &mut book);
     lent::flip(ledger, days::start(ends, 10));
     check(ledger, ends, &book, &mut outcomes);
-    read(&outcomes);
+    read(0, &outcomes);
+    read(16, &outcomes);
+    read(12, &outcomes);
 }
 
 pub fn run() {

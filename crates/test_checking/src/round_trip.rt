@@ -49,7 +49,8 @@ fn print_answer(scheme: u32, d: u32, answer: Reading, list: &[u32]) {
 
 fn read(s: Setup, outcomes: &[u8]) {
     let mut list = [0u32; 1000];
-    let answer = reading::read(s.scheme, s.n, s.f, s.d, outcomes, &mut list);
+    let passed = s.d - s.f * s.n;
+    let answer = reading::read(s.scheme, s.n, s.f, s.d, passed, outcomes, &mut list);
     print_answer(s.scheme, s.d, answer, &list);
 }
 

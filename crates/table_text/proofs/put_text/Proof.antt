@@ -21,4 +21,4 @@ put-text-spec = tie.close (tie.spec (λ c κs. search needs) (λ c κs. search n
     (d-within (d .args .input .now) (b .before .before .read-lines .ensures) (b .before .form-refusal .ensures) (b .if1 .left), d .pre))
     (λ c. search needs)
     (λ c. let o = c .before .before .before .before .before .before in let b = o .before .before .before in
-    wrote-as _ (text-read _ (b .before .before .read-lines .ensures) (b .before .form-refusal .ensures) (b .if1 .left) _ _ (o .outcomes .ensures)) (c .before .before .answer .ensures)))
+    wrote-as _ (text-read _ (b .before .before .read-lines .ensures) (b .before .form-refusal .ensures) (b .if1 .left) _ _ (o .outcomes .ensures)) (c .before .before .answer-line .ensures)))

@@ -9,6 +9,6 @@ all-spec = tie.close (tie.spec (λ c. rw (not-true (c .before .args .scheme) (c 
     (λ c. let a = c .before .before .before .args in
     rw (not-false (a .scheme) (c .before .before .if1 .left), not-false (a .n) (c .before .if2 .left), not-true (a .f) (c .if3 .taken)))
     (λ c. let b = c .before .before in let a = b .before .before .args in
-    rw (not-false (a .scheme) (b .before .if1 .left), not-false (a .n) (b .if2 .left), not-false (a .f) (c .before .if3 .left), not-true (a .d) (c .if4 .taken)))
+    rw (not-false (a .scheme) (b .before .if1 .left), not-false (a .n) (b .if2 .left), not-false (a .f) (c .before .if3 .left), not-true (a .last) (c .if4 .taken)))
     (λ c. let b = c .before .before in let a = b .before .before .args in
-    rw (not-false (a .scheme) (b .before .if1 .left), not-false (a .n) (b .if2 .left), not-false (a .f) (c .before .if3 .left), not-false (a .d) (c .if4 .left))))
+    rw (not-false (a .scheme) (b .before .if1 .left), not-false (a .n) (b .if2 .left), not-false (a .f) (c .before .if3 .left), not-false (a .last) (c .if4 .left))))
