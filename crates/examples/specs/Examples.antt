@@ -37,9 +37,16 @@ pub record ReadsBy (scheme n d passed : ℕ) (S list : List ℕ) (low good : ℕ
 abbrev pub Reads : ℕ → ℕ → ℕ → ℕ → List ℕ → List ℕ → ℕ → ℕ → Type 0
 Reads scheme n f d S list low good = ReadsBy scheme n d (validationBefore n f d) S list low good
 
--- in the order of SPEC 13.1 to 13.11; the first is 001's figure
+-- 001's figure: the days changed, and those listed
+abbrev pub figureChanged : List ℕ
+figureChanged = 19 ∷ 20 ∷ 27 ∷ []
+
+abbrev pub figureListed : List ℕ
+figureListed = 19 ∷ 20 ∷ 23 ∷ 24 ∷ 27 ∷ 28 ∷ 31 ∷ 32 ∷ []
+
+-- in the order of SPEC 13.1 to 13.11
 pub record Examples : Type 0 where
-  pub figure : Reads 2 16 2 64 (19 ∷ 20 ∷ 27 ∷ []) (19 ∷ 20 ∷ 23 ∷ 24 ∷ 27 ∷ 28 ∷ 31 ∷ 32 ∷ []) 32 16
+  pub figure : Reads 2 16 2 64 figureChanged figureListed 32 16
   pub tree-16 : Counts 3 2 16 35
   pub tree-14 : Counts 3 2 14 29
   pub tree-3 : Counts 3 1 3 5
@@ -60,6 +67,6 @@ pub record LastGoods : Type 0 where
 -- 02's skipped validations (SPEC 19.7): 001's figure, if the last check was at day 16, if there was none, and if there
 -- was one at day 48, which is no multiple of F·N
 pub record Skipped : Type 0 where
-  pub one-skipped : ReadsBy 2 16 64 16 (19 ∷ 20 ∷ 27 ∷ []) (19 ∷ 20 ∷ 23 ∷ 24 ∷ 27 ∷ 28 ∷ 31 ∷ 32 ∷ []) 18 16
-  pub all-skipped : ReadsBy 2 16 64 0 (19 ∷ 20 ∷ 27 ∷ []) (19 ∷ 20 ∷ 23 ∷ 24 ∷ 27 ∷ 28 ∷ 31 ∷ 32 ∷ []) 18 16
-  pub one-between : ReadsBy 2 16 64 48 (19 ∷ 20 ∷ 27 ∷ []) (19 ∷ 20 ∷ 23 ∷ 24 ∷ 27 ∷ 28 ∷ 31 ∷ 32 ∷ []) 48 16
+  pub one-skipped : ReadsBy 2 16 64 16 figureChanged figureListed 18 16
+  pub all-skipped : ReadsBy 2 16 64 0 figureChanged figureListed 18 16
+  pub one-between : ReadsBy 2 16 64 48 figureChanged figureListed 48 16

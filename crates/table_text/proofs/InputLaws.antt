@@ -38,7 +38,7 @@ last-within s false i j k l h = rw h l
 pub typed-is : (s : List ℕ) {a b c e l : Field} {at end : ℕ} {last ok : Bool} → FieldAt s 0 44 a → FieldAt s (a .next) 44 b → FieldAt s (b .next) 44 c → FieldAt s (c .next) 44 e →
     at ≡ cond (e .ok) (e .next) (c .next) → FieldAt s at 10 l → end ≡ l .next + length (digits (drop (l .next) s)) → last ≡ same (drop end s) (10 ∷ []) →
     ok ≡ a .ok && (b .ok && (c .ok && (l .ok && last))) →
-    TypedIs s (record { ok = ok; scheme = a .value; n = b .value; f = c .value; d = e .value; «has_passed» = e .ok; last = l .value; at = l .next; end = end })
+    TypedIs s (record { ok = ok; scheme = a .value; n = b .value; f = c .value; d = e .value; five = e .ok; last = l .value; at = l .next; end = end })
 unfolding isFormed hasPassed afterDigits
 typed-is s {a} {b} {c} {e} {l} {at} {end} {last} A B C E g L h k t =
     let u : drop (b .next) s ≡ afterField (afterField s) = B .rest-is ∙ ap afterField (A .rest-is) in
@@ -59,7 +59,7 @@ typed-is s {a} {b} {c} {e} {l} {at} {end} {last} A B C E g L h k t =
       n-is = B .value-is ∙ ap valueIn (A .rest-is);
       f-is = C .value-is ∙ ap valueIn u;
       d-is = E .value-is ∙ ap valueIn v;
-      has-passed-is = five;
+      five-is = five;
       last-is = L .value-is ∙ ap valueIn x;
       outcomes-are = digits-part s (l .next) end h ∙ ap digits w;
       ordered = z .0;

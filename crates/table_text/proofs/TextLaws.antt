@@ -162,9 +162,9 @@ module _ (s : List ℕ) {t : Typed} {x : ℕ} (T : TypedIs s t) (e : x ≡ first
   rest = answerTests (schemeIn s) (nIn s) (fIn s) (dIn s) (passedIn s) (outcomesIn s)
 
   -- P by the last number of the first line
-  passed-by-last : passedBy (t .n) (t .f) (t .d) (t .«has_passed») (t .last) ≡ passedIn s
+  passed-by-last : passedBy (t .n) (t .f) (t .d) (t .five) (t .last) ≡ passedIn s
   passed-by-last =
-      rw (T .n-is, T .f-is, T .d-is, T .has-passed-is, T .last-is)
+      rw (T .n-is, T .f-is, T .d-is, T .five-is, T .last-is)
       (last-is-passed (hasPassed s) (valueIn (fromPassed s)) (fromPassed s) (fromD s) (validationBefore (nIn s) (fIn s) (dIn s)) refl)
 
   pub text-early : (x ≡ 0 → ⊥) → textOf s ≡ noLine x

@@ -20,7 +20,7 @@ pub record TypedIs (s : List ℕ) (r : Typed) : Type 0 where
   pub n-is : r .n ≡ nIn s
   pub f-is : r .f ≡ fIn s
   pub d-is : r .d ≡ dIn s
-  pub has-passed-is : r .«has_passed» ≡ hasPassed s
+  pub five-is : r .five ≡ hasPassed s
   pub last-is : r .last ≡ valueIn (lastField s)
   pub outcomes-are : take (r .end - r .at) (drop (r .at) s) ≡ digits (lastLine s)
   pub ordered : r .at ≤ r .end
@@ -51,4 +51,4 @@ answered scheme n f d passed outcomes =
 -- by its first line
 abbrev pub answeredLine : Typed → List ℕ → List ℕ
 answeredLine t outcomes =
-    answered (t .scheme) (t .n) (t .f) (t .d) (passedBy (t .n) (t .f) (t .d) (t .«has_passed») (t .last)) outcomes
+    answered (t .scheme) (t .n) (t .f) (t .d) (passedBy (t .n) (t .f) (t .d) (t .five) (t .last)) outcomes

@@ -65,7 +65,7 @@ pub fn read_lines(s: &[u8]) -> Typed
         n: b.value,
         f: c.value,
         d: e.value,
-        has_passed: e.ok,
+        five: e.ok,
         last: l.value,
         at: l.next,
         end: end,

@@ -13,15 +13,15 @@ ghost use Rattle.reading.specs.Contract.{reportOf};
 ghost use Rattle.table_text.specs.Text.{formTests, digitTests, textOf};
 ghost use Rattle.table_text.specs.Private.{ReportIs, passedBy, answered, answeredLine};
 
-// A text: whether it is as laid out, the numbers of its first line (whether it has P, and its last number, which is P
-// or else D), and where its outcomes stand.
+// A text: whether it is as laid out, the numbers of its first line, whether that has five fields, the number of its last
+// field (P of five, D of four), and where its outcomes stand.
 struct Typed {
     ok: bool,
     scheme: u32,
     n: u32,
     f: u32,
     d: u32,
-    has_passed: bool,
+    five: bool,
     last: u32,
     at: usize,
     end: usize,
@@ -115,7 +115,7 @@ fn answer(
     lines::put_report(out, scheme, report, &list[..k])
 }
 
-// P: the last number of five, or the validation before.
+// P: the last of five fields, or the validation before.
 fn passed_by(n: u32, f: u32, d: u32, five: bool, last: u32) -> u32
     requires { ⌜ f * n ≤ d ⌝ }
     ensures { λ r. ⌜ r ≡ passedBy n f d five last ⌝ }
@@ -135,7 +135,7 @@ fn answer_line(t: Typed, outcomes: &[u8], out: &mut [u8]) -> usize
     if x != 0 {
         return lines::refuse(out, x);
     }
-    let passed = passed_by(t.n, t.f, t.d, t.has_passed, t.last);
+    let passed = passed_by(t.n, t.f, t.d, t.five, t.last);
     answer(t.scheme, t.n, t.f, t.d, passed, outcomes, out)
 }
 
