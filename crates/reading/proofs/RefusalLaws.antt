@@ -3,7 +3,7 @@ use mathlib.Core.{Path._≡_, Path.refl, Path.sym, Path._∙_, List.List, List.[
 use mathlib.Core.Bool.{Bool, true, false, not, _&&_, _||_, cond}
 use Prim.Native.Nat.{ℕ, _-_, _*_, _≤_, _<_}
 use native.Mathlib.Omega.{arith}
-use lib.{Dec.eqb, ListN.length, ListN.take, Seq.length-take-le}
+use lib.{Dec.eqb, ListN.length, ListN.take, ListN.drop, Seq.length-take-le}
 use borrow.Author.Tests.{le-leb, lt-leb, leb-true}
 use Rattle.evidence.specs.Evidence.{meets, tableOf, Gives, accepted}
 use Rattle.evidence.proofs.TableLaws.{given-iff-accepted}
@@ -71,7 +71,7 @@ layout-facts s n f d e z =
 module _ (s n f d p : ℕ) where
   pub layout-refused : {r : ℕ} → r ≡ layoutRefusal s n f d → (r ≡ 0 → ⊥) → r ≡ passedRefusal s n f d p
   unfolding passedRefusal layoutRefusal
-  layout-refused e h = refused-before (layoutTests s n f d) (allowedPassed n d p orRefuse 19 ∷ []) e h
+  layout-refused e h = refused-before (layoutTests s n f d) (drop 4 (passedTests s n f d p)) e h
 
   module _ {r : ℕ} (e : r ≡ layoutRefusal s n f d) (z : r ≡ 0) where
     pub passed-19 : {b : Bool} → b ≡ allowedPassed n d p → not b ≡ true → 19 ≡ passedRefusal s n f d p
