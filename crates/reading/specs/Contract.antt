@@ -72,7 +72,7 @@ outcomeTests scheme n d outcomes =
 abbrev pub tableTests : ℕ → ℕ → ℕ → List ℕ → ℕ → List Test
 tableTests scheme n d outcomes places = leb d places orRefuse 8 ∷ outcomeTests scheme n d outcomes
 
--- 02's P (SPEC 19.1): a day below D, or 0, that N divides
+-- the P that 02 allows (SPEC 19.3): below D, and N divides it
 abbrev pub allowedPassed : ℕ → ℕ → ℕ → Bool
 allowedPassed n d passed = ltb passed d && divides n passed
 

@@ -47,55 +47,54 @@ fn print_answer(scheme: u32, d: u32, answer: Reading, list: &[u32]) {
     }
 }
 
-fn read(s: Setup, outcomes: &[u8]) {
+fn read(s: Setup, passed: u32, outcomes: &[u8]) {
     let mut list = [0u32; 1000];
-    let passed = s.d - s.f * s.n;
     let answer = reading::read(s.scheme, s.n, s.f, s.d, passed, outcomes, &mut list);
     print_answer(s.scheme, s.d, answer, &list);
 }
 
-fn check(s: Setup, ledger: &[u8], ends: &[u32], book: &[u8]) {
+fn check(s: Setup, passed: u32, ledger: &[u8], ends: &[u32], book: &[u8]) {
     let mut outcomes = [9u8; 2112];
     print::number(calls::check_days(s, ledger, ends, book, &mut outcomes));
     print::byte(b' ');
-    read(s, &outcomes);
+    read(s, passed, &outcomes);
 }
 
-// Seals, alters the days, checks and reads.
-fn seal_and_check(s: Setup, changed: &[u32], ledger: &mut [u8], ends: &[u32]) {
+// Seals, alters the days, checks and reads, with the validation before as P.
+fn seal_and_check(s: Setup, passed: u32, changed: &[u32], ledger: &mut [u8], ends: &[u32]) {
     let mut book = [0u8; 67584];
     print::number(calls::seal(s, ledger, ends, &mut book));
     alter(ledger, ends, changed);
-    check(s, ledger, ends, &book);
+    check(s, passed, ledger, ends, &book);
 }
 
-fn trip(s: Setup, changed: &[u32]) {
+fn trip(s: Setup, passed: u32, changed: &[u32]) {
     let mut ledger = [0u8; 66000];
     let mut ends = [0u32; 1000];
     days::put_all(&mut ledger, &mut ends);
-    seal_and_check(s, changed, &mut ledger, &ends);
+    seal_and_check(s, passed, changed, &mut ledger, &ends);
 }
 
 // A thousand days: none altered, one, and three.
-fn thousand(scheme: u32, f: u32) {
+fn thousand(scheme: u32, f: u32, passed: u32) {
     let s = Setup::new(scheme, 8, f, 1000);
     let none = [0u32; 0];
-    trip(s, &none);
+    trip(s, passed, &none);
     let one = [500u32];
-    trip(s, &one);
+    trip(s, passed, &one);
     let three = [3u32, 777u32, 1000u32];
-    trip(s, &three);
+    trip(s, passed, &three);
 }
 
 pub fn run() {
     let tile = [19u32, 20u32, 27u32];
-    trip(Setup::new(2, 16, 2, 64), &tile);
+    trip(Setup::new(2, 16, 2, 64), 32, &tile);
     let tree = [4u32, 7u32, 10u32];
-    trip(Setup::new(3, 2, 1, 16), &tree);
-    trip(Setup::new(3, 2, 1, 14), &tree);
+    trip(Setup::new(3, 2, 1, 16), 14, &tree);
+    trip(Setup::new(3, 2, 1, 14), 12, &tree);
     let black = [16u32];
-    trip(Setup::new(1, 2, 3, 24), &black);
-    thousand(1, 25);
-    thousand(2, 25);
-    thousand(3, 1);
+    trip(Setup::new(1, 2, 3, 24), 18, &black);
+    thousand(1, 25, 800);
+    thousand(2, 25, 800);
+    thousand(3, 1, 992);
 }
