@@ -1,7 +1,7 @@
 -- The refusal by the tests, and what no refusal leaves.
 use mathlib.Core.{Path._≡_, Path.refl, Path.sym, Path._∙_, List.List, List.[], List._∷_}
 use mathlib.Core.Bool.{Bool, true, false, not, _&&_, _||_, cond}
-use Prim.Native.Nat.{ℕ, _-_, _*_, _≤_, _<_}
+use Prim.Native.Nat.{ℕ, _≤_, _<_}
 use native.Mathlib.Omega.{arith}
 use lib.{Dec.eqb, ListN.length, ListN.take, ListN.drop, Seq.length-take-le}
 use borrow.Author.Tests.{le-leb, lt-leb, leb-true}
@@ -9,9 +9,8 @@ use Rattle.evidence.specs.Evidence.{meets, tableOf, Gives, accepted}
 use Rattle.evidence.proofs.TableLaws.{given-iff-accepted}
 use Rattle.refusals.specs.Refusals.{_orRefuse_, firstRefusal}
 use Rattle.refusals.proofs.TestLaws.{passed, failed, Pass, none-fails, all-pass, pass-split, pass-both, refused-before, refused-after, last-fails, last-passes}
-use Rattle.layouts.specs.Layouts.{divides, layoutTests, layoutRefusal, chains}
+use Rattle.layouts.specs.Layouts.{layoutTests, layoutRefusal, chains}
 use Rattle.layouts.proofs.AllowedLaws.{allowed-n-is, allowed-d-is, divides-factor, layout-is}
-use Rattle.layouts.proofs.Coverage.{divisor-le}
 use Rattle.acceptance.specs.Private.{Table, rules}
 use Rattle.acceptance.proofs.Accepted.{accepted-rules}
 use Rattle.reading.specs.Contract.{tableIn, bits, allowedPassed, passedTests, passedRefusal, tableTests, readTests, readRefusal}

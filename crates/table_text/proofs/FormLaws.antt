@@ -1,5 +1,5 @@
 -- A text is formed exactly if it is laid out as 01 and 02 say, and then its numbers are those of its fields.
-use mathlib.Core.{Path._≡_, Path.refl, Path.sym, Path.ap, Path._∙_, Logic.inl, Logic.inr, Bool.true, Bool.false, Bool._&&_, Bool.cond}
+use mathlib.Core.{Path._≡_, Path.refl, Path.sym, Path.ap, Path._∙_, Logic.inl, Logic.inr, Bool.true, Bool.false, Bool._&&_}
 use mathlib.Core.List.{List, [], _∷_, _++_, map}
 use Prim.Native.Nat.{ℕ}
 use lib.Dec.{eqb}
@@ -8,7 +8,7 @@ use Rattle.lists.proofs.Laws.{split, and-both, same-eq}
 use Rattle.number_text.specs.Numbers.{isDigit, digitOf, digits, afterDigits, numberFrom, Number, isField, valueIn, afterField}
 use Rattle.number_text.proofs.FieldLaws.{digits-before, after-before, laid-field, laid-value, laid-rest, digits-again, digits-split, field-number, field-text}
 use Rattle.reading.specs.Numbers.{validationBefore}
-use Rattle.table_text.specs.Text.{fromN, fromF, fromD, fromPassed, hasPassed, lastField, lastLine, isFormed, schemeIn, nIn, fIn, dIn, passedIn, outcomesIn}
+use Rattle.table_text.specs.Text.{fromN, fromF, fromD, fromPassed, hasPassed, lastField, lastLine, isFormed, nIn, fIn, dIn, passedIn, outcomesIn}
 use Rattle.table_text.specs.Statements.{Laid, LaidWithPassed, ReadAs, LaidIsRead, LaidWithPassedIsRead, FormedIsLaid}
 
 -- ---- the first four fields, the mark m after them, and r after it

@@ -10,7 +10,7 @@ use Rattle.lists.specs.Lists.{same}
 use Rattle.number_text.specs.Numbers.{digitOf, digits, afterDigits, isField, valueIn, afterField}
 use Rattle.number_text.specs.{Private.FieldAt, declared.Field.Field}
 use Rattle.number_text.proofs.FieldLaws.{digits-part, digits-within}
-use Rattle.table_text.specs.{Text.isFormed, Text.fromD, Text.fromPassed, Text.hasPassed, Text.lastField, Text.lastLine, Private.TypedIs}
+use Rattle.table_text.specs.{Text.isFormed, Text.fromD, Text.hasPassed, Text.lastField, Text.lastLine, Private.TypedIs}
 
 -- ---- the end
 
