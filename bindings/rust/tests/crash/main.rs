@@ -158,27 +158,27 @@ fn four_closed(bench: &Bench) -> Tree {
 #[ignore = "run by .ci/crash"]
 fn clean_days() {
     let bench = bench("daybook-clean", PROGRAM);
-    let lines = [
-        "verify --state s --days in",
-        "verify --state s --days in",
-        "verify --state s --days in --d 2",
-        "check --state s --days in --outcomes table",
-    ];
-    let others = [
-        "add s --day 5 --at 0 in/1",
-        "close s --day 5 in/2",
-        "close s --day 4 in/4",
-        "verify --state s --days in --d 4",
-        "verify --state s --days in --d 2",
-    ];
-    let step = |line: &&str| Step::new(line, "status s").or_next(&others).spared();
-    let steps: Vec<Step> = lines.iter().map(step).collect();
     let whole = |tree: &Tree| match tree.get("s/clean") {
         Some(Some(text)) => text.ends_with(b"\n"),
         _ => true,
     };
-    let steps: Vec<Step> = steps.into_iter().map(|step| step.holding(whole)).collect();
-    explore_all(&bench, four_closed(&bench), &steps);
+    let others = [
+        "add s --day 5 --at 0 in/1",
+        "close s --day 5 in/2",
+        "close s --day 4 in/4",
+    ];
+    let step = |line: &str| Step::new(line, "status s").holding(whole).spared();
+    let verify = "verify --state s --days in";
+    let fewer = "verify --state s --days in --d 2";
+    let check = "check --state s --days in --outcomes table";
+    let closed = four_closed(&bench);
+    let steps = [
+        step(verify).or_next(&[&others[..], &[fewer]].concat()),
+        step(verify).or_next(&others),
+        step(fewer).or_next(&others),
+    ];
+    explore_all(&bench, closed.clone(), &steps);
+    explore_all(&bench, closed, &[step(check)]);
 }
 
 /// Outcomes and digests: where both are there, they are of one run.

@@ -36,7 +36,7 @@ pub enum Command {
         outcomes: PathBuf,
         digests: Option<PathBuf>,
         sealed: Vec<String>,
-        kept: Option<Kept>,
+        kept: Option<Box<Kept>>,
     },
     Read {
         layout: Layout,
@@ -47,7 +47,7 @@ pub enum Command {
         days: Option<PathBuf>,
         names: bool,
         sealed: Vec<String>,
-        kept: Option<Kept>,
+        kept: Option<Box<Kept>>,
     },
     Verify {
         layout: Layout,
@@ -60,7 +60,7 @@ pub enum Command {
         /// The names of the closed days in the state folder's index; none without one.
         sealed: Vec<String>,
         /// What the state folder keeps of days that verified clean.
-        kept: Option<Kept>,
+        kept: Option<Box<Kept>>,
     },
     Forecast {
         layout: Layout,
@@ -372,7 +372,7 @@ struct Options {
     /// The names of the days in the state folder's index, where there is a state folder.
     sealed: Option<Vec<String>>,
     /// What it keeps of days that verified clean, where the command asks for it.
-    kept: Option<Kept>,
+    kept: Option<Box<Kept>>,
 }
 
 /// How a state folder is read, D being the one given.

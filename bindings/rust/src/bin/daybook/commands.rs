@@ -61,7 +61,7 @@ pub fn run(command: &Command) -> Result<Done, Stop> {
             test_written(&written, &[book], None)?;
             let mut work = Work::find(*layout, *d, source, Some(book), &written)?;
             work.compare(sealed);
-            check(&work, book, outcomes, digests.as_deref(), kept.as_ref())
+            check(&work, book, outcomes, digests.as_deref(), kept.as_deref())
         }
         Command::Read {
             layout,
@@ -76,7 +76,7 @@ pub fn run(command: &Command) -> Result<Done, Stop> {
             let view = View::of_folder(days.as_deref(), sealed, *names)?;
             let values = values(*layout, *d)
                 .map_err(|refusal| Stop::Refused(refusal, numbers(*layout, *d)))?;
-            let asked = Asked::of(*layout, *d, *passed, kept.as_ref())?;
+            let asked = Asked::of(*layout, *d, *passed, kept.as_deref())?;
             read(&asked, values, outcomes, &view)
         }
         Command::Verify {
@@ -93,7 +93,7 @@ pub fn run(command: &Command) -> Result<Done, Stop> {
             let written = Vec::from_iter(figure.as_deref());
             test_written(&written, &[book], None)?;
             let mut work = Work::find(*layout, *d, source, Some(book), &written)?;
-            let asked = Asked::of(*layout, work.d, *passed, kept.as_ref())?;
+            let asked = Asked::of(*layout, work.d, *passed, kept.as_deref())?;
             work.compare(sealed);
             let view = View {
                 names: work.labels().or_else(|| some(sealed)),

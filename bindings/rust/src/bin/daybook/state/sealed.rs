@@ -19,7 +19,7 @@ pub struct Sealed {
     /// The names of the closed days, as fields.
     pub names: Vec<String>,
     /// What the folder keeps of days that verified clean, where it was asked for.
-    pub kept: Option<Kept>,
+    pub kept: Option<Box<Kept>>,
 }
 
 impl Sealed {
@@ -33,7 +33,7 @@ impl Sealed {
     pub fn with_kept(folder: &Path, d: Option<u32>) -> Result<Sealed, Stop> {
         let state = State::load(folder, Access::Look)?;
         let sealed = Sealed::in_state(&state, folder, d)?;
-        let kept = Some(Kept::of(&state, folder, sealed.d)?);
+        let kept = Some(Box::new(Kept::of(&state, folder, sealed.d)?));
         Ok(Sealed { kept, ..sealed })
     }
 
