@@ -458,7 +458,7 @@ fn the_commands_of_the_readme() {
         .lines()
         .filter_map(|line| line.strip_prefix("    daybook "));
     let lines: Vec<&str> = lines.map(|line| line.split('#').next().unwrap()).collect();
-    assert_eq!(lines.len(), 8);
+    assert_eq!(lines.len(), 9);
     let mut out = String::new();
     for line in lines {
         let ran = run(&folder, line);

@@ -5,12 +5,13 @@ mod common;
 mod program;
 
 use std::fs::{self, File};
+use std::io::Write;
 use std::os::unix::fs::PermissionsExt;
-use std::process::Command;
+use std::process::{Command, Stdio};
 
 use common::{altered, book, day, digest, hex, ledger, table, Folder};
 use daybook::Layout;
-use program::{done, fault, run, said};
+use program::{command, done, ended, fault, run, said, Ran};
 
 /// Every day has bytes of its own.
 fn days(d: u32) -> Vec<Vec<u8>> {
@@ -23,12 +24,18 @@ fn figure(name: &str) -> Folder {
     let folder = Folder::new(&format!("kept-{name}"));
     let layout = Layout::tile(16, 2);
     fs::write(folder.file("book"), book(layout, &days(64))).unwrap();
-    let (bytes, ends) = ledger(&altered(&days(64), &[19, 20, 27]));
-    let ends: Vec<u8> = ends.iter().flat_map(|end| end.to_le_bytes()).collect();
+    let bytes = write_ends(&folder, &altered(&days(64), &[19, 20, 27]));
     fs::write(folder.file("ledger"), bytes).unwrap();
-    fs::write(folder.file("ends"), ends).unwrap();
     fs::write(folder.file("table"), table(layout, 64, &[19, 20, 27])).unwrap();
     folder
+}
+
+/// Writes the ends of the days and gives their ledger.
+fn write_ends(folder: &Folder, days: &[Vec<u8>]) -> Vec<u8> {
+    let (bytes, ends) = ledger(days);
+    let ends: Vec<u8> = ends.iter().flat_map(|end| end.to_le_bytes()).collect();
+    fs::write(folder.file("ends"), ends).unwrap();
+    bytes
 }
 
 const VERIFY: &str = "verify --scheme 2 --n 16 --f 2 --ledger ledger --ends ends --book book";
@@ -465,4 +472,56 @@ fn a_full_disk() {
     verified(&folder, 8);
     assert_eq!(clean(&folder), Some([line(4), line(8)].concat()));
     assert!(run(&folder, "status s").1.contains("interrupted no\n"));
+}
+
+/// Verifies eight days of `s`, with something done after the book is read and before the days are.
+fn verified_while(folder: &Folder, between: impl Fn()) -> Ran {
+    let bytes = write_ends(folder, &days(8));
+    let pipe = folder.file("pipe");
+    let made = Command::new("mkfifo").arg(&pipe).status().unwrap();
+    assert!(made.success());
+    let verify = "verify --state s --d 8 --ledger pipe --ends ends";
+    let mut command = command(folder, verify);
+    let child = command.stdout(Stdio::piped()).stderr(Stdio::piped());
+    let child = child.spawn().unwrap();
+    // opened when the program opens it too
+    let mut days = File::options().write(true).open(&pipe).unwrap();
+    between();
+    days.write_all(&bytes).unwrap();
+    drop(days);
+    fs::remove_file(&pipe).unwrap();
+    ended(child.wait_with_output().unwrap())
+}
+
+/// The folder is looked at again before a day is kept.
+#[test]
+fn what_happens_to_the_folder_meanwhile() {
+    let folder = state("meanwhile", 8);
+    let clean_8 = "REF,2,0,0,0,0,8\n".to_string();
+    // the state goes on: the front of its book stays
+    let ran = verified_while(&folder, || close(&folder, 9..=12));
+    assert_eq!((ran.0, ran.1), (0, clean_8.clone()), "{}", ran.2);
+    assert!(!ran.2.contains("not kept"), "{}", ran.2);
+    assert_eq!(clean(&folder), Some(line(8)));
+    // another run keeps a day
+    fs::remove_file(folder.file("s/clean")).unwrap();
+    let ran = verified_while(&folder, || verified(&folder, 4));
+    assert_eq!(ran.0, 0, "{}", ran.2);
+    assert_eq!(clean(&folder), Some([line(4), line(8)].concat()));
+    // another state takes its place
+    fs::remove_file(folder.file("s/clean")).unwrap();
+    let other = state("meanwhile-other", 0);
+    write_days(&other, &altered(&days(8), &[5]));
+    close(&other, 1..=8);
+    let ran = verified_while(&folder, || {
+        fs::rename(folder.file("s"), folder.file("before")).unwrap();
+        fs::rename(other.file("s"), folder.file("s")).unwrap();
+    });
+    assert_eq!((ran.0, ran.1), (0, clean_8), "{}", ran.2);
+    let said =
+        "daybook: day 8 is not kept as verified clean: s/book does not fit the state: it is \
+                not the one that was checked";
+    assert!(ran.2.contains(said), "{}", ran.2);
+    assert_eq!(clean(&folder), None);
+    assert!(!folder.file("before/clean").exists());
 }
