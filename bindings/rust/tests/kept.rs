@@ -4,9 +4,10 @@ mod common;
 #[path = "common/program.rs"]
 mod program;
 
+use std::cell::Cell;
 use std::fs::{self, File};
 use std::io::Write;
-use std::os::unix::fs::PermissionsExt;
+use std::os::unix::fs::{MetadataExt, PermissionsExt};
 use std::process::{Command, Stdio};
 
 use common::{altered, book, day, digest, hex, ledger, table, Folder};
@@ -169,11 +170,12 @@ fn last_kept(folder: &Folder) -> String {
     out.lines().last().unwrap().to_string()
 }
 
-/// Verifies the first `d` days without messages.
+/// Verifies the first `d` days: they are clean, and kept.
 fn verified(folder: &Folder, d: u32) {
     let verify = format!("verify --state s --days in --d {d}");
-    let (status, out, _) = run(folder, &verify);
+    let (status, out, messages) = run(folder, &verify);
     assert_eq!((status, out), (0, format!("REF,2,0,0,0,0,{d}\n")));
+    assert!(!messages.contains("kept"), "{messages}");
 }
 
 #[test]
@@ -190,6 +192,7 @@ fn clean_days_are_kept() {
     let check = "check --state s --days in --d 4 --outcomes table";
     let checked = "daybook: checked: days 4, values 6, failing 0";
     said(&folder, check, (0, ""), &[checked]);
+    assert_eq!(clean(&folder), Some([line(4), line(12)].concat()));
     verified(&folder, 8);
     verified(&folder, 4);
     let all = [line(4), line(8), line(12)].concat();
@@ -508,6 +511,15 @@ fn what_happens_to_the_folder_meanwhile() {
     let ran = verified_while(&folder, || verified(&folder, 4));
     assert_eq!(ran.0, 0, "{}", ran.2);
     assert_eq!(clean(&folder), Some([line(4), line(8)].concat()));
+    // another run keeps the same day: it is not written again
+    fs::remove_file(folder.file("s/clean")).unwrap();
+    let written = Cell::new(0);
+    let file = || fs::metadata(folder.file("s/clean")).unwrap().ino();
+    let ran = verified_while(&folder, || {
+        verified(&folder, 8);
+        written.set(file());
+    });
+    assert_eq!((ran.0, file()), (0, written.get()), "{}", ran.2);
     // another state takes its place
     fs::remove_file(folder.file("s/clean")).unwrap();
     let other = state("meanwhile-other", 0);
