@@ -47,8 +47,8 @@ void drop_tables(struct tables *tables) {
 }
 
 static void read_table(struct tables *t, size_t i, uint32_t numbers[5]) {
-  uint32_t r = daybook_read(t->scheme, t->n, 1, t->days, t->outcomes + i * t->values, t->values, t->list,
-                            t->days, numbers);
+  uint32_t r = daybook_read(t->scheme, t->n, 1, t->days, t->days - t->n, t->outcomes + i * t->values, t->values,
+                            t->list, t->days, numbers);
   require(r == DAYBOOK_DONE, "daybook_read refused");
 }
 

@@ -22,8 +22,8 @@ extern "C" {
 #endif
 
 /* The version of this header: 10000 * major + 100 * minor + patch, and as text. */
-#define DAYBOOK_VERSION 400
-#define DAYBOOK_VERSION_TEXT "0.4.0"
+#define DAYBOOK_VERSION 500
+#define DAYBOOK_VERSION_TEXT "0.5.0"
 
 /* The bytes of a record. To be kept on disk as it is: no padding, the same on every machine.
  * Numbers are 32 bits, little-endian:
@@ -70,7 +70,8 @@ enum daybook_refusal {
   DAYBOOK_IMPOSSIBLE_TABLE = 14, /* no set of changed days gives the outcomes */
   DAYBOOK_FEW_LENGTHS = 16,      /* fewer than D lengths of days */
   DAYBOOK_LONG_DAY = 17,         /* one of the first D lengths is over the day's limit */
-  DAYBOOK_NOT_IN_BOOK = 18       /* a position not below the number of values, or no chain of the book */
+  DAYBOOK_NOT_IN_BOOK = 18,      /* a position not below the number of values, or no chain of the book */
+  DAYBOOK_BAD_PASSED = 19        /* the day of the last passed check is not below D, or no multiple of N */
 };
 
 /* What a refusal says, in words. */
@@ -96,6 +97,7 @@ static inline const char *daybook_refusal_text(uint32_t number) {
   case DAYBOOK_FEW_LENGTHS: return "there are fewer than D lengths of days";
   case DAYBOOK_LONG_DAY: return "the length of a day is over 16,777,216 bytes";
   case DAYBOOK_NOT_IN_BOOK: return "the book has no such position or chain";
+  case DAYBOOK_BAD_PASSED: return "the day of the last passed check is not below D, or N does not divide it";
   default: return "a number that is no refusal";
   }
 }
@@ -134,8 +136,12 @@ uint32_t daybook_check(uint32_t scheme, uint32_t n, uint32_t f, uint32_t d,
 
 /* Read a table of outcomes: writes the days that may have been altered, ascending, to the front of list
  * (which must have D places, whatever it lists); the rest stays. numbers: listed, first listed, low,
- * high, last good. Listed 0 says clean. Refusals 1 2 3 7 8 12 13 14. */
-uint32_t daybook_read(uint32_t scheme, uint32_t n, uint32_t f, uint32_t d,
+ * high, last good. Listed 0 says clean.
+ * passed is the last day at which a check really passed, 0 if none did: below D, and a multiple of N, not
+ * necessarily of F * N. Low is the greater of passed and the first listed day less 1, and nothing else
+ * goes by it. D - F * N, which is always allowed, supposes that the validation before was made and passed.
+ * Refusals 1 2 3 7 19 8 12 13 14. */
+uint32_t daybook_read(uint32_t scheme, uint32_t n, uint32_t f, uint32_t d, uint32_t passed,
                       const uint8_t *outcomes, size_t outcomes_len,
                       uint32_t *list, size_t list_len,
                       uint32_t numbers[5]);

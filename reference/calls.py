@@ -5,8 +5,8 @@ closed, and its values are counted.  Then a ledger of the first 24 days of
 thousand.py, with zeros behind up to 1,400 bytes: its values are counted, a
 season of days of 130 bytes, 30 lengths lent, is sized, the chain at position 7
 is found and the position of c(3) of the last tile, the ledger is sealed,
-checked with the lowest bit altered in the first byte of day 10, and read.
-Last the version.
+checked with the lowest bit altered in the first byte of day 10, and read with
+P 0, which is D - F*N.  Last the version.
 
 A line is the call, what it returned and what it wrote: of a record the lowest
 bytes of its five numbers, the blocks of an add, of a close the number of
@@ -66,7 +66,7 @@ def ledger_lines():
     refusal = daybook.check(*settings, ledger, ends[1:], book, work, outcomes)
     out.append(line("check", refusal, work[:32], outcomes))
     places = [99] * 30
-    found = daybook.read(*settings, outcomes, places)
+    found = daybook.read(*settings, 0, outcomes, places)
     return out + [line("read", found.refusal, found.listed, found.first,
                        found.low, found.high, found.last_good, *places)]
 

@@ -46,6 +46,26 @@ def layout(scheme, rng, most=None):
     return n, f, f * n * rng.randint(1, most // (f * n))
 
 
+def passed_day(rng, n, f, d):
+    """A day at which a check may have passed: a multiple of N below D."""
+    return rng.choice((0, daybook.validation_before(n, f, d), d - n,
+                       n * rng.randrange(d // n)))
+
+
+def bad_passed(rng, n, d):
+    """One that is mostly not let pass: D or above, or no multiple of N."""
+    return rng.choice((d, d, d + n, d + 1, d - 1, 2 * d, rng.randrange(d),
+                       n * rng.randrange(d // n) + n // 2, DAYS, DAYS + n,
+                       TOP, TOP - TOP % n, rng.getrandbits(32)))
+
+
+def any_passed(rng, n, f, d):
+    """Mostly one that is let pass."""
+    if rng.random() < 0.9:
+        return passed_day(rng, n, f, d)
+    return bad_passed(rng, n, d)
+
+
 def random_words(rng, count):
     return array("I", rng.randbytes(4 * count)).tolist()
 
@@ -162,8 +182,9 @@ def seal_check_read(case, n, f, d, days, altered):
         return
     found = daybook.ledger_days(d, ledger, ends)
     places = random_words(rng, room(rng, d, 0.02))
-    answer, after = case.call("read", scheme, n, f, d, after[-1], places,
-                              random_words(rng, 5))
+    passed = passed_day(rng, n, f, d)
+    answer, after = case.call("read", scheme, n, f, d, passed, after[-1],
+                              places, random_words(rng, 5))
     if answer == 0 and not spoilt:
         listed = set(after[-2][:after[-1][0]])
         changed = {g for g in range(1, d + 1) if sealed[g - 1] != found[g - 1]}
@@ -211,8 +232,39 @@ def read_table(case):
     elif rng.random() < 0.3:
         table += rng.randbytes(rng.randint(1, 20))
     places = random_words(rng, room(rng, d))
-    case.call("read", scheme, n, f, d, bytes(table), places,
-              random_words(rng, 5))
+    case.call("read", scheme, n, f, d, any_passed(rng, n, f, d), bytes(table),
+              places, random_words(rng, 5))
+
+
+def skipped(case):
+    """A table read with each P: low alone goes with it, and 19 is said."""
+    rng, scheme = case.rng, case.scheme
+    n, f, d = layout(scheme, rng, rng.choice((8, 16, 64)))
+    table = table_of(scheme, n, d, random_set(rng, d))
+    places = random_words(rng, room(rng, d, 0))
+
+    def read(passed, places=places, settings=(scheme, n, f, d)):
+        return case.call("read", *settings, passed, table, places,
+                         random_words(rng, 5))
+
+    answer, base = read(0)
+    case.claim(answer == 0, "P 0 is refused")
+    for passed in range(0, d, n):
+        answer, after = read(passed)
+        numbers = list(base[-1])
+        numbers[2] = max(numbers[2], passed) if numbers[0] else 0
+        case.claim(answer == 0 and list(after[-2]) == list(base[-2])
+                   and list(after[-1]) == numbers, "more than low differs")
+    before = daybook.validation_before(n, f, d)
+    answer, after = read(before)
+    case.claim(answer == 0, "D - F*N is refused")
+    between = [p for p in range(d) if p % n]
+    for passed in (d, d + n, TOP, *rng.sample(between, min(4, len(between)))):
+        case.claim(read(passed)[0] == 19, "19 is not said")
+        case.claim(read(passed, places=[])[0] == 19, "19 is after 8")
+        bad = bad_settings(rng, scheme, n, f, d)
+        read(passed, settings=bad)
+    case.claim(read(before, places=places[:d - 1])[0] == 8, "8 is not said")
 
 
 # ------------------------------------------------------------------- refusals
@@ -287,7 +339,9 @@ def refused(case):
         table = bytearray(b"\1" * bad_length(rng, count))
         if table and rng.random() < 0.6:
             table[rng.randrange(len(table))] = rng.choice((0, 0, 2, 255))
-        arguments = (*settings, bytes(table),
+        passed = rng.choice((0, passed_day(rng, n, f, d),
+                             bad_passed(rng, n, d)))
+        arguments = (*settings, passed, bytes(table),
                      random_words(rng, bad_length(rng, d)),
                      random_words(rng, 5))
     case.call(name, *arguments)
@@ -503,9 +557,9 @@ def empty_arrays(case):
                   some(rng.randbytes(32 * d)), some(rng.randbytes(count)),
                   nulls=True)
     else:
-        case.call("read", scheme, n, f, d, some(b"\1" * count),
-                  some(random_words(rng, d)), random_words(rng, 5),
-                  nulls=True)
+        case.call("read", scheme, n, f, d, passed_day(rng, n, f, d),
+                  some(b"\1" * count), some(random_words(rng, d)),
+                  random_words(rng, 5), nulls=True)
 
 
 # ----------------------------------------------------------- number of values
@@ -674,7 +728,8 @@ def whole_book(case):
             "check", scheme, n, f, DAYS, ledger, ends, book,
             rng.randbytes(32 * DAYS + 5), rng.randbytes(count + 5))
         case.claim(answer == 0, "check is refused")
-        answer, after = case.call("read", scheme, n, f, DAYS, after[-1],
+        answer, after = case.call("read", scheme, n, f, DAYS,
+                                  passed_day(rng, n, f, DAYS), after[-1],
                                   random_words(rng, DAYS + 5),
                                   random_words(rng, 5))
         listed = set(after[-2][:after[-1][0]])
@@ -860,7 +915,8 @@ def wide_arrays(case):
                               wide=label)
         case.claim(answer == 0, "check is refused")
     for label in ("outcomes", "list"):
-        answer, _ = case.call("read", *settings, table_of(*settings[:2], d, 8),
+        answer, _ = case.call("read", *settings, n,
+                              table_of(*settings[:2], d, 8),
                               random_words(rng, d), random_words(rng, 5),
                               wide=label)
         case.claim(answer == 0, "read is refused")
@@ -929,5 +985,5 @@ ONCE = (whole_book, whole_service, big_day, big_ledger, high_bytes,
         every_position, longest_positions)
 KINDS = ((round_trip, 26), (read_table, 24), (refused, 14), (history, 12),
          (made_up_calls, 14), (empty_arrays, 5), (number_of_values, 5),
-         (values_of_record, 4), (sizes, 6), (positions, 6))
+         (values_of_record, 4), (sizes, 6), (positions, 6), (skipped, 4))
 CHOICES = [kind for kind, weight in KINDS for _ in range(weight)]

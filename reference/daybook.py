@@ -19,7 +19,7 @@ DAYS_LIMIT = 65_536         # days in a book
 SLOTS = 17                  # running tile or tree chains in a record
 SUBSETS_LIMIT = 12          # up to this D, reading tries every set of days
 MASKS_LIMIT = 512           # up to this D, it has the chains as masks
-VERSION = 400               # 10000 major + 100 minor + patch: 0.4.0
+VERSION = 500               # 10000 major + 100 minor + patch: 0.5.0
 
 BLACK, TILE, TREE = "black", "tile", "tree"
 
@@ -214,6 +214,19 @@ def days_refusal(n, f, d):
 def days_call_refusal(scheme, n, f, d):
     """Refusals 1 2 3 7, with which every call for D days begins."""
     return settings_refusal(scheme, n, f) or days_refusal(n, f, d)
+
+
+def passed_refusal(scheme, n, f, d, passed):
+    """Refusals 1 2 3 7 19, with which reading begins."""
+    refusal = days_call_refusal(scheme, n, f, d)
+    if refusal == 0 and (passed >= d or passed % n != 0):
+        refusal = 19
+    return refusal
+
+
+def validation_before(n, f, d):
+    """The validation before the one at day d, for allowed n, f and d."""
+    return d - f * n
 
 
 def ledger_refusal(d, ledger, ends):
@@ -657,9 +670,13 @@ class Reading:
     last_good: int = 0
 
 
-def read(scheme, n, f, d, outcomes, list_buffer, lister=list_of):
-    """Reading, refusals 1 2 3 7 8 12 13 14; days go to list_buffer's front."""
-    refusal = days_call_refusal(scheme, n, f, d)
+def read(scheme, n, f, d, passed, outcomes, list_buffer, lister=list_of):
+    """Reading; days go to list_buffer's front.
+
+    Refusals 1 2 3 7 19 8 12 13 14.  passed is the last day at which a check
+    really passed, 0 if there was none.
+    """
+    refusal = passed_refusal(scheme, n, f, d, passed)
     if refusal:
         return Reading("refused", refusal)
     if len(list_buffer) < d:
@@ -678,7 +695,7 @@ def read(scheme, n, f, d, outcomes, list_buffer, lister=list_of):
     for k, day in enumerate(listed):
         list_buffer[k] = day
     return Reading("changed", 0, len(listed), listed[0],
-                   max(d - f * n, listed[0] - 1), d,
+                   max(passed, listed[0] - 1), d,
                    last_good_day(scheme, n, d, table))
 
 
@@ -686,7 +703,7 @@ def read(scheme, n, f, d, outcomes, list_buffer, lister=list_of):
 
 _NUMBER = rb"(0|[1-9][0-9]{0,4})"
 _FORM = re.compile(_NUMBER + b"," + _NUMBER + b"," + _NUMBER + b"," + _NUMBER
-                   + rb"\n([0-9]*)\n")
+                   + b"(?:," + _NUMBER + rb")?\n([0-9]*)\n")
 
 
 def readtable(text):
@@ -703,11 +720,16 @@ def readtable(text):
     refusal = days_call_refusal(scheme, n, f, d)
     if refusal:
         return no(refusal)
-    outcomes = [digit - ord("0") for digit in form.group(5)]
+    fifth = form.group(5)
+    passed = validation_before(n, f, d) if fifth is None else int(fifth)
+    refusal = passed_refusal(scheme, n, f, d, passed)
+    if refusal:
+        return no(refusal)
+    outcomes = [digit - ord("0") for digit in form.group(6)]
     if len(outcomes) > values(scheme, n, d):
         return no(15)
     listed = [0] * d
-    result = read(scheme, n, f, d, outcomes, listed)
+    result = read(scheme, n, f, d, passed, outcomes, listed)
     if result.kind == "refused":
         return no(result.refusal)
     out = b"REF,%d,%d,%d,%d,%d,%d\n" % (

@@ -11,7 +11,7 @@ from wanted import WANT
 # n number, b bytes with their length, w words with their length, B and W
 # the same without a length, Q numbers of 64 bits without a length.
 FORMS = {"open": "nnnB", "add": "BbW", "close": "BbWW", "seal": "nnnnbwb",
-         "check": "nnnnbwbbb", "read": "nnnnbwW", "values": "nnnnW",
+         "check": "nnnnbwbbb", "read": "nnnnnbwW", "values": "nnnnW",
          "record_values": "BW", "forecast": "nnnnwQ", "chain_at": "nnnnnW",
          "position_of": "nnnnWW", "version": ""}
 LABELS = {
@@ -21,7 +21,8 @@ LABELS = {
     "seal": ("scheme", "n", "f", "d", "ledger", "ends", "book"),
     "check": ("scheme", "n", "f", "d", "ledger", "ends", "book", "work",
               "outcomes"),
-    "read": ("scheme", "n", "f", "d", "outcomes", "list", "numbers"),
+    "read": ("scheme", "n", "f", "d", "passed", "outcomes", "list",
+             "numbers"),
     "values": ("scheme", "n", "f", "d", "values"),
     "record_values": ("record", "values"),
     "forecast": ("scheme", "n", "f", "d", "lengths", "sizes"),
@@ -33,7 +34,7 @@ WRITTEN = {"record", "part", "values", "blocks", "work", "list", "numbers",
 ANSWERS = {"open": (0, 1, 2, 3), "add": (0, 6, 5, 4), "close": (0, 6, 5, 8),
            "seal": (0, 1, 2, 3, 7, 9, 10, 8),
            "check": (0, 1, 2, 3, 7, 9, 10, 11, 8),
-           "read": (0, 1, 2, 3, 7, 8, 12, 13, 14),
+           "read": (0, 1, 2, 3, 7, 19, 8, 12, 13, 14),
            "values": (0, 1, 2, 3, 7), "record_values": (0, 6),
            "forecast": (0, 1, 2, 3, 7, 16, 17),
            "chain_at": (0, 1, 2, 3, 7, 18),

@@ -22,7 +22,8 @@ def trip(scheme, n, f, d, days):
     outcomes = bytearray(b"\x09" * 2112)
     checked = daybook.check(scheme, n, f, d, bytes(ledger), ends, bytes(book), work, outcomes)
     listed = [0] * 1000
-    answer = daybook.read(scheme, n, f, d, outcomes, listed)
+    passed = daybook.validation_before(n, f, d)
+    answer = daybook.read(scheme, n, f, d, passed, outcomes, listed)
     print(f"{sealed}{checked} ", end="")
     if answer.kind == "refused":
         print(f"NO,{answer.refusal}")

@@ -8,6 +8,7 @@ import os
 import random
 import sys
 from collections import Counter
+from dataclasses import replace
 from itertools import product
 
 import compare
@@ -16,6 +17,7 @@ import last_day
 import record as rec
 import short_ledgers
 import stand_in
+import table_text_cases
 import thousand
 import wanted
 from cases import LENGTHS
@@ -59,10 +61,15 @@ def table_of(scheme, n, d, changed):
             for chain in db.chains(scheme, n, d)]
 
 
-def read_list(scheme, n, f, d, outcomes):
-    """(reading, listed days); the rest of the buffer must stay."""
+def read_list(scheme, n, f, d, outcomes, passed=None, lister=db.list_of):
+    """(reading, listed days); the rest of the buffer must stay.
+
+    Without a P it is D - F*N.
+    """
     buffer = [777] * (d + 3)
-    result = db.read(scheme, n, f, d, outcomes, buffer)
+    if passed is None:
+        passed = db.validation_before(n, f, d)
+    result = db.read(scheme, n, f, d, passed, outcomes, buffer, lister)
     expect("list buffer's rest", set(buffer[result.listed:]), {777})
     return result, buffer[:result.listed]
 
@@ -568,9 +575,16 @@ def reading_tests():
                 continue
             black = [g for g in range(n, d + 1, n)
                      if table[db.values(scheme, n, g) - 1] == 1]
-            expect("numbers", result, db.Reading(
-                "changed", 0, len(listed), listed[0],
-                max(d - f * n, listed[0] - 1), d, max(black, default=0)))
+            want = db.Reading("changed", 0, len(listed), listed[0],
+                              max(d - f * n, listed[0] - 1), d,
+                              max(black, default=0))
+            expect("numbers", result, want)
+            for passed in range(0, d, n):
+                low = max(passed, listed[0] - 1)
+                expect("numbers with P",
+                       read_list(scheme, n, f, d, table, passed,
+                                 lambda *_, found=listed: found),
+                       (replace(want, low=low), listed))
 
 
 def reading_large():
@@ -594,15 +608,16 @@ def reading_large():
 
 
 def reading_refusals():
-    def call(scheme=2, n=4, f=1, d=4, outcomes=(1, 1, 1, 1), places=4):
+    def call(scheme=2, n=4, f=1, d=4, passed=0, outcomes=(1, 1, 1, 1),
+             places=4):
         buffer = [777] * places
-        result = db.read(scheme, n, f, d, list(outcomes), buffer)
+        result = db.read(scheme, n, f, d, passed, list(outcomes), buffer)
         expect("list buffer kept", buffer, [777] * places)
         return result.refusal
 
     expect("read accepted", call(), 0)
     faults = [(1, dict(scheme=0)), (2, dict(n=0)), (3, dict(f=65)),
-              (7, dict(d=65_540)), (8, dict(places=3)),
+              (7, dict(d=65_540)), (19, dict(passed=2)), (8, dict(places=3)),
               (12, dict(outcomes=(2, 1, 1)))]
     for k, (number, _) in enumerate(faults):
         arguments = {}
@@ -614,6 +629,33 @@ def reading_refusals():
                            ((1, 1, 1), 12), ((), 12)]:
         expect("read outcomes", call(outcomes=outcomes), want)
     expect("read 8 when clean", call(places=3), 8)
+    eight = dict(d=8, outcomes=[1] * 8, places=8)
+    for passed, want in [(0, 0), (4, 0), (8, 19), (12, 19), (1, 19), (6, 19),
+                         (7, 19), (9, 19), (2 ** 32 - 4, 19),
+                         (2 ** 32 - 1, 19)]:
+        expect(f"read P {passed}", call(**eight, passed=passed), want)
+        expect("clean, whatever P", db.read(2, 4, 1, 8, passed, [1] * 8,
+                                            [777] * 8),
+               db.Reading("refused", want) if want
+               else db.Reading("clean", last_good=8))
+    for f in (1, 2, 4):         # P goes by N, not by F*N
+        eight["f"] = f
+        expect("read P by N", call(**eight, passed=4) if f < 4
+               else call(f=4, d=16, outcomes=[1] * 16, places=16, passed=12),
+               0)
+
+
+def skipped_validations():
+    """The figure with each P, by hand: low alone goes with it."""
+    table = table_of(2, 16, 64, [19, 20, 27])
+    days = [19, 20, 23, 24, 27, 28, 31, 32]
+    for passed, low in [(0, 18), (16, 18), (32, 32), (48, 48)]:
+        expect(f"figure, P {passed}",
+               read_list(2, 16, 2, 64, table, passed),
+               (db.Reading("changed", 0, 8, 19, low, 64, 16), days))
+    for scheme, n, f, d in cases(300):
+        expect("D - F*N is let pass",
+               db.passed_refusal(scheme, n, f, d, d - f * n), 0)
 
 
 def whole_chain():
@@ -971,6 +1013,66 @@ def comparison():
                                                       arguments[3]))
         return answer
 
+    def low_of(good, *arguments, low):
+        """Low is another one; the arguments are those of read."""
+        answer = good(*arguments)
+        numbers = stand_in.get_words(arguments[-1], 5)
+        if answer == 0 and numbers[0]:
+            numbers[2] = low(numbers, *arguments[:5])
+            stand_in.put_words(arguments[-1], numbers)
+        return answer
+
+    def low_without_p(good, *arguments):
+        """Low is 01's, whatever P."""
+        return low_of(good, *arguments, low=lambda numbers, scheme, n, f, d, p:
+                      max(d - f * n, numbers[1] - 1))
+
+    def low_is_p(good, *arguments):
+        return low_of(good, *arguments,
+                      low=lambda numbers, scheme, n, f, d, p: p)
+
+    def low_in_clean(good, *arguments):
+        """P is said of a clean table too."""
+        answer = good(*arguments)
+        numbers = stand_in.get_words(arguments[-1], 5)
+        if answer == 0 and numbers[0] == 0:
+            numbers[2] = arguments[4]
+            stand_in.put_words(arguments[-1], numbers)
+        return answer
+
+    def other_19(says):
+        """19 where says(answer, n, f, d, passed, list length) has it so."""
+        def fault(good, scheme, n, f, d, passed, *rest):
+            answer = good(scheme, n, f, d, passed, *rest)
+            return says(answer, n, f, d, passed, rest[3])
+        return fault
+
+    def says_0(answer, n, f, d, passed, places):
+        """P 0 is refused."""
+        return 19 if answer in (0, 8) and passed == 0 else answer
+
+    def by_f_n(answer, n, f, d, passed, places):
+        """P must be a multiple of F*N."""
+        return 19 if answer in (0, 8) and passed % (f * n) else answer
+
+    def after_8(answer, n, f, d, passed, places):
+        return 8 if answer == 19 and places < d else answer
+
+    def before_7(answer, n, f, d, passed, places):
+        return 19 if answer == 7 and passed >= d else answer
+
+    def lets_d_pass(good, scheme, n, f, d, passed, *rest):
+        """P may be D."""
+        if passed == d and db.days_call_refusal(scheme, n, f, d) == 0:
+            passed -= n
+        return good(scheme, n, f, d, passed, *rest)
+
+    def any_p_below(good, scheme, n, f, d, passed, *rest):
+        """P need not be a multiple of N."""
+        if passed < d and db.days_call_refusal(scheme, n, f, d) == 0:
+            passed -= passed % n
+        return good(scheme, n, f, d, passed, *rest)
+
     def full_is_refused(good, record, values):
         days = rec.fields(stand_in.get(record, rec.SIZE))[3]
         return 5 if days == db.DAYS_LIMIT else good(record, values)
@@ -1116,7 +1218,8 @@ def comparison():
             ("position_of", without(3), (1, 2, 3)),
             ("position_of", any_index_of_black, (1, 2, 3)),
             ("position_of", once_as_black, (3,)),
-            ("position_of", a_day_too_far, (1, 2, 3))]:
+            ("position_of", a_day_too_far, (1, 2, 3)),
+            ("read", other_19(by_f_n), (1, 2))]:
         for scheme in schemes:
             expect(f"fault in {name} is found",
                    differs(faulty(name, fault), scheme, first, first + 600),
@@ -1135,6 +1238,10 @@ def comparison():
             ("version", lambda good: good() + 1),
             ("check", passes_all),
             ("read", lambda good, *rest: good(*rest) or 14),
+            ("read", low_without_p), ("read", low_is_p),
+            ("read", low_in_clean), ("read", other_19(says_0)),
+            ("read", other_19(after_8)), ("read", other_19(before_7)),
+            ("read", lets_d_pass), ("read", any_p_below),
             ("open", no_zeros)]:
         for scheme in (1, 2, 3):
             expect(f"fault in {name} is found",
@@ -1165,7 +1272,11 @@ def program():
                  b"2,4,1,8\n11110010\nx", b"2,4,1,8\r\n11110010\r\n",
                  b"2,4,1,8\n1111 0010\n", b"2,4,1,8\n1111001x\n",
                  b"2,4,1\n11110010\n", b"2,4,1,8,\n11110010\n",
-                 b"2,4,1,8,1\n11110010\n", b"2,4,,8\n11110010\n",
+                 b"2,4,1,8,4,\n11110010\n", b"2,4,1,8,4,4\n11110010\n",
+                 b"2,4,1,8,,4\n11110010\n", b"2,4,1,8,04\n11110010\n",
+                 b"2,4,1,8,00\n11110010\n", b"2,4,1,8,+4\n11110010\n",
+                 b"2,4,1,8,100000\n11110010\n",
+                 b"2,4,1,8,4 \n11110010\n", b"2,4,,8\n11110010\n",
                  b"02,4,1,8\n11110010\n", b"2,4,1,08\n11110010\n",
                  b"2,4,00,8\n11110010\n", b"2,4,1,+8\n11110010\n",
                  b"2,4,1,-8\n11110010\n", b" 2,4,1,8\n11110010\n",
@@ -1189,12 +1300,27 @@ def program():
                        (b"2,4,1,8\n9999999\n", 12),
                        (b"2,4,1,8\n11112010\n", 13),
                        (b"2,4,1,8\n00002999\n", 13),
-                       (b"2,4,1,4\n1110\n", 14), (b"3,1,1,2\n110\n", 14)]:
+                       (b"2,4,1,4\n1110\n", 14), (b"3,1,1,2\n110\n", 14),
+                       (b"2,4,1,8,1\n11110010\n", 19),
+                       (b"2,4,1,8,8\n11110010\n", 19),
+                       (b"2,4,1,8,12345\n11110010\n", 19),
+                       (b"2,4,1,8,99999\n111100100\n", 19),
+                       (b"2,4,1,8,8\n\n", 19), (b"2,4,1,8,4\n\n", 12),
+                       (b"2,4,1,8,4\n111100100\n", 15),
+                       (b"2,4,1,6,8\n\n", 7), (b"2,4,0,8,8\n\n", 3),
+                       (b"9,4,1,8,8\n\n", 1), (b"9,4,1,257,8\n\n", 15)]:
         expect(f"order {text!r}", run(text), b"NO,%d\n" % want)
     expect("tile 1 1", run(b"2,1,1,1\n00\n"), b"REF,2,1,1,0,1,0\nDAY,1\n")
     expect("one value", run(b"1,256,1,256\n1\n"), b"REF,1,0,0,0,0,256\n")
     expect("all days", run(b"1,256,1,256\n0\n"), b"REF,1,256,1,0,256,0\n"
            + b"".join(b"DAY,%d\n" % g for g in range(1, 257)))
+
+    for fifth, low in [(b"", 5), (b",0", 5), (b",4", 5)]:
+        expect("the figure of the page with P",
+               run(b"2,4,1,8%s\n11110010\n" % fifth),
+               b"REF,2,2,6,%d,8,4\nDAY,6\nDAY,8\n" % low)
+    expect("clean, whatever P", run(b"2,4,1,8,4\n11111111\n"),
+           b"REF,2,0,0,0,0,8\n")
 
     expect("most values at D 256",
            max(db.values(s, n, 256) for s in (1, 2, 3) for n in SIZES), 758)
@@ -1216,6 +1342,53 @@ def program():
                       for g in (19, 20, 23, 24, 27, 28, 31, 32)))
 
 
+def text_faults():
+    """The cases of crates/test_table_text find faults in P's field."""
+    def head(text):
+        return text.split(b"\n")[0].split(b",")
+
+    def four_are_0(text):
+        """Four fields mean P 0."""
+        line, mark, rest = text.partition(b"\n")
+        fifth = b",0" if len(head(text)) == 4 else b""
+        return db.readtable(line + fifth + mark + rest)
+
+    def fifth_up_to_256(text):
+        """P over 256 is 15, as D is."""
+        printed = db.readtable(text)
+        long = printed == b"NO,19\n" and int(head(text)[4]) > 256
+        return b"NO,15\n" if long else printed
+
+    def extra_before_19(text):
+        printed = db.readtable(text)
+        if printed != b"NO,19\n":
+            return printed
+        scheme, n, _, d = map(int, head(text)[:4])
+        extra = len(text.split(b"\n")[1]) > db.values(scheme, n, d)
+        return b"NO,15\n" if extra else printed
+
+    def before_7(text):
+        """19 before 7."""
+        printed = db.readtable(text)
+        fields = head(text)
+        high = len(fields) == 5 and printed == b"NO,7\n" \
+            and int(fields[4]) >= int(fields[3])
+        return b"NO,19\n" if high else printed
+
+    def fifth_is_not_read(text):
+        """Five fields are as four."""
+        line, mark, rest = text.partition(b"\n")
+        if len(head(text)) == 5 and db.readtable(text)[:3] == b"REF":
+            line = b",".join(head(text)[:4])
+        return db.readtable(line + mark + rest)
+
+    texts = [text for _, text in table_text_cases.texts()]
+    for fault in (four_are_0, fifth_up_to_256, extra_before_19, before_7,
+                  fifth_is_not_read):
+        expect(f"fault {fault.__name__} is found",
+               any(fault(text) != db.readtable(text) for text in texts), True)
+
+
 # ----------------------------------------------------------- expected outputs
 
 def expected_outputs():
@@ -1233,10 +1406,11 @@ def main():
     for test in (examples, sketch_mistakes, hashes, layout_tests, book_tests,
                  call_lists, pieces, service_bounds, made_up_records,
                  last_days, check_tests, check_refusals, reading_tests,
-                 reading_large, reading_refusals, whole_chain, values_calls,
+                 reading_large, reading_refusals, skipped_validations,
+                 whole_chain, values_calls,
                  record_values_calls, sizing, positions, compression,
                  record_layout, record_histories, record_made_up, comparison,
-                 program, expected_outputs):
+                 program, text_faults, expected_outputs):
         before = PASSED, FAILED
         test()
         print(f"{test.__name__}: {PASSED - before[0]} passed, "

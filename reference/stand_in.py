@@ -73,9 +73,10 @@ def check(scheme, n, f, d, ledger, ledger_length, ends, count, book,
     return refusal
 
 
-def read(scheme, n, f, d, outcomes, count, places, length, numbers):
+def read(scheme, n, f, d, passed, outcomes, count, places, length, numbers):
     after = get_words(places, length)
-    result = daybook.read(scheme, n, f, d, get(outcomes, count), after)
+    result = daybook.read(scheme, n, f, d, passed, get(outcomes, count),
+                          after)
     if result.refusal == 0:
         put_words(places, after)
         put_words(numbers, [result.listed, result.first, result.low,

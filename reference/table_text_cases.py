@@ -101,6 +101,54 @@ TABLES = [
     ("N 256", b"1,256,1,256\n0\n"),
     ("F 64", b"1,4,64,256\n" + table(1, 4, 256, [200]) + b"\n"),
 ]
+FIGURE = table(2, 16, 64, [19, 20, 27])
+PASSED = [
+    ("P 0", b"2,16,2,64,0\n" + FIGURE + b"\n"),
+    ("P below the first listed day", b"2,16,2,64,16\n" + FIGURE + b"\n"),
+    ("P is D - F*N", b"2,16,2,64,32\n" + FIGURE + b"\n"),
+    ("P above the listed days", b"2,16,2,64,48\n" + FIGURE + b"\n"),
+    ("P is the day before the first listed", b"3,1,1,4,2\n" + table(3, 1, 4, [3]) + b"\n"),
+    ("P is the first listed day", b"3,1,1,4,3\n" + table(3, 1, 4, [3]) + b"\n"),
+    ("P in the example", b"2,4,1,8,4\n11110010\n"),
+    ("P 0 in the example", b"2,4,1,8,0\n11110010\n"),
+    ("clean with P", b"2,4,1,8,4\n11111111\n"),
+    ("clean with P 0", b"1,2,1,2,0\n1\n"),
+    ("P above, black", b"1,2,3,24,22\n" + table(1, 2, 24, [16]) + b"\n"),
+    ("P is D", b"2,16,2,64,64\n" + FIGURE + b"\n"),
+    ("P over D", b"2,16,2,64,80\n" + FIGURE + b"\n"),
+    ("P no multiple of N", b"2,16,2,64,24\n" + FIGURE + b"\n"),
+    ("P one below D", b"2,16,2,64,63\n" + FIGURE + b"\n"),
+    ("P one below D, N 1", b"1,1,1,4,3\n1110\n"),
+    ("P 256", b"2,4,1,8,256\n11110010\n"),
+    ("P 257", b"2,4,1,8,257\n11110010\n"),
+    ("five digits in P", b"2,4,1,8,12345\n11110010\n"),
+    ("five digits in P, a multiple of N", b"2,4,1,8,99996\n11110010\n"),
+    ("six digits in P", b"2,4,1,8,100000\n11110010\n"),
+    ("leading zero in P", b"2,4,1,8,04\n11110010\n"),
+    ("double zero in P", b"2,4,1,8,00\n11110010\n"),
+    ("letter in P", b"2,4,1,8,4a\n11110010\n"),
+    ("space before P", b"2,4,1,8, 4\n11110010\n"),
+    ("minus before P", b"2,4,1,8,-4\n11110010\n"),
+    ("six fields", b"2,4,1,8,4,4\n11110010\n"),
+    ("six fields, the last empty", b"2,4,1,8,4,\n11110010\n"),
+    ("six fields, the fifth empty", b"2,4,1,8,,4\n11110010\n"),
+    ("empty fifth field", b"2,4,1,8,\n11110010\n"),
+    ("three fields, table of four", b"2,4,1\n11110010\n"),
+    ("P is D, scheme 9", b"9,4,1,8,8\n1\n"),
+    ("P is D, N 3", b"2,3,1,8,8\n1\n"),
+    ("P is D, F 65", b"2,4,65,8,8\n1\n"),
+    ("P over D, D no multiple", b"2,4,1,6,8\n1\n"),
+    ("P 0, D 0", b"2,4,1,0,0\n\n"),
+    ("P is D, D over 256", b"2,4,1,257,257\n1\n"),
+    ("P is D, extra digit", b"2,4,1,8,8\n111100101\n"),
+    ("P is D, missing digit", b"2,4,1,8,8\n1111001\n"),
+    ("P is D, digit over 1", b"2,4,1,8,8\n11112010\n"),
+    ("P is D, no set gives it", b"2,4,1,8,8\n11111110\n"),
+    ("P, extra digit", b"2,4,1,8,4\n111100101\n"),
+    ("P, missing digit", b"2,4,1,8,4\n1111001\n"),
+    ("P, digit over 1", b"2,4,1,8,4\n11112010\n"),
+    ("P, no set gives it", b"2,4,1,8,4\n11111110\n"),
+]
 # a name, a first line, a digit and how often it stands in the second line
 LONG = [
     ("D 256", b"1,1,1,256\n", b"1", 256),
@@ -115,10 +163,15 @@ LONG = [
     ("1026 bytes", b"9,1,1,1\n", b"1", 1017),
 ]
 
+
+def texts():
+    """Every name and text."""
+    long = [(name, head + digit * count + b"\n") for name, head, digit, count in LONG]
+    return FORM + FIELDS + ORDER + TABLES + long + PASSED
+
+
 if __name__ == "__main__":
-    texts = FORM + FIELDS + ORDER + TABLES
-    texts += [(name, head + digit * count + b"\n") for name, head, digit, count in LONG]
-    for name, text in texts:
+    for name, text in texts():
         if sys.argv[1] == "stdin":
             sys.stdout.buffer.write(name.encode() + b"#" + text + b"#")
         else:

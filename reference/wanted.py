@@ -58,8 +58,8 @@ def want_check(scheme, n, f, d, ledger, ends, book, work, outcomes):
     return 0, (*same, front(b"".join(digests), work), front(table, outcomes))
 
 
-def want_read(scheme, n, f, d, outcomes, places, numbers):
-    same = scheme, n, f, d, outcomes
+def want_read(scheme, n, f, d, passed, outcomes, places, numbers):
+    same = scheme, n, f, d, passed, outcomes
     after = list(places)
     result = daybook.read(*same, after, lister)
     if result.refusal:

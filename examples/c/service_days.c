@@ -209,7 +209,8 @@ static int check_days(const char *name) {
   }
   if ((number = daybook_check(DAYBOOK_TREE, N, F, d, ledger, end, ends, d, book, values_of(state) * DAYBOOK_VALUE,
                               work, sizeof work, outcomes, sizeof outcomes))) refused(number);
-  if ((number = daybook_read(DAYBOOK_TREE, N, F, d, outcomes, sizeof outcomes, list, MOST_DAYS, numbers))) refused(number);
+  /* 0: no check has passed before, or it is not known */
+  if ((number = daybook_read(DAYBOOK_TREE, N, F, d, 0, outcomes, sizeof outcomes, list, MOST_DAYS, numbers))) refused(number);
   if (!numbers[0]) printf("%u days, clean\n", d);
   for (uint32_t i = 0; i < numbers[0]; i++) printf("day %u may have been altered\n", list[i]);
   return numbers[0] ? 1 : 0;

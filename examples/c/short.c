@@ -9,7 +9,7 @@ int main(void) {
   if (daybook_seal(DAYBOOK_TILE, 4, 1, 8, ledger, 64, ends, 8, book, sizeof book)) return 1;
   ledger[46] = '9';
   if (daybook_check(DAYBOOK_TILE, 4, 1, 8, ledger, 64, ends, 8, book, sizeof book, work, sizeof work, outcomes, 8)) return 1;
-  if (daybook_read(DAYBOOK_TILE, 4, 1, 8, outcomes, 8, list, 8, numbers)) return 1;
+  if (daybook_read(DAYBOOK_TILE, 4, 1, 8, 4, outcomes, 8, list, 8, numbers)) return 1; /* a check passed at day 4 */
   for (uint32_t i = 0; i < numbers[0]; i++) printf("day %u may have been altered\n", list[i]);
   return 0;
 }

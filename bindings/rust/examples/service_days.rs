@@ -203,7 +203,8 @@ fn print_reading(what: &str, days: &[&str], book: &[u8]) -> Answer<()> {
     }
     let d = u32::try_from(days.len())?;
     let checked = check_to_vecs(LAYOUT, d, ledger.as_bytes(), &ends, book)?;
-    let (reading, listed) = read_to_vec(LAYOUT, d, &checked.outcomes)?;
+    // no check passed before this one
+    let (reading, listed) = read_to_vec(LAYOUT, d, 0, &checked.outcomes)?;
     match reading {
         Reading::Clean { last_good } => println!("{what}: clean up to day {last_good}"),
         Reading::Changed { last_good, .. } => {

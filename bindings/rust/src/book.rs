@@ -143,7 +143,7 @@ pub enum Reading {
         listed: u32,
         /// The first day listed.
         first: u32,
-        /// The greater of D − F·N and the first day listed less 1.
+        /// The greater of the last day at which a check passed and the first day listed less 1.
         low: u32,
         /// D.
         high: u32,
@@ -188,28 +188,61 @@ impl Reading {
     }
 }
 
-/// Reads a table of outcomes: writes the days that may have been altered, ascending, to the front of
-/// `list`; the rest stays. The list must have `d` places, whatever it lists.
+/// The day of the validation before the one at `d`: D − F·N, 0 where there is none. As `passed` of
+/// [`read`] it supposes that this validation was made and passed; it is always allowed there.
 ///
 /// # Errors
 ///
-/// Refusals 1 2 3 7 8 12 13 14, the first in this order; the list is then as it was.
+/// Refusals 1 2 3 7, the first in this order.
+///
+/// ```
+/// use daybook::{validation_before, Layout, Refusal};
+///
+/// assert_eq!(validation_before(Layout::tile(16, 2), 64), Ok(32));
+/// assert_eq!(validation_before(Layout::tile(16, 2), 32), Ok(0));
+/// assert_eq!(validation_before(Layout::tile(16, 2), 48), Err(Refusal::BadD));
+/// ```
+pub fn validation_before(layout: Layout, d: u32) -> Result<u32, Refusal> {
+    values(layout, d)?;
+    Ok(d - layout.f * layout.n)
+}
+
+/// Reads a table of outcomes: writes the days that may have been altered, ascending, to the front of
+/// `list`; the rest stays. The list must have `d` places, whatever it lists.
+///
+/// `passed` is the last day at which a check really passed, 0 if none did: below `d`, and a multiple of
+/// N, not necessarily of F·N. Low rests on it, and nothing else. [`validation_before`] gives the day
+/// that it is where no validation was skipped.
+///
+/// # Errors
+///
+/// Refusals 1 2 3 7 19 8 12 13 14, the first in this order; the list is then as it was.
 ///
 /// ```
 /// use daybook::{read, Layout, Reading, Refusal};
 ///
 /// let mut list = [0; 8];
-/// let reading = read(Layout::tile(4, 1), 8, &[1, 1, 1, 1, 0, 0, 1, 0], &mut list)?;
+/// let outcomes = [1, 1, 1, 1, 0, 0, 1, 0];
+/// let reading = read(Layout::tile(4, 1), 8, 4, &outcomes, &mut list)?;
 /// assert_eq!(
 ///     reading,
 ///     Reading::Changed { listed: 2, first: 6, low: 5, high: 8, last_good: 4 }
 /// );
 /// assert_eq!(list[..2], [6, 8]);
+/// let refused = read(Layout::tile(4, 1), 8, 8, &outcomes, &mut list);
+/// assert_eq!(refused, Err(Refusal::BadPassed));
 /// # Ok::<(), Refusal>(())
 /// ```
-pub fn read(layout: Layout, d: u32, outcomes: &[u8], list: &mut [u32]) -> Result<Reading, Refusal> {
+pub fn read(
+    layout: Layout,
+    d: u32,
+    passed: u32,
+    outcomes: &[u8],
+    list: &mut [u32],
+) -> Result<Reading, Refusal> {
     let mut numbers = [0; 5];
-    Refusal::answer(ffi::read(layout.setting(), d, outcomes, list, &mut numbers))?;
+    let setting = layout.setting();
+    Refusal::answer(ffi::read(setting, d, passed, outcomes, list, &mut numbers))?;
     Ok(Reading::from_numbers(numbers))
 }
 
@@ -217,15 +250,15 @@ pub fn read(layout: Layout, d: u32, outcomes: &[u8], list: &mut [u32]) -> Result
 ///
 /// # Errors
 ///
-/// Refusals 1 2 3 7 12 13 14, the first in this order.
+/// Refusals 1 2 3 7 19 12 13 14, the first in this order.
 ///
 /// ```
 /// use daybook::{read_to_vec, Layout, Reading, Refusal};
 ///
-/// let (reading, days) = read_to_vec(Layout::tree(1), 2, &[1, 0, 0])?;
+/// let (reading, days) = read_to_vec(Layout::tree(1), 2, 1, &[1, 0, 0])?;
 /// assert!(!reading.is_clean());
 /// assert_eq!(days, [2]);
-/// let (reading, days) = read_to_vec(Layout::tree(1), 2, &[1, 1, 1])?;
+/// let (reading, days) = read_to_vec(Layout::tree(1), 2, 1, &[1, 1, 1])?;
 /// assert_eq!(reading, Reading::Clean { last_good: 2 });
 /// assert_eq!(days, []);
 /// # Ok::<(), Refusal>(())
@@ -233,11 +266,12 @@ pub fn read(layout: Layout, d: u32, outcomes: &[u8], list: &mut [u32]) -> Result
 pub fn read_to_vec(
     layout: Layout,
     d: u32,
+    passed: u32,
     outcomes: &[u8],
 ) -> Result<(Reading, Vec<u32>), Refusal> {
     values(layout, d)?;
     let mut list = vec![0; d as usize];
-    let reading = read(layout, d, outcomes, &mut list)?;
+    let reading = read(layout, d, passed, outcomes, &mut list)?;
     list.truncate(reading.numbers()[0] as usize);
     Ok((reading, list))
 }

@@ -55,6 +55,7 @@ mod c {
             n: u32,
             f: u32,
             d: u32,
+            passed: u32,
             outcomes: *const u8,
             outcomes_len: usize,
             list: *mut u32,
@@ -181,6 +182,7 @@ pub fn check(
 pub fn read(
     (scheme, n, f): Setting,
     d: u32,
+    passed: u32,
     outcomes: &[u8],
     list: &mut [u32],
     numbers: &mut [u32; 5],
@@ -192,6 +194,7 @@ pub fn read(
             n,
             f,
             d,
+            passed,
             outcomes.as_ptr(),
             outcomes.len(),
             list.as_mut_ptr(),

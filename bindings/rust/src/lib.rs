@@ -24,7 +24,7 @@
 //! let ledger = b"rye 12oats 7wheat 40barley 9";
 //! let ends = [6, 12, 20, 28];
 //! let checked = check_to_vecs(layout, 4, ledger, &ends, &book)?;
-//! let (reading, days) = read_to_vec(layout, 4, &checked.outcomes)?;
+//! let (reading, days) = read_to_vec(layout, 4, 0, &checked.outcomes)?; // no check passed before
 //! assert!(!reading.is_clean());
 //! assert_eq!(days, [4]);
 //! # Ok::<(), Refusal>(())
@@ -44,7 +44,8 @@ mod service;
 mod sizing;
 
 pub use book::{
-    check, check_to_vecs, read, read_to_vec, seal, seal_to_vec, values, Checked, Reading,
+    check, check_to_vecs, read, read_to_vec, seal, seal_to_vec, validation_before, values, Checked,
+    Reading,
 };
 pub use layout::Layout;
 pub use positions::{chain_at, position_of, Chain, Kind};

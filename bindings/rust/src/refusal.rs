@@ -49,11 +49,13 @@ pub enum Refusal {
     LongDay = 17,
     /// The position is not below the number of values, or no chain of the book is the one given.
     NotInBook = 18,
+    /// The day of the last passed check is not below D, or N does not divide it.
+    BadPassed = 19,
 }
 
 impl Refusal {
     /// Every refusal, by number. 15 is one of the program `readtable` and of no call.
-    pub const ALL: [Refusal; 17] = [
+    pub const ALL: [Refusal; 18] = [
         Refusal::BadScheme,
         Refusal::BadN,
         Refusal::BadF,
@@ -71,9 +73,10 @@ impl Refusal {
         Refusal::FewLengths,
         Refusal::LongDay,
         Refusal::NotInBook,
+        Refusal::BadPassed,
     ];
 
-    /// The number of the cause: 1 to 14, or 16 to 18.
+    /// The number of the cause: 1 to 14, or 16 to 19.
     #[must_use]
     pub const fn number(self) -> u32 {
         self as u32
@@ -131,6 +134,9 @@ impl Refusal {
             Refusal::FewLengths => "there are fewer than D lengths of days",
             Refusal::LongDay => "the length of a day is over 16,777,216 bytes",
             Refusal::NotInBook => "the book has no such position or chain",
+            Refusal::BadPassed => {
+                "the day of the last passed check is not below D, or N does not divide it"
+            }
         }
     }
 }
@@ -148,9 +154,9 @@ mod tests {
     use super::*;
 
     #[test]
-    fn numbers_are_1_to_18_without_15() {
+    fn numbers_are_1_to_19_without_15() {
         let numbers: Vec<u32> = Refusal::ALL.into_iter().map(Refusal::number).collect();
-        assert_eq!(numbers, (1..=14).chain(16..=18).collect::<Vec<u32>>());
+        assert_eq!(numbers, (1..=14).chain(16..=19).collect::<Vec<u32>>());
     }
 
     #[test]
@@ -160,7 +166,7 @@ mod tests {
             assert_eq!(Refusal::answer(refusal.number()), Err(refusal));
         }
         assert_eq!(Refusal::answer(0), Ok(()));
-        for number in [0, 15, 19, u32::MAX] {
+        for number in [0, 15, 20, u32::MAX] {
             assert_eq!(Refusal::from_number(number), None);
         }
     }

@@ -383,23 +383,27 @@ fn service(name: &str, closed: u32) -> Folder {
     folder
 }
 
+/// What is said of low where the folder keeps no day as verified clean.
+const NONE_KEPT: &str = "daybook: note: low supposes that the validation at day 4 was made and \
+    passed; this folder keeps no day below 8 as verified clean; --passed kept takes 0";
+
 #[test]
 fn names_of_a_state() {
     let folder = service("state", 8);
     let lines = |name: &str| format!("REF,3,1,3,4,8,0\nDAY,3{name}\n");
     let verify = "verify --state s --days in";
-    said(&folder, verify, (1, &lines("")), &[]);
+    said(&folder, verify, (1, &lines("")), &[NONE_KEPT]);
     let named = format!("{verify} --names --figure=out.svg");
-    said(&folder, &named, (1, &lines(",day-03")), &[]);
+    said(&folder, &named, (1, &lines(",day-03")), &[NONE_KEPT]);
     assert!(folder.file("out.svg").is_file());
     // without a folder the names are those of the index
     let verify = "verify --state s --ledger ledger --ends ends --names";
-    said(&folder, verify, (1, &lines(",in/day-03")), &[]);
+    said(&folder, verify, (1, &lines(",in/day-03")), &[NONE_KEPT]);
     run(&folder, "check --state s --days in --outcomes table");
     let read = "read --state s --outcomes table --names";
-    said(&folder, read, (1, &lines(",in/day-03")), &[]);
+    said(&folder, read, (1, &lines(",in/day-03")), &[NONE_KEPT]);
     let read = "read --state s --outcomes table --names --days in";
-    said(&folder, read, (1, &lines(",day-03")), &[]);
+    said(&folder, read, (1, &lines(",day-03")), &[NONE_KEPT]);
     let (status, _, messages) = run(&folder, "verify --state s --days in --figure s/new.svg");
     assert_eq!(status, 3, "{messages}");
 }
@@ -417,6 +421,7 @@ fn days_that_are_not_those_of_a_state() {
             "daybook: note: 9 files found, from .lock to day-08; 8 days are closed",
             "daybook: note: not named as the others are: .lock",
             "daybook: note: day 1 was sealed from in/day-01, and is the file .lock here",
+            NONE_KEPT,
         ]
     );
     fs::remove_file(folder.file("in/.lock")).unwrap();
@@ -453,7 +458,7 @@ fn the_commands_of_the_readme() {
         .lines()
         .filter_map(|line| line.strip_prefix("    daybook "));
     let lines: Vec<&str> = lines.map(|line| line.split('#').next().unwrap()).collect();
-    assert_eq!(lines.len(), 8);
+    assert_eq!(lines.len(), 9);
     let mut out = String::new();
     for line in lines {
         let ran = run(&folder, line);

@@ -3,7 +3,10 @@
 mod common;
 
 use common::{altered, book, chains, day, days, hex, ledger, listing, sha256, table};
-use daybook::{check_to_vecs, read_to_vec, seal_to_vec, values, Layout, Reading, Refusal, Service};
+use daybook::{
+    check_to_vecs, read_to_vec, seal_to_vec, validation_before, values, Layout, Reading, Refusal,
+    Service,
+};
 
 /// Every layout with N up to 8, and a D for it.
 fn layouts() -> Vec<(Layout, u32)> {
@@ -105,7 +108,7 @@ fn every_day_altered_alone() {
             let (ledger, ends) = ledger(&altered(&before, &[changed]));
             let checked = check_to_vecs(layout, d, &ledger, &ends, &book).unwrap();
             assert_eq!(checked.outcomes, table(layout, d, &[changed]));
-            let (reading, listed) = read_to_vec(layout, d, &checked.outcomes).unwrap();
+            let (reading, listed) = read_01(layout, d, &checked.outcomes).unwrap();
             assert!(!reading.is_clean());
             assert!(listed.contains(&changed), "{layout}, D {d}, day {changed}");
         }
@@ -127,7 +130,7 @@ fn every_table_of_few_days() {
         let count = chains(layout, d).len();
         for bits in 0..1u32 << count {
             let outcomes: Vec<u8> = (0..count).map(|k| (bits >> k & 1) as u8).collect();
-            let read = read_to_vec(layout, d, &outcomes).map(|(_, listed)| listed);
+            let read = read_01(layout, d, &outcomes).map(|(_, listed)| listed);
             let expected = listing(layout, d, &outcomes).ok_or(Refusal::ImpossibleTable);
             assert_eq!(read, expected, "{layout}, D {d}, {outcomes:?}");
         }
@@ -136,12 +139,22 @@ fn every_table_of_few_days() {
 
 /// Seals days, alters some, checks and reads: all by real hashes.
 fn found(layout: Layout, d: u32, changed: &[u32]) -> (Reading, Vec<u32>) {
+    read_01(layout, d, &outcomes_of(layout, d, changed)).unwrap()
+}
+
+/// The outcomes of a check after some days were altered.
+fn outcomes_of(layout: Layout, d: u32, changed: &[u32]) -> Vec<u8> {
     let before = days(d);
     let (bytes, ends) = ledger(&before);
     let book = seal_to_vec(layout, d, &bytes, &ends).unwrap();
     let (bytes, ends) = ledger(&altered(&before, changed));
     let checked = check_to_vecs(layout, d, &bytes, &ends, &book).unwrap();
-    read_to_vec(layout, d, &checked.outcomes).unwrap()
+    checked.outcomes
+}
+
+/// Reads as 01 does: the validation before was made and passed.
+fn read_01(layout: Layout, d: u32, outcomes: &[u8]) -> Result<(Reading, Vec<u32>), Refusal> {
+    read_to_vec(layout, d, validation_before(layout, d)?, outcomes)
 }
 
 #[test]
@@ -158,6 +171,45 @@ fn the_figure_of_001() {
             last_good: 16
         }
     );
+}
+
+/// The figure where validations were skipped: low alone goes by the last one that passed.
+#[test]
+fn the_figure_with_skipped_validations() {
+    let layout = Layout::tile(16, 2);
+    let outcomes = outcomes_of(layout, 64, &[19, 20, 27]);
+    for (passed, low) in [(0, 18), (16, 18), (32, 32), (48, 48)] {
+        let (reading, listed) = read_to_vec(layout, 64, passed, &outcomes).unwrap();
+        assert_eq!(reading.numbers(), [8, 19, low, 64, 16], "P {passed}");
+        assert_eq!(listed, [19, 20, 23, 24, 27, 28, 31, 32]);
+    }
+}
+
+/// Whatever passed before: one day altered, and none.
+#[test]
+fn low_with_every_day_of_a_passed_check() {
+    for (layout, d) in layouts() {
+        let clean = vec![1; values(layout, d).unwrap() as usize];
+        let before = validation_before(layout, d).unwrap();
+        assert!(read_to_vec(layout, d, before, &clean).is_ok());
+        for passed in 0..d + layout.n + 1 {
+            let allowed = passed < d && passed.is_multiple_of(layout.n);
+            let answer = read_to_vec(layout, d, passed, &clean);
+            let expected = match allowed {
+                true => Ok((Reading::Clean { last_good: d }, vec![])),
+                false => Err(Refusal::BadPassed),
+            };
+            assert_eq!(answer, expected, "{layout}, D {d}, P {passed}");
+            for changed in (1..=d).filter(|_| allowed) {
+                let outcomes = table(layout, d, &[changed]);
+                let (reading, listed) = read_to_vec(layout, d, passed, &outcomes).unwrap();
+                let [_, first, low, high, _] = reading.numbers();
+                assert_eq!((low, high), (passed.max(first - 1), d));
+                let as_01 = read_01(layout, d, &outcomes).unwrap();
+                assert_eq!(listed, as_01.1);
+            }
+        }
+    }
 }
 
 #[test]
@@ -178,7 +230,7 @@ fn the_other_examples() {
 
 #[test]
 fn tables_of_the_paper() {
-    let listed = |layout, d, table: &[u8]| read_to_vec(layout, d, table).map(|(_, days)| days);
+    let listed = |layout, d, table: &[u8]| read_01(layout, d, table).map(|(_, days)| days);
     let impossible = Err(Refusal::ImpossibleTable);
     assert_eq!(listed(Layout::tile(1, 1), 1, &[0, 0]), Ok(vec![1]));
     assert_eq!(listed(Layout::tile(4, 1), 4, &[0, 1, 1, 0]), Ok(vec![4]));

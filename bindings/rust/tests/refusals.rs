@@ -5,7 +5,7 @@ mod common;
 use common::{day, ledger};
 use daybook::{
     chain_at, check, check_to_vecs, forecast, position_of, read, read_to_vec, seal, seal_to_vec,
-    values, Chain, Kind, Layout, Refusal, Service, RECORD,
+    validation_before, values, Chain, Kind, Layout, Refusal, Service, RECORD,
 };
 
 /// Settings that are not allowed, with their refusal. Where two causes meet, the first test tells.
@@ -60,8 +60,9 @@ fn settings_by_every_call() {
         let checked = check(layout, 0, &[], &[], &[], &mut [], &mut []);
         assert_eq!(checked, Err(refusal));
         assert_eq!(check_to_vecs(layout, 0, &[], &[], &[]), Err(refusal));
-        assert_eq!(read(layout, 0, &[], &mut []), Err(refusal));
-        assert_eq!(read_to_vec(layout, 0, &[]), Err(refusal));
+        assert_eq!(read(layout, 0, 0, &[], &mut []), Err(refusal));
+        assert_eq!(read_to_vec(layout, 0, 0, &[]), Err(refusal));
+        assert_eq!(validation_before(layout, 0), Err(refusal));
         assert_eq!(forecast(layout, 0, &[]), Err(refusal));
         assert_eq!(chain_at(layout, 0, u32::MAX), Err(refusal));
         assert_eq!(position_of(layout, 0, NOWHERE), Err(refusal));
@@ -89,8 +90,11 @@ fn numbers_of_days_by_every_call() {
         let checked = check(LAYOUT, d, &[], &[], &[], &mut [], &mut []);
         assert_eq!(checked, Err(refusal));
         assert_eq!(check_to_vecs(LAYOUT, d, &[], &[], &[]), Err(refusal));
-        assert_eq!(read(LAYOUT, d, &[], &mut []), Err(refusal));
-        assert_eq!(read_to_vec(LAYOUT, d, &[]), Err(refusal));
+        for passed in [0, 3, d, u32::MAX] {
+            assert_eq!(read(LAYOUT, d, passed, &[], &mut []), Err(refusal));
+            assert_eq!(read_to_vec(LAYOUT, d, passed, &[]), Err(refusal));
+        }
+        assert_eq!(validation_before(LAYOUT, d), Err(refusal));
         assert_eq!(forecast(LAYOUT, d, &[u32::MAX; 3]), Err(refusal));
         assert_eq!(chain_at(LAYOUT, d, u32::MAX), Err(refusal));
         assert_eq!(position_of(LAYOUT, d, NOWHERE), Err(refusal));
@@ -284,7 +288,7 @@ fn check_reads_and_writes_no_more_than_its_need() {
 fn lists_and_outcomes() {
     let refused = |outcomes: &[u8], places: usize| {
         let mut list = vec![77; places];
-        let refusal = read(LAYOUT, D, outcomes, &mut list).unwrap_err();
+        let refusal = read(LAYOUT, D, 4, outcomes, &mut list).unwrap_err();
         assert_eq!(list, vec![77; places]);
         refusal
     };
@@ -301,13 +305,40 @@ fn lists_and_outcomes() {
         refused(&[1, 1, 1, 0, 1, 1, 1, 0], 8),
         Refusal::ImpossibleTable
     );
-    assert_eq!(read_to_vec(LAYOUT, D, &[1; 7]), Err(Refusal::FewOutcomes));
-    assert_eq!(read_to_vec(LAYOUT, D, &[3; 8]), Err(Refusal::BadOutcome));
+    let few = read_to_vec(LAYOUT, D, 0, &[1; 7]);
+    assert_eq!(few, Err(Refusal::FewOutcomes));
+    let bad = read_to_vec(LAYOUT, D, 0, &[3; 8]);
+    assert_eq!(bad, Err(Refusal::BadOutcome));
     let outcomes = [0, 1, 1, 1, 1, 1, 1, 1];
     assert_eq!(
-        read_to_vec(LAYOUT, D, &outcomes),
+        read_to_vec(LAYOUT, D, 0, &outcomes),
         Err(Refusal::ImpossibleTable)
     );
+}
+
+#[test]
+fn days_of_the_last_passed_check() {
+    let read_with = |passed, outcomes: &[u8], places: usize| {
+        let mut list = vec![77; places];
+        let answer = read(LAYOUT, D, passed, outcomes, &mut list);
+        assert_eq!(list, vec![77; places]);
+        answer.map(|reading| reading.numbers())
+    };
+    let bad = Err(Refusal::BadPassed);
+    // below D and a multiple of N; 4 is none of F·N
+    for passed in [0, 4] {
+        assert_eq!(read_with(passed, &[1; 8], 8), Ok([0, 0, 0, 0, 8]));
+    }
+    for passed in [1, 2, 3, 5, 7, 8, 9, 12, 65_536, 1 << 31, u32::MAX] {
+        assert_eq!(read_with(passed, &[1; 8], 8), bad, "{passed}");
+        // before 8, 12, 13 and 14
+        assert_eq!(read_with(passed, &[1; 8], 7), bad, "{passed}");
+        assert_eq!(read_with(passed, &[], 0), bad, "{passed}");
+        assert_eq!(read_with(passed, &[2; 8], 8), bad, "{passed}");
+        assert_eq!(read_with(passed, &[0, 1, 1, 1, 1, 1, 1, 1], 8), bad);
+        let refused = read_to_vec(LAYOUT, D, passed, &[]);
+        assert_eq!(refused, Err(Refusal::BadPassed));
+    }
 }
 
 #[test]
@@ -315,11 +346,11 @@ fn read_reads_and_writes_no_more_than_its_need() {
     // day 8 alone: offset 3 of the second tile
     let outcomes = [1, 1, 1, 1, 0, 1, 1, 0, 9, 9];
     let mut list = [77; 10];
-    let reading = read(LAYOUT, D, &outcomes, &mut list).unwrap();
+    let reading = read(LAYOUT, D, 0, &outcomes, &mut list).unwrap();
     assert_eq!(reading.numbers(), [1, 8, 7, 8, 4]);
     assert_eq!(list, [8, 77, 77, 77, 77, 77, 77, 77, 77, 77]);
     let mut list = [77; 8];
-    let reading = read(LAYOUT, D, &[1; 8], &mut list).unwrap();
+    let reading = read(LAYOUT, D, 4, &[1; 8], &mut list).unwrap();
     assert_eq!(reading.numbers(), [0, 0, 0, 0, 8]);
     assert_eq!(list, [77; 8]);
 }

@@ -194,12 +194,12 @@ fn what_status_prints() {
     said(&folder, "add s --day 4 --at 0 d1 d2", "day 4 has 21 bytes");
     assert_eq!(
         status(&folder),
-        "scheme 2\nn 2\nf 1\ndays 3\nopen 21\nvalues 3\ncheckable 2\ninterrupted no\n"
+        "scheme 2\nn 2\nf 1\ndays 3\nopen 21\nvalues 3\ncheckable 2\ninterrupted no\nclean 0\n"
     );
     let before = tree(folder.path());
     fs::write(folder.file("s/record.new"), "half").unwrap();
     let (_, out, messages) = run(&folder, "status s");
-    assert!(out.ends_with("interrupted yes\n"), "{out}");
+    assert!(out.ends_with("interrupted yes\nclean 0\n"), "{out}");
     assert!(messages.contains("s/record.new"), "{messages}");
     fs::remove_file(folder.file("s/record.new")).unwrap();
     assert_eq!(tree(folder.path()), before);
@@ -570,10 +570,11 @@ fn tails_are_cut_back() {
     tail("s/index", b"5,11,half a line");
     tail("s/day-5", b"a piece that was not committed");
     fs::write(folder.file("s/record.new"), "half a record").unwrap();
+    fs::write(folder.file("s/clean.new"), "half a line").unwrap();
     fs::write(folder.file("s/day-3"), "of another day").unwrap();
     // looking changes nothing
     let left = tree(folder.path());
-    assert!(status(&folder).ends_with("interrupted yes\n"));
+    assert!(status(&folder).ends_with("interrupted yes\nclean 0\n"));
     assert_eq!(tree(folder.path()), left);
     fault(&folder, "add s --day 5 --at 12 d3", "gap");
     // a repeat and a step cut back

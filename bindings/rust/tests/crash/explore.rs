@@ -22,6 +22,8 @@ pub struct Step {
     others: Vec<String>,
     /// What must hold of the files at every stop.
     holds: fn(&Tree) -> bool,
+    /// Whether a run may end with 0 and leave the state as it was, where a call fails.
+    spared: bool,
 }
 
 impl Step {
@@ -31,11 +33,18 @@ impl Step {
             look: look.to_string(),
             others: Vec::new(),
             holds: |_| true,
+            spared: false,
         }
     }
 
     pub fn or_next(mut self, others: &[&str]) -> Step {
         self.others = others.iter().map(|line| line.to_string()).collect();
+        self
+    }
+
+    /// The run's answer does not hang on what it writes.
+    pub fn spared(mut self) -> Step {
+        self.spared = true;
         self
     }
 
@@ -257,7 +266,10 @@ impl Bench {
         after: &Tree,
         how: &str,
     ) -> Vec<String> {
-        let done = self.look(after, step);
+        let mut good = vec![self.look(after, step)];
+        if step.spared {
+            good.push(self.look(start, step));
+        }
         let mut differences = Vec::new();
         for call in 1..=calls as u64 {
             let where_ = format!("{how} at call {call}");
@@ -266,7 +278,7 @@ impl Bench {
             let left = tree(&self.root);
             match ran.status {
                 Some(3) => {}
-                Some(0) if self.look(&left, step) == done => {}
+                Some(0) if good.contains(&self.look(&left, step)) => {}
                 status => differences.push(format!("{where_}: status {status:?}")),
             }
             put(&self.root, &left);

@@ -134,6 +134,53 @@ fn a_service_under_tiles() {
     explore_all(&bench, start, &service(&lines));
 }
 
+/// The files of four days, and the steps that close them.
+fn four_days() -> (Tree, Vec<String>) {
+    let mut start = Tree::new();
+    start.insert("in".to_string(), None);
+    for day in ["1", "2", "3", "4"] {
+        file(&mut start, &format!("in/{day}"), day);
+    }
+    let mut lines = vec!["open s --scheme 2 --n 2 --f 1".to_string()];
+    lines.extend((1..=4).map(|day| format!("close s --day {day} in/{day}")));
+    (start, lines)
+}
+
+/// Four days, closed.
+fn four_closed(bench: &Bench) -> Tree {
+    let (start, lines) = four_days();
+    let closed = |start: Tree, line: &String| bench.traced(&start, &Step::new(line, "")).1;
+    lines.iter().fold(start, closed)
+}
+
+/// Days that verified clean: the file is the old one or the new one, whatever stops the run.
+#[test]
+#[ignore = "run by .ci/crash"]
+fn clean_days() {
+    let bench = bench("daybook-clean", PROGRAM);
+    let whole = |tree: &Tree| match tree.get("s/clean") {
+        Some(Some(text)) => text.ends_with(b"\n"),
+        _ => true,
+    };
+    let others = [
+        "add s --day 5 --at 0 in/1",
+        "close s --day 5 in/2",
+        "close s --day 4 in/4",
+    ];
+    let step = |line: &str| Step::new(line, "status s").holding(whole).spared();
+    let verify = "verify --state s --days in";
+    let fewer = "verify --state s --days in --d 2";
+    let check = "check --state s --days in --outcomes table";
+    let closed = four_closed(&bench);
+    let steps = [
+        step(verify).or_next(&[&others[..], &[fewer]].concat()),
+        step(verify).or_next(&others),
+        step(fewer).or_next(&others),
+    ];
+    explore_all(&bench, closed.clone(), &steps);
+    explore_all(&bench, closed, &[step(check)]);
+}
+
 /// Outcomes and digests: where both are there, they are of one run.
 #[test]
 #[ignore = "run by .ci/crash"]
@@ -266,6 +313,13 @@ fn wrong_orders_are_found() {
 fn each_sync_counts() {
     let bench = bench("syncs", PROGRAM);
     let mut start = sources();
+    let verified = Step::new("verify --state s --days in", "status s").spared();
+    syncs_count(
+        &bench,
+        &four_closed(&bench),
+        &verified,
+        &["s/clean.new", "s"],
+    );
     for (line, syncs) in [
         (
             "open s --scheme 3 --n 2 --f 1",
@@ -281,34 +335,39 @@ fn each_sync_counts() {
         ),
     ] {
         let step = Step::new(line, "status s");
-        let (calls, after) = bench.traced(&start, &step);
-        assert!(bench.power_cuts(&start, &step, &calls, &after).is_empty());
-        for sync in syncs {
-            let left_out = |call: &Call| match call {
-                Call::Sync(path) if sync.is_empty() => path.is_empty(),
-                Call::Sync(path) => path.ends_with(sync),
-                _ => false,
-            };
-            let others: Vec<Call> = calls
-                .iter()
-                .filter(|call| !left_out(call))
-                .cloned()
-                .collect();
-            assert!(others.len() < calls.len(), "{line} has no sync of {sync}");
-            let found = bench.power_cuts(&start, &step, &others, &after);
-            assert!(
-                !found.is_empty(),
-                "{line}: the sync of {sync} has no weight"
-            );
-        }
-        // a repeat that finds its step done must flush the folder too
-        let flushed =
-            |call: &Call| !matches!(call, Call::Sync(path) if path.is_empty() || path == "s");
-        let found = bench.power_cuts_after_repeats(&start, &step, &calls, &after, flushed);
-        assert!(!found.is_empty(), "{line}: a repeat's flush has no weight");
-        start = after;
+        start = syncs_count(&bench, &start, &step, syncs);
     }
-    println!("crash: each flush of open, add and close that is left out is found");
+    println!("crash: each flush of open, add, close and verify that is left out is found");
+}
+
+/// Each of these syncs of a step counts, and so does that of a repeat. Gives what the step leaves.
+fn syncs_count(bench: &Bench, start: &Tree, step: &Step, syncs: &[&str]) -> Tree {
+    let line = &step.line;
+    let (calls, after) = bench.traced(start, step);
+    assert!(bench.power_cuts(start, step, &calls, &after).is_empty());
+    for sync in syncs {
+        let left_out = |call: &Call| match call {
+            Call::Sync(path) if sync.is_empty() => path.is_empty(),
+            Call::Sync(path) => path.ends_with(sync),
+            _ => false,
+        };
+        let others: Vec<Call> = calls
+            .iter()
+            .filter(|call| !left_out(call))
+            .cloned()
+            .collect();
+        assert!(others.len() < calls.len(), "{line} has no sync of {sync}");
+        let found = bench.power_cuts(start, step, &others, &after);
+        assert!(
+            !found.is_empty(),
+            "{line}: the sync of {sync} has no weight"
+        );
+    }
+    // a repeat that finds its step done must flush the folder too
+    let flushed = |call: &Call| !matches!(call, Call::Sync(path) if path.is_empty() || path == "s");
+    let found = bench.power_cuts_after_repeats(start, step, &calls, &after, flushed);
+    assert!(!found.is_empty(), "{line}: a repeat's flush has no weight");
+    after
 }
 
 /// Numbers from a fixed seed (xorshift).

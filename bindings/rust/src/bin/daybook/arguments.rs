@@ -2,12 +2,12 @@
 
 use std::ffi::{OsStr, OsString};
 use std::os::unix::ffi::OsStringExt;
-use std::path::PathBuf;
+use std::path::{Path, PathBuf};
 
 use daybook::{Chain, Kind, Layout};
 
 use crate::help;
-use crate::state::{Sealed, Service};
+use crate::state::{Kept, Sealed, Service};
 use crate::stop::Stop;
 
 #[derive(Debug, PartialEq, Eq)]
@@ -36,25 +36,31 @@ pub enum Command {
         outcomes: PathBuf,
         digests: Option<PathBuf>,
         sealed: Vec<String>,
+        kept: Option<Box<Kept>>,
     },
     Read {
         layout: Layout,
         d: u32,
+        passed: Passed,
         outcomes: PathBuf,
         /// The folder of days, for their names alone.
         days: Option<PathBuf>,
         names: bool,
         sealed: Vec<String>,
+        kept: Option<Box<Kept>>,
     },
     Verify {
         layout: Layout,
         d: Option<u32>,
+        passed: Passed,
         source: Source,
         book: PathBuf,
         names: bool,
         figure: Option<PathBuf>,
         /// The names of the closed days in the state folder's index; none without one.
         sealed: Vec<String>,
+        /// What the state folder keeps of days that verified clean.
+        kept: Option<Box<Kept>>,
     },
     Forecast {
         layout: Layout,
@@ -70,6 +76,14 @@ pub enum Command {
         /// Whether position and chain are one line for programs.
         line: bool,
     },
+}
+
+/// The last day at which a check passed, 0 for none.
+#[derive(Clone, Copy, Debug, PartialEq, Eq)]
+pub enum Passed {
+    /// It is not given: the validation before D is supposed to have passed.
+    Before,
+    Day(u32),
 }
 
 /// What is given of a value of the book, and the rest is sought.
@@ -153,6 +167,7 @@ const FORMS: [Form; 10] = [
             "--f",
             "--d",
             "--state",
+            "--passed",
             "--outcomes",
             "--days",
             "--names",
@@ -164,7 +179,7 @@ const FORMS: [Form; 10] = [
         help::VERIFY,
         &[
             "--scheme", "--n", "--f", "--d", "--days", "--ledger", "--ends", "--book", "--state",
-            "--names", "--figure",
+            "--passed", "--names", "--figure",
         ],
         verify,
     ),
@@ -257,7 +272,7 @@ fn seal(options: &mut Options) -> Result<Command, Stop> {
 }
 
 fn check(options: &mut Options) -> Result<Command, Stop> {
-    options.use_state()?;
+    options.use_state(Sealed::with_kept)?;
     Ok(Command::Check {
         layout: options.layout()?,
         d: options.number("--d")?,
@@ -266,31 +281,36 @@ fn check(options: &mut Options) -> Result<Command, Stop> {
         outcomes: options.needed_path("--outcomes")?,
         digests: options.path("--digests"),
         sealed: options.sealed.take().unwrap_or_default(),
+        kept: options.kept.take(),
     })
 }
 
 fn read(options: &mut Options) -> Result<Command, Stop> {
-    options.use_state()?;
+    options.use_state(Sealed::with_kept)?;
     Ok(Command::Read {
         layout: options.layout()?,
         d: options.needed_number("--d")?,
+        passed: options.passed()?,
         outcomes: options.needed_path("--outcomes")?,
         names: options.names()?,
         days: options.path("--days"),
         sealed: options.sealed.take().unwrap_or_default(),
+        kept: options.kept.take(),
     })
 }
 
 fn verify(options: &mut Options) -> Result<Command, Stop> {
-    options.use_state()?;
+    options.use_state(Sealed::with_kept)?;
     Ok(Command::Verify {
         layout: options.layout()?,
         d: options.number("--d")?,
+        passed: options.passed()?,
         names: options.names()?,
         figure: options.path("--figure"),
         source: options.source()?,
         book: options.needed_path("--book")?,
         sealed: options.sealed.take().unwrap_or_default(),
+        kept: options.kept.take(),
     })
 }
 
@@ -305,7 +325,7 @@ fn forecast(options: &mut Options) -> Result<Command, Stop> {
 
 fn locate(options: &mut Options) -> Result<Command, Stop> {
     let sought = options.sought()?;
-    options.use_state()?;
+    options.use_state(Sealed::of)?;
     Ok(Command::Locate {
         layout: options.layout()?,
         d: options.needed_number("--d")?,
@@ -351,7 +371,12 @@ struct Options {
     words: Vec<OsString>,
     /// The names of the days in the state folder's index, where there is a state folder.
     sealed: Option<Vec<String>>,
+    /// What it keeps of days that verified clean, where the command asks for it.
+    kept: Option<Box<Kept>>,
 }
+
+/// How a state folder is read, D being the one given.
+type Reader = fn(&Path, Option<u32>) -> Result<Sealed, Stop>;
 
 impl Options {
     /// Reads the words as options with values; none where one of them asks for help.
@@ -365,6 +390,7 @@ impl Options {
             given: Vec::new(),
             words: Vec::new(),
             sealed: None,
+            kept: None,
         };
         while let Some(word) = words.next() {
             if word == "--help" || word == "-h" {
@@ -412,16 +438,8 @@ impl Options {
     }
 
     fn number(&mut self, name: &str) -> Result<Option<u32>, Stop> {
-        let Some(value) = self.take(name) else {
-            return Ok(None);
-        };
-        match value.to_str().and_then(number) {
-            Some(number) => Ok(Some(number)),
-            None => Err(usage(&format!(
-                "{name} {} is not a number from 0 to 4294967295 in plain digits",
-                value.display()
-            ))),
-        }
+        let value = self.take(name);
+        value.map(|value| number_of(name, &value)).transpose()
     }
 
     fn needed_number(&mut self, name: &str) -> Result<u32, Stop> {
@@ -451,8 +469,20 @@ impl Options {
         }
     }
 
+    /// The day of the last check that passed: a number, or the one that the state folder keeps.
+    fn passed(&mut self) -> Result<Passed, Stop> {
+        let Some(value) = self.take("--passed") else {
+            return Ok(Passed::Before);
+        };
+        match &self.kept {
+            Some(kept) if value == "kept" => Ok(Passed::Day(kept.before)),
+            None if value == "kept" => Err(usage("--passed kept needs --state")),
+            _ => number_of("--passed", &value).map(Passed::Day),
+        }
+    }
+
     /// Takes layout, number of days and book from the state folder, as if they had been given.
-    fn use_state(&mut self) -> Result<(), Stop> {
+    fn use_state(&mut self, read: Reader) -> Result<(), Stop> {
         let Some(folder) = self.path("--state") else {
             return Ok(());
         };
@@ -461,7 +491,7 @@ impl Options {
                 return Err(usage(&format!("--state has what {name} gives: not both")));
             }
         }
-        let sealed = Sealed::of(&folder, self.number("--d")?)?;
+        let sealed = read(&folder, self.number("--d")?)?;
         let Layout { scheme, n, f } = sealed.layout;
         for (name, number) in [
             ("--scheme", scheme),
@@ -473,6 +503,7 @@ impl Options {
         }
         self.given.push(("--book", sealed.book.into()));
         self.sealed = Some(sealed.names);
+        self.kept = sealed.kept;
         Ok(())
     }
 
@@ -599,6 +630,16 @@ fn is_value(word: &OsString) -> bool {
     !word.is_empty() && !word.as_encoded_bytes().starts_with(b"--")
 }
 
+/// The number that an option has.
+fn number_of(name: &str, value: &OsStr) -> Result<u32, Stop> {
+    value.to_str().and_then(number).ok_or_else(|| {
+        usage(&format!(
+            "{name} {} is not a number from 0 to 4294967295 in plain digits",
+            value.display()
+        ))
+    })
+}
+
 /// A 32-bit number in digits, with no sign and no leading zero.
 fn number(text: &str) -> Option<u32> {
     let digits = text.bytes().all(|byte| byte.is_ascii_digit());
@@ -657,6 +698,7 @@ mod tests {
                 outcomes: "o".into(),
                 digests: None,
                 sealed: vec![],
+                kept: None,
             }))
         );
         assert_eq!(
@@ -664,10 +706,12 @@ mod tests {
             Ok(Request::Run(Command::Read {
                 layout,
                 d: u32::MAX,
+                passed: Passed::Before,
                 outcomes: "o".into(),
                 days: None,
                 names: false,
                 sealed: vec![],
+                kept: None,
             }))
         );
         assert_eq!(
@@ -675,13 +719,41 @@ mod tests {
             Ok(Request::Run(Command::Verify {
                 layout,
                 d: None,
+                passed: Passed::Before,
                 source: Source::Folder("in".into()),
                 book: "b".into(),
                 names: true,
                 figure: None,
                 sealed: vec![],
+                kept: None,
             }))
         );
+    }
+
+    #[test]
+    fn days_of_the_last_passed_check() {
+        let verify = "verify --scheme 2 --n 16 --f 2 --days in --book b";
+        let read = "read --scheme 2 --n 16 --f 2 --d 64 --outcomes o";
+        for line in [verify, read] {
+            for (word, day) in [("0", 0), ("48", 48), ("4294967295", u32::MAX)] {
+                let given = parsed(&format!("{line} --passed {word}"));
+                let Ok(Request::Run(Command::Verify { passed, .. } | Command::Read { passed, .. })) =
+                    given
+                else {
+                    panic!("{line}: {given:?}");
+                };
+                assert_eq!(passed, Passed::Day(day));
+            }
+            let said = |word: &str| message(&format!("{line} --passed {word}"));
+            assert_eq!(said("kept"), "--passed kept needs --state");
+            assert_eq!(said(""), "--passed has no value");
+            for word in ["-1", "048", "4294967296", "Kept", "last"] {
+                let text = format!("--passed {word} is not a number from 0");
+                assert!(said(word).starts_with(&text), "{word}");
+            }
+        }
+        assert_eq!(message("check --passed 0"), "check has no option --passed");
+        assert_eq!(message("seal --passed 0"), "seal has no option --passed");
     }
 
     #[test]
@@ -876,11 +948,13 @@ mod tests {
             Ok(Request::Run(Command::Verify {
                 layout: Layout::tile(16, 2),
                 d: None,
+                passed: Passed::Before,
                 source: Source::Folder("--in=x".into()),
                 book: "b".into(),
                 names: false,
                 figure: Some("a=b".into()),
                 sealed: vec![],
+                kept: None,
             }))
         );
         assert_eq!(message("seal --n="), "--n has no value");

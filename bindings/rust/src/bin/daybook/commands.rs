@@ -6,13 +6,13 @@ use std::fs;
 use std::io::{self, IsTerminal, Write};
 use std::path::{Path, PathBuf};
 
-use daybook::{check_to_vecs, read_to_vec, seal_to_vec, values};
-use daybook::{Checked, Layout, Refusal, Service, VALUE};
+use daybook::{check_to_vecs, read_to_vec, seal_to_vec, validation_before, values};
+use daybook::{Checked, Layout, Reading, Refusal, Service, VALUE};
 
-use crate::arguments::{Command, Source};
+use crate::arguments::{Command, Passed, Source};
 use crate::days::{add_file, Days, Halt, Ledger};
 use crate::evidence::{test_book, Book};
-use crate::explain::{bad_end, bad_outcome, impossible_value, short_book};
+use crate::explain::{bad_end, bad_outcome, bad_passed, impossible_value, short_book};
 use crate::figure::Verified;
 use crate::files::{read_front, test_written, Staged};
 use crate::fit::{moved, Fit};
@@ -21,7 +21,7 @@ use crate::locate::locate;
 use crate::names::{field, out_of_order};
 use crate::progress::Progress;
 use crate::say;
-use crate::state;
+use crate::state::{self, Kept};
 use crate::stop::Stop;
 use crate::summary::{strip, summary};
 
@@ -54,44 +54,53 @@ pub fn run(command: &Command) -> Result<Done, Stop> {
             outcomes,
             digests,
             sealed,
+            kept,
         } => {
             let mut written = vec![outcomes.as_path()];
             written.extend(digests.as_deref());
             test_written(&written, &[book], None)?;
             let mut work = Work::find(*layout, *d, source, Some(book), &written)?;
             work.compare(sealed);
-            check(&work, book, outcomes, digests.as_deref())
+            check(&work, book, outcomes, digests.as_deref(), kept.as_deref())
         }
         Command::Read {
             layout,
             d,
+            passed,
             outcomes,
             days,
             names,
             sealed,
+            kept,
         } => {
             let view = View::of_folder(days.as_deref(), sealed, *names)?;
-            read(*layout, *d, outcomes, &view)
+            let values = values(*layout, *d)
+                .map_err(|refusal| Stop::Refused(refusal, numbers(*layout, *d)))?;
+            let asked = Asked::of(*layout, *d, *passed, kept.as_deref())?;
+            read(&asked, values, outcomes, &view)
         }
         Command::Verify {
             layout,
             d,
+            passed,
             source,
             book,
             names,
             figure,
             sealed,
+            kept,
         } => {
             let written = Vec::from_iter(figure.as_deref());
             test_written(&written, &[book], None)?;
             let mut work = Work::find(*layout, *d, source, Some(book), &written)?;
+            let asked = Asked::of(*layout, work.d, *passed, kept.as_deref())?;
             work.compare(sealed);
             let view = View {
                 names: work.labels().or_else(|| some(sealed)),
                 named: *names,
                 figure: figure.clone(),
             };
-            verify(&work, book, &view)
+            verify(&work, book, &asked, &view)
         }
         Command::Forecast {
             layout,
@@ -346,8 +355,14 @@ fn seal_ledger(work: &Work) -> Result<Vec<u8>, Stop> {
         .map_err(|refusal| work.explained(refusal, &ledger, &[]))
 }
 
-fn check(work: &Work, book: &Path, outcomes: &Path, digests: Option<&Path>) -> Result<Done, Stop> {
-    let checked = checked(work, book)?;
+fn check(
+    work: &Work,
+    book: &Path,
+    outcomes: &Path,
+    digests: Option<&Path>,
+    kept: Option<&Kept>,
+) -> Result<Done, Stop> {
+    let (checked, front) = checked(work, book)?;
     let staged = Staged::new(outcomes, &checked.outcomes)?;
     match digests {
         None => staged.commit()?,
@@ -358,23 +373,32 @@ fn check(work: &Work, book: &Path, outcomes: &Path, digests: Option<&Path>) -> R
         "checked: days {}, values {}, failing {fail}",
         work.d, work.values
     ));
+    if let (0, Some(kept)) = (fail, kept) {
+        kept.keep(&front);
+    }
     Ok(Done {
         lines: String::new(),
         changed: fail > 0,
     })
 }
 
-fn verify(work: &Work, book: &Path, view: &View) -> Result<Done, Stop> {
-    let checked = checked(work, book)?;
-    listed(work.layout, work.d, &checked.outcomes, view)
+fn verify(work: &Work, book: &Path, asked: &Asked, view: &View) -> Result<Done, Stop> {
+    let (checked, front) = checked(work, book)?;
+    let done = listed(asked, &checked.outcomes, view)?;
+    if let (false, Some(kept)) = (done.changed, asked.kept) {
+        kept.keep(&front);
+    }
+    Ok(done)
 }
 
-fn checked(work: &Work, book: &Path) -> Result<Checked, Stop> {
+/// What a check found, and the front of the book that it was made against.
+fn checked(work: &Work, book: &Path) -> Result<(Checked, Vec<u8>), Stop> {
     let values = read_book(work, book)?;
     let ledger = work.load()?;
     let _shown = Progress::whole("checking", work.d);
-    check_to_vecs(work.layout, work.d, &ledger.bytes, &ledger.ends, &values)
-        .map_err(|refusal| work.explained(refusal, &ledger, &values))
+    let checked = check_to_vecs(work.layout, work.d, &ledger.bytes, &ledger.ends, &values)
+        .map_err(|refusal| work.explained(refusal, &ledger, &values))?;
+    Ok((checked, values))
 }
 
 /// The front of the book that D days have. Where D is only the number of days found, a longer book
@@ -394,15 +418,74 @@ fn read_book(work: &Work, book: &Path) -> Result<Vec<u8>, Stop> {
     Ok(bytes)
 }
 
-fn read(layout: Layout, d: u32, outcomes: &Path, view: &View) -> Result<Done, Stop> {
-    let values = values(layout, d).map_err(|refusal| Stop::Refused(refusal, numbers(layout, d)))?;
+fn read(asked: &Asked, values: u32, outcomes: &Path, view: &View) -> Result<Done, Stop> {
     let (table, more) = read_front(outcomes, u64::from(values))?;
     if more {
+        let d = asked.d;
         say(&format!(
             "note: D {d} has {values} outcomes; the rest of the file is not read"
         ));
     }
-    listed(layout, d, &table, view)
+    listed(asked, &table, view)
+}
+
+/// What a table is read with.
+struct Asked<'a> {
+    layout: Layout,
+    d: u32,
+    /// The last day at which a check passed, 0 for none.
+    passed: u32,
+    /// Whether that day was given.
+    given: bool,
+    kept: Option<&'a Kept>,
+}
+
+impl Asked<'_> {
+    /// Tests the day of the last passed check, for a layout and D that are allowed.
+    fn of(layout: Layout, d: u32, passed: Passed, kept: Option<&Kept>) -> Result<Asked<'_>, Stop> {
+        let refused = |refusal| Stop::Refused(refusal, numbers(layout, d));
+        let before = validation_before(layout, d).map_err(refused)?;
+        let (passed, given) = match passed {
+            Passed::Before => (before, false),
+            Passed::Day(day) => (day, true),
+        };
+        // with no list the library says 8, if it has no cause before
+        if daybook::read(layout, d, passed, &[], &mut []) == Err(Refusal::BadPassed) {
+            let context = format!("{}, P {passed}", numbers(layout, d));
+            let lines = vec![bad_passed(layout, d, passed)];
+            return Err(Stop::Explained(Refusal::BadPassed, context, lines));
+        }
+        Ok(Asked {
+            layout,
+            d,
+            passed,
+            given,
+            kept,
+        })
+    }
+
+    /// Says what low supposes, where the state folder keeps another day than the one that was not given.
+    fn note(&self, reading: &Reading) {
+        let (Reading::Changed { first, .. }, Some(kept)) = (*reading, self.kept) else {
+            return;
+        };
+        let (d, passed, before) = (self.d, self.passed, kept.before);
+        if self.given || before == passed || passed < first {
+            return;
+        }
+        let offer = match before {
+            0 => format!(
+                "this folder keeps no day below {d} as verified clean; --passed kept takes 0"
+            ),
+            _ => format!(
+                "the last day below {d} that this folder keeps as verified clean is {before}; \
+                 --passed kept takes it"
+            ),
+        };
+        say(&format!(
+            "note: low supposes that the validation at day {passed} was made and passed; {offer}"
+        ));
+    }
 }
 
 /// What is shown of a reading.
@@ -440,15 +523,18 @@ impl View {
 }
 
 /// Reads the table of outcomes; the lines are those of the program readtable.
-fn listed(layout: Layout, d: u32, outcomes: &[u8], view: &View) -> Result<Done, Stop> {
-    let (reading, days) = read_to_vec(layout, d, outcomes)
+fn listed(asked: &Asked, outcomes: &[u8], view: &View) -> Result<Done, Stop> {
+    let (layout, d, passed) = (asked.layout, asked.d, asked.passed);
+    let (reading, days) = read_to_vec(layout, d, passed, outcomes)
         .map_err(|refusal| unread_table(layout, d, outcomes, refusal))?;
+    asked.note(&reading);
     if let Some(path) = &view.figure {
         draw(
             path,
             &Verified {
                 layout,
                 d,
+                passed,
                 outcomes,
                 reading,
                 days: &days,
@@ -456,7 +542,7 @@ fn listed(layout: Layout, d: u32, outcomes: &[u8], view: &View) -> Result<Done, 
         )?;
     }
     if io::stderr().is_terminal() {
-        let words = summary(layout, d, &reading, &days, view.names());
+        let words = summary(layout, d, passed, &reading, &days, view.names());
         let _ = write!(io::stderr(), "{words}{}", strip(d, &days));
     }
     let named = view.names().filter(|_| view.named);

@@ -44,6 +44,15 @@ pub fn day_name(day: u32, names: Option<&[String]>) -> String {
     }
 }
 
+/// Refusal 19: why this cannot be the last day at which a check passed.
+pub fn bad_passed(layout: Layout, d: u32, passed: u32) -> String {
+    let why = match passed < d {
+        true => format!("no multiple of N, which is {}", layout.n),
+        false => format!("not below D, which is {d}"),
+    };
+    format!("P {passed}, the last day at which a check passed, is {why}")
+}
+
 /// Refusal 11: what the book has and needs.
 pub fn short_book(values: u32, bytes: usize) -> String {
     let need = VALUE as u64 * u64::from(values);
@@ -241,7 +250,7 @@ mod tests {
             let values = chains(layout, d).count();
             for bits in 0..1u32 << values {
                 let table: Vec<u8> = (0..values).map(|v| (bits >> v & 1) as u8).collect();
-                let refused = daybook::read_to_vec(layout, d, &table).is_err();
+                let refused = daybook::read_to_vec(layout, d, 0, &table).is_err();
                 let said = impossible_value(layout, d, &table);
                 assert_eq!(said.is_some(), refused, "{layout} {table:?}");
             }
@@ -335,6 +344,21 @@ mod tests {
         let plain = "black goes from day 1 to a multiple of 4, up to day 16";
         for (first, last) in [(1, 2), (5, 8), (1, 32), (1, 1 << 31), (0, 0)] {
             assert_eq!(said(4, 16, first, last), plain);
+        }
+    }
+
+    #[test]
+    fn days_at_which_no_check_passed() {
+        let said = |passed| bad_passed(Layout::tile(16, 2), 64, passed);
+        let start = |passed: u32| format!("P {passed}, the last day at which a check passed, is ");
+        for passed in [64, 65, 80, u32::MAX] {
+            assert_eq!(said(passed), start(passed) + "not below D, which is 64");
+        }
+        for passed in [1, 24, 63] {
+            assert_eq!(
+                said(passed),
+                start(passed) + "no multiple of N, which is 16"
+            );
         }
     }
 

@@ -30,6 +30,7 @@ const MARK: f64 = 2.0;
 pub struct Verified<'a> {
     pub layout: Layout,
     pub d: u32,
+    pub passed: u32,
     pub outcomes: &'a [u8],
     pub reading: Reading,
     pub days: &'a [u32],
@@ -146,7 +147,7 @@ impl Verified<'_> {
     }
 
     fn time(&self) -> String {
-        match when(self.layout, self.d, &self.reading) {
+        match when(self.layout, self.d, self.passed, &self.reading) {
             Some(text) => text,
             None => format!("Last good: day {}.", self.d),
         }
@@ -519,6 +520,7 @@ mod tests {
             let verified = Verified {
                 layout,
                 d,
+                passed: 0,
                 outcomes,
                 reading,
                 days,

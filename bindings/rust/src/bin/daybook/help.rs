@@ -78,7 +78,8 @@ daybook status DIR
 
 Tests that the files of the state folder fit each other, and prints: scheme, n, f, days (closed),
 open (bytes in the open day), values (in the book), checkable (the greatest D that can be checked; 0
-none), interrupted (yes where a stopped run left something; the next run takes it away).
+none), interrupted (yes where a stopped run left something; the next run takes it away), clean (the last
+D that the folder keeps as verified clean; 0 none).
 ";
 
 pub const SEAL: &str = "\
@@ -108,7 +109,7 @@ daybook check --scheme S --n N --f F [--d D] SOURCE --book FILE --outcomes FILE 
 daybook check --state DIR [--d D] SOURCE --outcomes FILE [--digests FILE]
 
 Hashes the days again, compares them with the book and writes the outcomes. Exit status 0: every value
-passes; 1: some value fails.
+passes; 1: some value fails. With --state, where every value passes, the folder keeps D as verified clean.
 
   --scheme S --n N --f F   the layout that the book was sealed under
   --d D                    check the first D days (else: all days of the source, and the book must
@@ -126,8 +127,8 @@ of more than 4,294,967,295 bytes has no 32-bit ends and is a fault.
 ";
 
 pub const READ: &str = "\
-daybook read --scheme S --n N --f F --d D --outcomes FILE [--days DIR] [--names]
-daybook read --state DIR [--d D] --outcomes FILE [--days DIR] [--names]
+daybook read --scheme S --n N --f F --d D --outcomes FILE [--passed P] [--days DIR] [--names]
+daybook read --state DIR [--d D] --outcomes FILE [--passed P] [--days DIR] [--names]
 
 Reads the outcomes of D days and prints which days may have been altered.
 
@@ -137,23 +138,31 @@ Reads the outcomes of D days and prints which days may have been altered.
                            allowed and not above the days closed
   --outcomes FILE          a byte for each value, in book order, 1 pass, 0 fail; bytes past the
                            last value are not read
+  --passed P               the last day at which a check really passed, 0 if none (else: as for
+                           verify)
   --days DIR               the folder of days, for their names alone
   --names                  each line of a day has its name too: DAY,g,name; it is that of --days, or
                            else that of the index of --state
 ";
 
 pub const VERIFY: &str = "\
-daybook verify --scheme S --n N --f F [--d D] SOURCE --book FILE [--names] [--figure FILE]
-daybook verify --state DIR [--d D] SOURCE [--names] [--figure FILE]
+daybook verify --scheme S --n N --f F [--d D] SOURCE --book FILE [--passed P] [--names] [--figure FILE]
+daybook verify --state DIR [--d D] SOURCE [--passed P] [--names] [--figure FILE]
 
 Checks the days against the book and prints which days may have been altered. It writes no file but
-the figure. On a terminal standard error has a summary in words and a strip of the days.
+the figure, and with --state keeps a D that is clean in the folder. On a terminal standard error has a
+summary in words and a strip of the days.
 
   --scheme S --n N --f F   the layout that the book was sealed under
   --d D                    verify the first D days (else: as for check)
   --book FILE              the book
   --state DIR              layout and book of this state folder; D is then the greatest that is
                            allowed and not above the days closed
+  --passed P               the last day at which a check really passed, 0 if none: below D, and a
+                           multiple of N. Low, the day after whose close the altering was done,
+                           supposes it. Without this option it is D - F times N, which supposes that
+                           the validation there was made and passed. With --state, --passed kept
+                           takes the last day below D that the folder keeps as verified clean
   --names                  each line of a day has its name too: DAY,g,name, where a comma, a percent
                            sign and every byte that is not printable ASCII is %XX. It is the name of
                            the file of --days, or else that of the index of --state

@@ -47,31 +47,31 @@ fn main() -> ExitCode {
 
 /// Prints what came of a command and gives the exit status.
 fn end(result: Result<Done, Stop>) -> u8 {
-    match result {
+    let stop = match result {
         Ok(done) => {
             let status = if done.changed { CHANGED } else { CLEAN };
-            print(&done.lines, status)
+            return print(&done.lines, status);
         }
-        Err(Stop::Refused(refusal, context)) => refused(refusal, &context, &[]),
-        Err(Stop::Explained(refusal, context, lines)) => refused(refusal, &context, &lines),
-        Err(Stop::Fault(message)) => {
-            say(&message);
-            FAULT
-        }
-        Err(Stop::Usage(message)) => {
-            say(&format!("{message}\nTry: daybook --help"));
+        Err(stop) => stop,
+    };
+    say(&stop.to_string());
+    match stop {
+        Stop::Refused(refusal, _) => refused(refusal, &[]),
+        Stop::Explained(refusal, _, lines) => refused(refusal, &lines),
+        Stop::Fault(_) => FAULT,
+        Stop::Usage(_) => {
+            let _ = writeln!(io::stderr(), "Try: daybook --help");
             FAULT
         }
     }
 }
 
-fn refused(refusal: Refusal, context: &str, lines: &[String]) -> u8 {
-    let number = refusal.number();
-    say(&format!("refusal {number} ({context}): {refusal}"));
+/// Prints the number of a refusal, whose message was said, and the lines that explain it.
+fn refused(refusal: Refusal, lines: &[String]) -> u8 {
     for line in lines {
         say(line);
     }
-    print(&format!("NO,{number}\n"), REFUSED)
+    print(&format!("NO,{}\n", refusal.number()), REFUSED)
 }
 
 /// Prints on standard output; gives `status`, or the one of a fault. A reader that has enough is no

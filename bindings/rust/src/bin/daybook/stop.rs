@@ -1,5 +1,7 @@
 //! Why a command ended early.
 
+use std::fmt;
+
 use daybook::Refusal;
 
 #[derive(Debug, PartialEq, Eq)]
@@ -12,4 +14,16 @@ pub enum Stop {
     Fault(String),
     /// The words of the command line are not a command.
     Usage(String),
+}
+
+impl fmt::Display for Stop {
+    fn fmt(&self, out: &mut fmt::Formatter<'_>) -> fmt::Result {
+        match self {
+            Stop::Refused(refusal, context) | Stop::Explained(refusal, context, _) => {
+                let number = refusal.number();
+                write!(out, "refusal {number} ({context}): {refusal}")
+            }
+            Stop::Fault(message) | Stop::Usage(message) => out.write_str(message),
+        }
+    }
 }

@@ -2,7 +2,7 @@
 
 use std::fmt::Write;
 
-use daybook::{Layout, Reading};
+use daybook::{validation_before, Layout, Reading};
 
 use crate::explain::day_name;
 
@@ -16,6 +16,7 @@ const LINES: u32 = 16;
 pub fn summary(
     layout: Layout,
     d: u32,
+    passed: u32,
     reading: &Reading,
     days: &[u32],
     names: Option<&[String]>,
@@ -34,7 +35,7 @@ pub fn summary(
         1 => format!("1 day of {d} may have been altered: {first_name}.\n"),
         _ => format!("{listed} days of {d} may have been altered, the first is {first_name}.\n"),
     };
-    if let Some(when) = when(layout, d, reading) {
+    if let Some(when) = when(layout, d, passed, reading) {
         let _ = writeln!(text, "{when}");
     }
     let _ = match last_good {
@@ -53,19 +54,20 @@ pub fn summary(
     text
 }
 
-/// The bounds in time in words. The validation at D − F·N counts where it is what bounds it from below.
-pub fn when(layout: Layout, d: u32, reading: &Reading) -> Option<String> {
+/// The bounds in time in words. The check that passed is named where it is what bounds it from below; the
+/// one at D − F·N is the validation that is due there.
+pub fn when(layout: Layout, d: u32, passed: u32, reading: &Reading) -> Option<String> {
     let Reading::Changed {
         first, low, high, ..
     } = *reading
     else {
         return None;
     };
-    let validation = d.saturating_sub(layout.f * layout.n);
-    let condition = if low == validation && low >= first {
-        format!(", if the validation at day {validation} was made and passed,")
-    } else {
-        String::new()
+    let due = validation_before(layout, d) == Ok(passed);
+    let condition = match passed >= first {
+        true if due => format!(", if the validation at day {passed} was made and passed,"),
+        true => format!(", if a check at day {passed} passed,"),
+        false => String::new(),
     };
     Some(format!(
         "When: after the close of day {low}{condition} and by the end of day {high}."
@@ -128,7 +130,7 @@ mod tests {
             high: 64,
             last_good: 16,
         };
-        summary(Layout::tile(16, 2), 64, &reading, &LISTED, names)
+        summary(Layout::tile(16, 2), 64, 32, &reading, &LISTED, names)
     }
 
     #[test]
@@ -158,7 +160,7 @@ mod tests {
             last_good: 0,
         };
         assert_eq!(
-            summary(Layout::tile(4, 1), 4, &reading, &[4], None),
+            summary(Layout::tile(4, 1), 4, 0, &reading, &[4], None),
             "1 day of 4 may have been altered: day 4.\n\
              When: after the close of day 3 and by the end of day 4.\n\
              Last good: none; no black value passes.\n"
@@ -166,10 +168,34 @@ mod tests {
     }
 
     #[test]
+    fn bounds_where_validations_were_skipped() {
+        let said = |passed, low| {
+            let reading = Reading::Changed {
+                listed: 8,
+                first: 19,
+                low,
+                high: 64,
+                last_good: 16,
+            };
+            when(Layout::tile(16, 2), 64, passed, &reading).unwrap()
+        };
+        for passed in [0, 16] {
+            assert_eq!(
+                said(passed, 18),
+                "When: after the close of day 18 and by the end of day 64."
+            );
+        }
+        assert_eq!(
+            said(48, 48),
+            "When: after the close of day 48, if a check at day 48 passed, and by the end of day 64."
+        );
+    }
+
+    #[test]
     fn clean_in_words() {
         let reading = Reading::Clean { last_good: 8 };
         assert_eq!(
-            summary(Layout::tree(4), 8, &reading, &[], None),
+            summary(Layout::tree(4), 8, 4, &reading, &[], None),
             "Clean: the days 1 to 8 are as they were sealed.\n"
         );
     }

@@ -116,15 +116,21 @@ pub fn create(path: &Path, bytes: &[u8]) -> Result<(), Stop> {
 /// The commit: the new record takes the place of the old one, in one step. Before it, all that the
 /// new record says is on disk.
 pub fn commit(folder: &Path, record: &Record) -> Result<(), Stop> {
-    let (new, old) = (at(folder, RECORD_NEW), at(folder, RECORD));
-    create(&new, &record.to_bytes())?;
-    fs::rename(&new, &old).map_err(|error| unwritten(&old, error))?;
+    put(folder, (RECORD_NEW, RECORD), &record.to_bytes())?;
     sync_folder(folder).map_err(|stop| match stop {
         Stop::Fault(message) => Stop::Fault(format!(
             "it is done, but {message}. Repeat the command, to be sure that it lasts"
         )),
         other => other,
     })
+}
+
+/// Writes a file under its first name and renames it to its second: it takes the place of the old one, if
+/// there is one, in one step. The folder is still to be flushed.
+pub fn put(folder: &Path, (new, old): (&str, &str), bytes: &[u8]) -> Result<(), Stop> {
+    let (new, old) = (at(folder, new), at(folder, old));
+    create(&new, bytes)?;
+    fs::rename(&new, &old).map_err(|error| unwritten(&old, error))
 }
 
 /// Cuts a file back to its first `length` bytes.

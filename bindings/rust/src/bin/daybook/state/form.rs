@@ -195,6 +195,33 @@ impl Line {
     }
 }
 
+/// A line of `clean`: a day that verified clean, and the digest of the book's front of so many days.
+#[derive(Clone, Copy, Debug, PartialEq, Eq)]
+pub struct CleanDay {
+    pub day: u32,
+    pub digest: Digest,
+}
+
+/// Bytes that are enough for a line of each day.
+pub const CLEAN_MOST: u64 = DAYS_LIMIT as u64 * (5 + 1 + 2 * VALUE as u64 + 1);
+
+impl CleanDay {
+    pub fn text(&self) -> String {
+        format!("{},{}\n", self.day, hex(&self.digest))
+    }
+
+    /// The line that a text is, with its line feed.
+    pub fn parse(text: &[u8]) -> Option<CleanDay> {
+        let text = std::str::from_utf8(text).ok()?;
+        let (day, digest) = text.strip_suffix('\n')?.split_once(',')?;
+        let line = CleanDay {
+            day: day.parse().ok()?,
+            digest: digest_of(digest)?,
+        };
+        (line.day <= DAYS_LIMIT && line.text() == text).then_some(line)
+    }
+}
+
 fn digest_of(text: &str) -> Option<Digest> {
     let mut digest = [0; VALUE];
     if text.len() != 2 * VALUE || !text.is_ascii() {
@@ -303,6 +330,33 @@ mod tests {
             names: joined("", ["x".repeat(2000).as_str()].into_iter()),
         };
         assert_eq!(longest.text().len() as u64, LINE_MOST);
+    }
+
+    #[test]
+    fn lines_of_clean_days() {
+        let line = CleanDay {
+            day: 64,
+            digest: digest(b"rye"),
+        };
+        let text = line.text();
+        assert_eq!(CleanDay::parse(text.as_bytes()), Some(line));
+        let no = |text: &str| assert_eq!(CleanDay::parse(text.as_bytes()), None, "{text}");
+        no("");
+        no("\n");
+        no("64\n");
+        no(text.trim_end());
+        no(&text.to_uppercase());
+        no(&text.replace("64,", "064,"));
+        no(&text.replace("64,", "+64,"));
+        no(&text.replace("64,", "65537,"));
+        no(&text.replace('\n', "0\n"));
+        no(&text.replace('\n', "\r\n"));
+        no(&text[2..]);
+        let last = CleanDay {
+            day: 65_536,
+            ..line
+        };
+        assert_eq!(65_536 * last.text().len() as u64, CLEAN_MOST);
     }
 
     #[test]

@@ -3,13 +3,13 @@
 use std::fs::{self, File};
 use std::path::{Path, PathBuf};
 
-use daybook::{Layout, Refusal, DAY_LIMIT, PART, VALUE};
+use daybook::{values, Layout, Refusal, DAY_LIMIT, PART, VALUE};
 
 use super::files::sync_folder;
 use super::files::{append, at, commit, cut, day_name, day_of, front, misfit, record_bytes};
 use super::form::{test_layout, Extent, Line, Record, LINE_MOST};
 use super::lock::{self, Access};
-use super::{BOOK, INDEX, LAYOUT, RECORD, RECORD_NEW};
+use super::{BOOK, CLEAN_NEW, INDEX, LAYOUT, RECORD, RECORD_NEW};
 use crate::files::{read_front, unread, unwritten};
 use crate::say;
 use crate::stop::Stop;
@@ -77,6 +77,12 @@ impl State {
     /// The number of values in the book.
     pub fn values(&self) -> u64 {
         self.record.book.length / VALUE as u64
+    }
+
+    /// The front of the book that the first `d` days have, where they are closed and can be checked.
+    pub fn front_of(&self, d: u32) -> Option<&[u8]> {
+        let values = values(self.layout(), d).ok()?;
+        self.book.get(..VALUE * values as usize)
     }
 
     /// The greatest D that is allowed and not above the days closed; 0 where there is none.
@@ -265,8 +271,8 @@ impl State {
         Ok(())
     }
 
-    /// Notes the files that have no use: a record that was not committed, bytes of days other than
-    /// the open one and the last closed one.
+    /// Notes the files that have no use: a record or clean days that were not committed, bytes of days
+    /// other than the open one and the last closed one.
     fn find_left(&mut self) -> Result<(), Stop> {
         let (days, open) = (self.days(), !self.day.is_empty());
         let entries = fs::read_dir(&self.folder).map_err(|error| unread(&self.folder, error))?;
@@ -275,7 +281,8 @@ impl State {
             let name = entry.file_name();
             let name = name.to_str().unwrap_or_default();
             let used = |day: u32| (day == days && days > 0) || (day == days + 1 && open);
-            if name == RECORD_NEW || day_of(name).is_some_and(|day| !used(day)) {
+            let new = [RECORD_NEW, CLEAN_NEW].contains(&name);
+            if new || day_of(name).is_some_and(|day| !used(day)) {
                 self.left.push(Left::File(entry.path()));
             }
         }

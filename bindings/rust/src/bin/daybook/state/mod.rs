@@ -5,6 +5,7 @@
 //! stopped leaves the state before or after that step, and the next run takes away the rest.
 
 mod build;
+mod clean;
 mod day;
 mod digest;
 mod files;
@@ -24,6 +25,7 @@ use crate::stop::Stop;
 use load::State;
 use lock::Access;
 
+pub use clean::Kept;
 pub use sealed::Sealed;
 
 /// The files of a state folder. Beside them stands a file for the bytes of the open day.
@@ -32,6 +34,9 @@ const BOOK: &str = "book";
 const INDEX: &str = "index";
 const RECORD: &str = "record";
 const RECORD_NEW: &str = "record.new";
+/// The days that verified clean; a folder that keeps none need not have it.
+const CLEAN: &str = "clean";
+const CLEAN_NEW: &str = "clean.new";
 const LOCK: &str = "lock";
 
 /// A command on a state folder.
@@ -82,8 +87,9 @@ fn status(folder: &Path) -> Result<String, Stop> {
     let (days, open, values) = (state.days(), state.day.len(), state.values());
     let checkable = state.checkable();
     let interrupted = if state.interrupted() { "yes" } else { "no" };
+    let clean = clean::last_of(&state)?;
     Ok(format!(
         "scheme {scheme}\nn {n}\nf {f}\ndays {days}\nopen {open}\nvalues {values}\n\
-         checkable {checkable}\ninterrupted {interrupted}\n"
+         checkable {checkable}\ninterrupted {interrupted}\nclean {clean}\n"
     ))
 }

@@ -4,6 +4,7 @@ use std::path::{Path, PathBuf};
 
 use daybook::Layout;
 
+use super::clean::Kept;
 use super::load::State;
 use super::lock::Access;
 use super::BOOK;
@@ -17,12 +18,26 @@ pub struct Sealed {
     pub book: PathBuf,
     /// The names of the closed days, as fields.
     pub names: Vec<String>,
+    /// What the folder keeps of days that verified clean, where it was asked for.
+    pub kept: Option<Box<Kept>>,
 }
 
 impl Sealed {
     /// D is the one given, or else the greatest that is allowed and not above the days closed.
     pub fn of(folder: &Path, d: Option<u32>) -> Result<Sealed, Stop> {
         let state = State::load(folder, Access::Look)?;
+        Sealed::in_state(&state, folder, d)
+    }
+
+    /// The same, with the days that verified clean.
+    pub fn with_kept(folder: &Path, d: Option<u32>) -> Result<Sealed, Stop> {
+        let state = State::load(folder, Access::Look)?;
+        let sealed = Sealed::in_state(&state, folder, d)?;
+        let kept = Some(Box::new(Kept::of(&state, folder, sealed.d)?));
+        Ok(Sealed { kept, ..sealed })
+    }
+
+    fn in_state(state: &State, folder: &Path, d: Option<u32>) -> Result<Sealed, Stop> {
         let (closed, checkable) = (state.days(), state.checkable());
         let d = d.unwrap_or(checkable);
         if d > closed {
@@ -31,12 +46,13 @@ impl Sealed {
                 folder.display()
             )));
         }
-        say_later(&state, checkable);
+        say_later(state, checkable);
         Ok(Sealed {
             layout: state.layout(),
             d,
             book: state.path(BOOK),
             names: state.names()?,
+            kept: None,
         })
     }
 }
