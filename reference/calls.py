@@ -6,7 +6,8 @@ thousand.py, with zeros behind up to 1,400 bytes: its values are counted, a
 season of days of 130 bytes, 30 lengths lent, is sized, the chain at position 7
 is found and the position of c(3) of the last tile, the ledger is sealed,
 checked with the lowest bit altered in the first byte of day 10, and read with
-P 0, which is D - F*N.  Last the version.
+P 0, which is D - F*N, with P 16, and with P 12, which is refused.  Last the
+version.
 
 A line is the call, what it returned and what it wrote: of a record the lowest
 bytes of its five numbers, the blocks of an add, of a close the number of
@@ -65,10 +66,17 @@ def ledger_lines():
     work, outcomes = bytearray([170]) * 800, bytearray([170]) * 20
     refusal = daybook.check(*settings, ledger, ends[1:], book, work, outcomes)
     out.append(line("check", refusal, work[:32], outcomes))
-    places = [99] * 30
-    found = daybook.read(*settings, 0, outcomes, places)
-    return out + [line("read", found.refusal, found.listed, found.first,
-                       found.low, found.high, found.last_good, *places)]
+    return out + [read_line(settings, passed, outcomes)
+                  for passed in (0, 16, 12)]
+
+
+def read_line(settings, passed, outcomes):
+    places, numbers = [99] * 30, [98] * 5
+    found = daybook.read(*settings, passed, outcomes, places)
+    if not found.refusal:
+        numbers = [found.listed, found.first, found.low, found.high,
+                   found.last_good]
+    return line("read", found.refusal, *numbers, *places)
 
 
 def lines():
