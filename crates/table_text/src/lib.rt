@@ -13,7 +13,7 @@ ghost use Rattle.reading.specs.Contract.{reportOf};
 ghost use Rattle.table_text.specs.Text.{formTests, digitTests, textOf};
 ghost use Rattle.table_text.specs.Private.{ReportIs, passedBy, answered, answeredLine};
 
-// A text: whether it is as laid out, the numbers of its first line, whether that has five fields, the number of its last
+// A text: whether it is as laid out, the numbers of its first line, whether it has five fields, the number of its last
 // field (P of five, D of four), and where its outcomes stand.
 struct Typed {
     ok: bool,

@@ -1,5 +1,6 @@
 // The calls on a ledger of 24 days: its values are counted, days of 130 bytes are sized, a chain and a position of its
-// book are found, it is sealed, checked with day 10 altered, and read with P 0, with P 16, and with 12, which is refused.
+// book are found, it is sealed, checked with day 10 altered, and read with P 0, with P 16, and with P 12, which is
+// refused.
 use crate::lines;
 use test_samples::days;
 use test_samples::lent;
