@@ -248,30 +248,10 @@ fn a_skipped_validation() {
                  --passed kept takes it";
     let kept = note(8, offer);
     said(&folder, verify, (1, &lines(8)), &[&kept]);
-    said(
-        &folder,
-        &format!("{verify} --passed kept"),
-        (1, &lines(5)),
-        &[],
-    );
-    said(
-        &folder,
-        &format!("{verify} --passed 8"),
-        (1, &lines(8)),
-        &[],
-    );
-    said(
-        &folder,
-        &format!("{verify} --passed 10"),
-        (1, &lines(10)),
-        &[],
-    );
-    said(
-        &folder,
-        &format!("{verify} --passed 0"),
-        (1, &lines(5)),
-        &[],
-    );
+    for (passed, low) in [("kept", 5), ("8", 8), ("10", 10), ("0", 5)] {
+        let line = format!("{verify} --passed {passed}");
+        said(&folder, &line, (1, &lines(low)), &[]);
+    }
     assert_eq!(run(&folder, &format!("{verify} --passed 12")).1, "NO,19\n");
     assert_eq!(run(&folder, &format!("{verify} --passed 5")).1, "NO,19\n");
     let check = "check --state s --days in --outcomes table";

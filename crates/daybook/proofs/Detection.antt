@@ -23,7 +23,7 @@ use Rattle.checking.specs.Contract.{roomTests, checkTests, checkRefusal, digest
 use Rattle.checking.proofs.Through.{digests-length, outcomes-length}
 use Rattle.reading.specs.Numbers.{lastGood}
 use Rattle.reading.specs.Contract.{Report, Readout, tableIn, passedRefusal, readRefusal, listedIn, found}
-use Rattle.reading.proofs.{LastGood.good-given, RefusalLaws.passed-0, RefusalLaws.set-read, Report.readout-found, Statements.count-found}
+use Rattle.reading.proofs.{LastGood.good-given, RefusalLaws.passed-none, RefusalLaws.set-read, Report.readout-found, Statements.count-found}
 use Rattle.daybook.specs.Detection.{Handed, ledgerDays, changedDays, checking, reading, listedDays, tableOfChanges, SealedApart, Premises, Detected}
 use Rattle.daybook.specs.Claim.{ReadsClean}
 
@@ -133,7 +133,7 @@ module _ (s n f : ℕ) (opens : setupRefusal s n f ≡ 0) (E : List (List ℕ)) 
     gives = record { within = within; gives = refl }
 
     passes : passedRefusal s n f d (x .passed) ≡ 0
-    passes = sym (passed-0 s n f d (x .passed) refl layout refl (rw (fit .passed-ok)))
+    passes = passed-none s n f d (x .passed) layout (fit .passed-ok)
 
     read-ok : readRefusal s n f d (x .passed) O (length (x .list)) ≡ 0
     read-ok = set-read s n f d (x .passed) O (length (x .list)) X passes (fit .list-long) outcomes-enough (rw table-in gives)

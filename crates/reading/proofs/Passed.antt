@@ -1,11 +1,12 @@
 -- 02's P: when 19 is said, D − F·N is let pass, and nothing but low moves.
-use mathlib.Core.{Path._≡_, Path.refl, Path.sym, Path._∙_, Logic._⊎_, Logic.inl, Logic.inr, List.List, List.[], List._∷_, Bool.Bool, Bool.true, Bool.false, Bool.not, Bool._&&_, Bool.and-false}
+use mathlib.Core.{Path._≡_, Path.refl, Path.sym, Path._∙_, Logic._⊎_, Logic.inl, Logic.inr, List.List, List.[], List._∷_, Bool.true, Bool.false, Bool.and-false}
 use Prim.Native.Nat.{ℕ, zero, suc, _-_, _*_, _/_, _≤_}
 use native.Mathlib.{Nat.mul-sub, Nat.mul-comm, Nat.mul-pos, Decide.ℕ-discrete, Omega.arith}
-use lib.{Dec.eqb, Dec.ltb, ListN.length}
-use borrow.Author.Tests.{eq-eqb, ltb-false, lt-ltb, le-ltb}
-use Rattle.lists.proofs.Laws.{split, and-both, true-or-false}
-use Rattle.refusals.specs.Refusals.{Test, _orRefuse_, firstRefusal, unlessRefused, frontWritten}
+use lib.{Dec.ltb, ListN.length}
+use borrow.Author.Tests.{ltb-false, lt-ltb, le-ltb}
+use Rattle.lists.proofs.Laws.{split}
+use Rattle.refusals.specs.Refusals.{unlessRefused, frontWritten}
+use Rattle.refusals.proofs.TestLaws.{never-said}
 use Rattle.layouts.specs.Layouts.{divides, layoutTests, layoutRefusal}
 use Rattle.layouts.proofs.AllowedLaws.{allowed-n-is, allowed-f-is, allowed-d-is, divides-factor, layout-is}
 use Rattle.layouts.proofs.Coverage.{divisor-le}
@@ -13,19 +14,8 @@ use Rattle.acceptance.proofs.Runs.{divides-multiple, div-whole}
 use Rattle.reading.specs.Contract.{refusedReport, tableIn, allowedPassed, tableTests, readRefusal, listedIn, found, readout}
 use Rattle.reading.specs.Numbers.{lastGood}
 use Rattle.reading.specs.Statements.{SaysNotPassed, ValidationAllowed, SameButLow, MovesLowAlone}
-use Rattle.reading.proofs.RefusalLaws.{layout-refused, passed-19, passed-0, passed-refused, table-refused}
+use Rattle.reading.proofs.RefusalLaws.{layout-refused, passed-19, passed-none, passed-refused, table-refused}
 use Rattle.reading.proofs.Statements.{refusal-said}
-
--- ---- a number that no test has is not said
-
-abbrev unsaid : ℕ → List Test → Bool
-unsaid x [] = true
-unsaid x (passes orRefuse number ∷ tests) = not (eqb number x) && unsaid x tests
-
-never : (x : ℕ) (tests : List Test) → unsaid x tests ≡ true → (x ≡ 0 → ⊥) → firstRefusal tests ≡ x → ⊥
-never x [] k h e = h (sym e)
-never x (true orRefuse number ∷ tests) k h e = never x tests (and-both (not (eqb number x)) (unsaid x tests) k .1) h e
-never x (false orRefuse number ∷ tests) k h e = true-or-false (and-both (not (eqb number x)) (unsaid x tests) k .0) (rw (eq-eqb number x e))
 
 -- ---- 19
 
@@ -41,10 +31,10 @@ unfolding layoutRefusal
 says-not-passed s n f d p o l = (
   λ e. let q : readRefusal s n f d p o (length l) ≡ 19 = sym (refusal-said s n f d p o l) ∙ e in elim (ℕ-discrete (layoutRefusal s n f d) 0) [
     | yes z ↦ elim (split (allowedPassed n d p)) [
-      | inl t ↦ absurd (never 19 (tableTests s n d o (length l)) refl (λ k. omega arith) (table-refused s n f d p o (length l) (passed-0 s n f d p refl z (sym t) refl) refl refl ∙ q))
+      | inl t ↦ absurd (never-said 19 (tableTests s n d o (length l)) refl (λ k. omega arith) (table-refused s n f d p o (length l) refl (passed-none s n f d p z t) refl ∙ q))
       | inr t ↦ (z, not-allowed n d p t)
     ]
-    | no h ↦ absurd (never 19 (layoutTests s n f d) refl (λ k. omega arith) (passed-refused s n f d p o (length l) (layout-refused s n f d p refl h) h ∙ q))
+    | no h ↦ absurd (never-said 19 (layoutTests s n f d) refl (λ k. omega arith) (passed-refused s n f d p o (length l) (layout-refused s n f d p refl h) h ∙ q))
   ],
   λ h. refusal-said s n f d p o l ∙
       sym (passed-refused s n f d p o (length l) (passed-19 s n f d p refl (h .0) (sym (allowed-not n d p (h .1))) refl) (λ k. omega arith)),
@@ -63,9 +53,9 @@ validation-allowed s n f d e =
 
 -- ---- two that are let pass
 
-same-refusal : (s n f d p q : ℕ) (o : List ℕ) (places : ℕ) → allowedPassed n d p ≡ true → allowedPassed n d q ≡ true → readRefusal s n f d p o places ≡ readRefusal s n f d q o places
+alike : (s n f d p q : ℕ) (o : List ℕ) (places : ℕ) → allowedPassed n d p ≡ true → allowedPassed n d q ≡ true → readRefusal s n f d p o places ≡ readRefusal s n f d q o places
 unfolding readRefusal
-same-refusal s n f d p q o places e h = rw (e, h)
+alike s n f d p q o places e h = rw (e, h)
 
 same-but-low : (r d p q good : ℕ) (F m : List ℕ) →
     SameButLow (record { report = unlessRefused r (found d p F good) (refusedReport r); list = m }) (record { report = unlessRefused r (found d q F good) (refusedReport r); list = m })
@@ -79,4 +69,4 @@ unfolding readout
 moves-low-alone s n f d p q o l e h =
     let r = readRefusal s n f d q o (length l) in
     let F = listedIn s n d o in
-    rw (same-refusal s n f d p q o (length l) e h) (same-but-low r d p q (lastGood s n d (tableIn s n d o)) F (frontWritten r F l))
+    rw (alike s n f d p q o (length l) e h) (same-but-low r d p q (lastGood s n d (tableIn s n d o)) F (frontWritten r F l))

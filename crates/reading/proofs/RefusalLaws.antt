@@ -81,6 +81,9 @@ module _ (s n f d p : ℕ) where
     unfolding passedRefusal layoutRefusal
     passed-0 h t = last-passes (layoutTests s n f d) (allowedPassed n d p) 19 refl e z (passed h t)
 
+  pub passed-none : layoutRefusal s n f d ≡ 0 → allowedPassed n d p ≡ true → passedRefusal s n f d p ≡ 0
+  passed-none e h = sym (passed-0 refl e refl (rw h))
+
   -- each test of a P that is let pass
   passed-passes : passedRefusal s n f d p ≡ 0 → Pass (layoutTests s n f d) × (allowedPassed n d p ≡ true)
   unfolding passedRefusal

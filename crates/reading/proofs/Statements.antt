@@ -11,9 +11,9 @@ use Rattle.refusals.specs.Refusals.{firstRefusal, unlessRefused}
 use Rattle.layouts.specs.Layouts.{chains}
 use Rattle.reading.specs.{declared.Reading.Reading, Numbers.lastGood, Private.givenTests}
 use Rattle.reading.specs.declared.Reading.the-variants.{Clean, Changed, Refused}
-use Rattle.reading.specs.Contract.{Report, reportOf, refusedReport, tableIn, bits, readRefusal, listedIn, found, readout}
+use Rattle.reading.specs.Contract.{Report, reportOf, refusedReport, tableIn, bits, passedRefusal, readRefusal, listedIn, found, readout}
 use Rattle.reading.specs.Statements.{Supplied, SomeSet, ReadIfGiven, SaysNoSet, ListsDaysOfSets, OutcomesRead, CaseOf, CaseTold, OneAnswer}
-use Rattle.reading.proofs.RefusalLaws.{set-read, table-given, table-refused, read-given}
+use Rattle.reading.proofs.RefusalLaws.{passed-none, set-read, table-given, table-refused, read-given}
 use Rattle.reading.proofs.Report.{readout-found}
 
 -- ---- what a call says, by its refusal and the days listed
@@ -50,10 +50,13 @@ module _ (s n f d p : ℕ) (o l : List ℕ) where
 
 -- with tests 1 2 3 7 19 8 12 passed, the call says what tests 13 14 find
 module _ (s n f d p : ℕ) (o l : List ℕ) (u : Supplied s n f d p o l) where
+  let-pass : passedRefusal s n f d p ≡ 0
+  let-pass = passed-none s n f d p (u .layout) (u .passed-ok)
+
   by-given : readout s n f d p o l .report .refusal ≡ firstRefusal (givenTests s n d (tableIn s n d o))
   by-given =
       refusal-said s n f d p o l ∙
-      sym (table-refused s n f d p o (length l) refl (u .passed-ok) (table-given s n d o (length l) refl (u .places) refl refl (u .enough) refl))
+      sym (table-refused s n f d p o (length l) refl let-pass (table-given s n d o (length l) refl (u .places) refl refl (u .enough) refl))
 
   set-accepted : SomeSet s n d o → accepted (chains s n d) d (tableIn s n d o) ≡ true
   set-accepted h = given-iff-accepted (chains s n d) d (tableIn s n d o) .0 h
@@ -74,7 +77,7 @@ failed false a e = absurd (omega arith)
 pub read-if-given : ReadIfGiven
 read-if-given s n f d p o l u = (
   λ e. accepted-set s n f d p o l u (passed (bits (tableIn s n d o)) (accepted (chains s n d) d (tableIn s n d o)) (sym (by-given s n f d p o l u) ∙ e)),
-  λ h. refusal-said s n f d p o l ∙ set-read s n f d p o (length l) (h .0) (u .passed-ok) (u .places) (u .enough) (h .1),
+  λ h. refusal-said s n f d p o l ∙ set-read s n f d p o (length l) (h .0) (let-pass s n f d p o l u) (u .places) (u .enough) (h .1),
 )
 
 pub says-no-set : SaysNoSet

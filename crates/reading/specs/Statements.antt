@@ -12,14 +12,14 @@ use Rattle.reading.specs.Numbers.{validationBefore}
 use Rattle.reading.specs.declared.Numbers.{Numbers}
 use Rattle.reading.specs.declared.Reading.{Reading}
 use Rattle.reading.specs.declared.Reading.the-variants.{Clean, Changed, Refused}
-use Rattle.reading.specs.Contract.{Report, reportOf, tableIn, bits, allowedPassed, passedRefusal, Readout}
-use Rattle.reading.specs.Contract.{readout}
+use Rattle.reading.specs.Contract.{Report, reportOf, tableIn, bits, allowedPassed, Readout, readout}
 
 -- ---- acceptance: demand 2's last sentence (SPEC 9.2)
 
 -- tests 1 2 3 7 19 8 12 find no cause
 pub record Supplied (scheme n f d passed : ℕ) (outcomes list : List ℕ) : Type 0 where
-  pub passed-ok : passedRefusal scheme n f d passed ≡ 0
+  pub layout : layoutRefusal scheme n f d ≡ 0
+  pub passed-ok : allowedPassed n d passed ≡ true
   pub places : d ≤ length list
   pub enough : length (chains scheme n d) ≤ length outcomes
 

@@ -3,7 +3,7 @@ use mathlib.Core.{Path._≡_, Path.refl, Path.sym, Path._∙_, Bool.Bool, Bool.t
 use mathlib.Core.List.{List, [], _∷_, _++_}
 use Prim.Native.Nat.{ℕ, zero, suc}
 use native.Mathlib.{Decide.ℕ-discrete, Omega.arith}
-use borrow.Author.Tests.{not-true, not-false}
+use borrow.Author.Tests.{not-true, not-false, eq-eqb}
 use lib.{Dec.eqb, ListN.length, ListN.drop}
 use Rattle.lists.proofs.Laws.{true-or-false, and-both}
 use Rattle.refusals.specs.Refusals.{Test, _orRefuse_, firstRefusal, answerOf, unlessRefused, frontWritten}
@@ -66,6 +66,17 @@ pub refused-after : (a b : List Test) → numbered a ≡ true → firstRefusal a
 refused-after [] b k e = refl
 refused-after (true orRefuse number ∷ a) b k e = refused-after a b (and-both (not (eqb number 0)) (numbered a) k .1) e
 refused-after (false orRefuse number ∷ a) b k e = absurd (number-some number (and-both (not (eqb number 0)) (numbered a) k .0) e)
+
+-- ---- a number that no test has is not said: computed for the tests of a call
+
+abbrev pub unsaid : ℕ → List Test → Bool
+unsaid x [] = true
+unsaid x (passes orRefuse number ∷ tests) = not (eqb number x) && unsaid x tests
+
+pub never-said : (x : ℕ) (tests : List Test) → unsaid x tests ≡ true → (x ≡ 0 → ⊥) → firstRefusal tests ≡ x → ⊥
+never-said x [] k h e = h (sym e)
+never-said x (true orRefuse number ∷ tests) k h e = never-said x tests (and-both (not (eqb number x)) (unsaid x tests) k .1) h e
+never-said x (false orRefuse number ∷ tests) k h e = true-or-false (and-both (not (eqb number x)) (unsaid x tests) k .0) (rw (eq-eqb number x e))
 
 -- ---- a call's last test, with no cause found before it
 

@@ -9,32 +9,44 @@ use Rattle.number_text.specs.Numbers.{isDigit, digitOf, digits, afterDigits, nu
 use Rattle.number_text.proofs.FieldLaws.{digits-before, after-before, laid-field, laid-value, laid-rest, digits-again, digits-split, field-number, field-text}
 use Rattle.reading.specs.Numbers.{validationBefore}
 use Rattle.table_text.specs.Text.{fromN, fromF, fromD, fromPassed, hasPassed, lastField, lastLine, isFormed, nIn, fIn, dIn, passedIn, outcomesIn}
-use Rattle.table_text.specs.Statements.{Laid, LaidWithPassed, ReadAs, LaidIsRead, LaidWithPassedIsRead, FormedIsLaid}
+use Rattle.table_text.specs.Statements.{Parts, Laid, LaidWithPassed, ReadAs, LaidIsRead, LaidWithPassedIsRead, FormedIsLaid}
 
 -- ---- the first four fields, the mark m after them, and r after it
 
-module _ (s a b c e : List ℕ) (m : ℕ) (r : List ℕ) (A : Number a) (B : Number b) (C : Number c) (E : Number e) (k : isDigit m ≡ false)
+module _ (s a b c e o : List ℕ) (m : ℕ) (r : List ℕ) (P : Parts a b c e o) (k : isDigit m ≡ false)
     (text : s ≡ a ++ (44 ∷ (b ++ (44 ∷ (c ++ (44 ∷ (e ++ (m ∷ r)))))))) where
   from-n : fromN s ≡ b ++ (44 ∷ (c ++ (44 ∷ (e ++ (m ∷ r)))))
-  from-n = ap afterField text ∙ laid-rest a 44 (b ++ (44 ∷ (c ++ (44 ∷ (e ++ (m ∷ r)))))) A refl
+  from-n = ap afterField text ∙ laid-rest a 44 (b ++ (44 ∷ (c ++ (44 ∷ (e ++ (m ∷ r)))))) (P .scheme-ok) refl
 
   from-f : fromF s ≡ c ++ (44 ∷ (e ++ (m ∷ r)))
-  from-f = ap afterField from-n ∙ laid-rest b 44 (c ++ (44 ∷ (e ++ (m ∷ r)))) B refl
+  from-f = ap afterField from-n ∙ laid-rest b 44 (c ++ (44 ∷ (e ++ (m ∷ r)))) (P .n-ok) refl
 
   from-d : fromD s ≡ e ++ (m ∷ r)
-  from-d = ap afterField from-f ∙ laid-rest c 44 (e ++ (m ∷ r)) C refl
+  from-d = ap afterField from-f ∙ laid-rest c 44 (e ++ (m ∷ r)) (P .f-ok) refl
 
   from-passed : fromPassed s ≡ r
-  from-passed = ap afterField from-d ∙ laid-rest e m r E k
+  from-passed = ap afterField from-d ∙ laid-rest e m r (P .d-ok) k
 
   -- a fifth field comes where the mark is a comma
   by-mark : hasPassed s ≡ eqb m 44
   unfolding hasPassed isField
-  by-mark = ap (isField 44) from-d ∙ rw (digits-before e m r (E .only-digits) k, E .shaped, after-before e m r (E .only-digits) k)
+  by-mark = ap (isField 44) from-d ∙ rw (digits-before e m r (P .d-ok .only-digits) k, P .d-ok .shaped, after-before e m r (P .d-ok .only-digits) k)
+
+  n-is : nIn s ≡ numberFrom 0 b
+  n-is = ap valueIn from-n ∙ laid-value b 44 _ (P .n-ok) refl
+
+  f-is : fIn s ≡ numberFrom 0 c
+  f-is = ap valueIn from-f ∙ laid-value c 44 _ (P .f-ok) refl
+
+  d-is : dIn s ≡ numberFrom 0 e
+  d-is = ap valueIn from-d ∙ laid-value e m r (P .d-ok) k
+
+  validation-is : validationBefore (nIn s) (fIn s) (dIn s) ≡ validationBefore (numberFrom 0 b) (numberFrom 0 c) (numberFrom 0 e)
+  validation-is = rw (n-is, f-is, d-is)
 
   -- ---- with the last field and the second line
 
-  module _ (x o : List ℕ) (X : Number x) (h : digits o ≡ o) (last : lastField s ≡ x ++ (10 ∷ (o ++ (10 ∷ [])))) where
+  module _ (x : List ℕ) (X : Number x) (last : lastField s ≡ x ++ (10 ∷ (o ++ (10 ∷ [])))) where
     last-line : lastLine s ≡ o ++ (10 ∷ [])
     last-line = ap afterField last ∙ laid-rest x 10 (o ++ (10 ∷ [])) X refl
 
@@ -42,11 +54,11 @@ module _ (s a b c e : List ℕ) (m : ℕ) (r : List ℕ) (A : Number a) (B : Num
     unfolding isFormed
     laid-formed =
         rw (
-          ap (isField 44) text ∙ laid-field a 44 _ A refl,
-          ap (isField 44) from-n ∙ laid-field b 44 _ B refl,
-          ap (isField 44) from-f ∙ laid-field c 44 _ C refl,
+          ap (isField 44) text ∙ laid-field a 44 _ (P .scheme-ok) refl,
+          ap (isField 44) from-n ∙ laid-field b 44 _ (P .n-ok) refl,
+          ap (isField 44) from-f ∙ laid-field c 44 _ (P .f-ok) refl,
           ap (isField 10) last ∙ laid-field x 10 _ X refl,
-          ap afterDigits last-line ∙ after-before o 10 [] h refl,
+          ap afterDigits last-line ∙ after-before o 10 [] (P .outcomes-ok) refl,
         )
 
     read-as : (p : ℕ) → passedIn s ≡ p → ReadAs s a b c e p o
@@ -54,32 +66,27 @@ module _ (s a b c e : List ℕ) (m : ℕ) (r : List ℕ) (A : Number a) (B : Num
     read-as p q =
         record {
           formed = laid-formed;
-          scheme-is = ap valueIn text ∙ laid-value a 44 _ A refl;
-          n-is = ap valueIn from-n ∙ laid-value b 44 _ B refl;
-          f-is = ap valueIn from-f ∙ laid-value c 44 _ C refl;
-          d-is = ap valueIn from-d ∙ laid-value e m r E k;
+          scheme-is = ap valueIn text ∙ laid-value a 44 _ (P .scheme-ok) refl;
+          n-is = n-is;
+          f-is = f-is;
+          d-is = d-is;
           passed-is = q;
-          outcomes-are = ap (map digitOf) (ap digits last-line ∙ digits-before o 10 [] h refl);
+          outcomes-are = ap (map digitOf) (ap digits last-line ∙ digits-before o 10 [] (P .outcomes-ok) refl);
         }
-
-  values-are : validationBefore (nIn s) (fIn s) (dIn s) ≡ validationBefore (numberFrom 0 b) (numberFrom 0 c) (numberFrom 0 e)
-  values-are = rw (ap valueIn from-n ∙ laid-value b 44 _ B refl, ap valueIn from-f ∙ laid-value c 44 _ C refl, ap valueIn from-d ∙ laid-value e m r E k)
 
 pub laid-is-read : LaidIsRead
 laid-is-read s a b c e o l =
     let r = o ++ (10 ∷ []) in
-    let four : hasPassed s ≡ false = by-mark s a b c e 10 r (l .scheme-ok) (l .n-ok) (l .f-ok) (l .d-ok) refl (l .text) in
-    read-as s a b c e 10 r (l .scheme-ok) (l .n-ok) (l .f-ok) (l .d-ok) refl (l .text) e o (l .d-ok) (l .outcomes-ok)
-    (rw four (from-d s a b c e 10 r (l .scheme-ok) (l .n-ok) (l .f-ok) (l .d-ok) refl (l .text))) _
-    (rw four (values-are s a b c e 10 r (l .scheme-ok) (l .n-ok) (l .f-ok) (l .d-ok) refl (l .text)))
+    let four : hasPassed s ≡ false = by-mark s a b c e o 10 r (l .parts) refl (l .text) in
+    read-as s a b c e o 10 r (l .parts) refl (l .text) e (l .parts .d-ok) (rw four (from-d s a b c e o 10 r (l .parts) refl (l .text))) _
+    (rw four (validation-is s a b c e o 10 r (l .parts) refl (l .text)))
 
 pub laid-with-passed-is-read : LaidWithPassedIsRead
 laid-with-passed-is-read s a b c e p o l =
     let r = p ++ (10 ∷ (o ++ (10 ∷ []))) in
-    let five : hasPassed s ≡ true = by-mark s a b c e 44 r (l .scheme-ok) (l .n-ok) (l .f-ok) (l .d-ok) refl (l .text) in
-    let from : fromPassed s ≡ r = from-passed s a b c e 44 r (l .scheme-ok) (l .n-ok) (l .f-ok) (l .d-ok) refl (l .text) in
-    read-as s a b c e 44 r (l .scheme-ok) (l .n-ok) (l .f-ok) (l .d-ok) refl (l .text) p o (l .passed-ok) (l .outcomes-ok) (rw five from) _
-    (rw five (ap valueIn from ∙ laid-value p 10 _ (l .passed-ok) refl))
+    let five : hasPassed s ≡ true = by-mark s a b c e o 44 r (l .parts) refl (l .text) in
+    let from : fromPassed s ≡ r = from-passed s a b c e o 44 r (l .parts) refl (l .text) in
+    read-as s a b c e o 44 r (l .parts) refl (l .text) p (l .passed-ok) (rw five from) _ (rw five (ap valueIn from ∙ laid-value p 10 _ (l .passed-ok) refl))
 
 -- ---- the other direction
 
@@ -108,31 +115,35 @@ module _ (s : List ℕ) (e : isFormed s ≡ true) where
   joined : {r : List ℕ} → fromD s ≡ r → s ≡ digits s ++ (44 ∷ (digits (fromN s) ++ (44 ∷ (digits (fromF s) ++ (44 ∷ r)))))
   joined h = to-d ∙ ap (λ r. digits s ++ (44 ∷ (digits (fromN s) ++ (44 ∷ (digits (fromF s) ++ (44 ∷ r)))))) h
 
-  four : hasPassed s ≡ false → Laid s (digits s) (digits (fromN s)) (digits (fromF s)) (digits (fromD s)) (digits (lastLine s))
-  four h =
-      let l : lastField s ≡ fromD s = rw h in
+  split-parts : Number (digits (fromD s)) → Parts (digits s) (digits (fromN s)) (digits (fromF s)) (digits (fromD s)) (digits (lastLine s))
+  split-parts d =
       record {
         scheme-ok = field-number 44 s (pieces .0);
         n-ok = field-number 44 (fromN s) (pieces .1);
         f-ok = field-number 44 (fromF s) (pieces .2);
-        d-ok = field-number 10 (fromD s) (ap (isField 10) (sym l) ∙ pieces .3);
+        d-ok = d;
         outcomes-ok = digits-again (lastLine s);
-        text = joined (sym l ∙ from-last ∙ ap (λ r. digits r ++ (10 ∷ (digits (lastLine s) ++ (10 ∷ [])))) l);
       }
+
+  -- where the last field begins
+  module _ {r : List ℕ} (l : lastField s ≡ r) where
+    last-number : Number (digits r)
+    last-number = field-number 10 r (ap (isField 10) (sym l) ∙ pieces .3)
+
+    last-text : r ≡ digits r ++ (10 ∷ (digits (lastLine s) ++ (10 ∷ [])))
+    last-text = sym l ∙ from-last ∙ ap (λ x. digits x ++ (10 ∷ (digits (lastLine s) ++ (10 ∷ [])))) l
+
+  four : hasPassed s ≡ false → Laid s (digits s) (digits (fromN s)) (digits (fromF s)) (digits (fromD s)) (digits (lastLine s))
+  four h = let l : lastField s ≡ fromD s = rw h in record { parts = split-parts (last-number l); text = joined (last-text l) }
 
   five : hasPassed s ≡ true → LaidWithPassed s (digits s) (digits (fromN s)) (digits (fromF s)) (digits (fromD s)) (digits (fromPassed s)) (digits (lastLine s))
   unfolding hasPassed
   five h =
       let l : lastField s ≡ fromPassed s = rw h in
       record {
-        scheme-ok = field-number 44 s (pieces .0);
-        n-ok = field-number 44 (fromN s) (pieces .1);
-        f-ok = field-number 44 (fromF s) (pieces .2);
-        d-ok = field-number 44 (fromD s) h;
-        passed-ok = field-number 10 (fromPassed s) (ap (isField 10) (sym l) ∙ pieces .3);
-        outcomes-ok = digits-again (lastLine s);
-        text =
-            joined (field-text 44 (fromD s) h ∙ ap (λ r. digits (fromD s) ++ (44 ∷ r)) (sym l ∙ from-last ∙ ap (λ r. digits r ++ (10 ∷ (digits (lastLine s) ++ (10 ∷ [])))) l));
+        parts = split-parts (field-number 44 (fromD s) h);
+        passed-ok = last-number l;
+        text = joined (field-text 44 (fromD s) h ∙ ap (λ x. digits (fromD s) ++ (44 ∷ x)) (last-text l));
       }
 
 pub formed-is-laid : FormedIsLaid

@@ -9,24 +9,24 @@ use Rattle.number_text.specs.Numbers.{comma, lineFeed, digitOf, digits, numberF
 use Rattle.reading.specs.Numbers.{validationBefore}
 use Rattle.table_text.specs.Text.{isFormed, schemeIn, nIn, fIn, dIn, passedIn, outcomesIn}
 
--- `scheme,N,F,D`, a line feed, the outcomes, a line feed
-pub record Laid (s scheme n f d outcomes : List ℕ) : Type 0 where
+-- the parts: four numbers, and outcomes that are digits only
+pub record Parts (scheme n f d outcomes : List ℕ) : Type 0 where
   pub scheme-ok : Number scheme
   pub n-ok : Number n
   pub f-ok : Number f
   pub d-ok : Number d
   pub outcomes-ok : digits outcomes ≡ outcomes
+
+-- `scheme,N,F,D`, a line feed, the outcomes, a line feed
+pub record Laid (s scheme n f d outcomes : List ℕ) : Type 0 where
+  pub parts : Parts scheme n f d outcomes
   pub text :
       s ≡ scheme ++ (comma ∷ (n ++ (comma ∷ (f ++ (comma ∷ (d ++ (lineFeed ∷ (outcomes ++ (lineFeed ∷ [])))))))))
 
 -- `scheme,N,F,D,P`, and the same after it (SPEC 19.5)
 pub record LaidWithPassed (s scheme n f d passed outcomes : List ℕ) : Type 0 where
-  pub scheme-ok : Number scheme
-  pub n-ok : Number n
-  pub f-ok : Number f
-  pub d-ok : Number d
+  pub parts : Parts scheme n f d outcomes
   pub passed-ok : Number passed
-  pub outcomes-ok : digits outcomes ≡ outcomes
   pub text :
       s ≡ scheme ++ (comma ∷ (n ++ (comma ∷ (f ++ (comma ∷ (d ++ (comma ∷
       (passed ++ (lineFeed ∷ (outcomes ++ (lineFeed ∷ [])))))))))))
