@@ -2,14 +2,14 @@
 use mathlib.Core.{Path._≡_, Path.refl, Path.sym, Path.ap, Path._∙_, Logic.inl, Logic.inr, List.List}
 use mathlib.Core.Bool.{Bool, true, false, not, _&&_, _||_, and-false}
 use Prim.Native.Nat.{ℕ, zero, suc, pred, _+_, _-_, _*_, _/_, _%_, _^_, _≤_, _<_}
-use native.Mathlib.Nat.{le-div-iff-mul-le, div-lt-iff-lt-mul, mul-pos, mul-le-mul-right, mul-div-cancel, suc-mul, zero-mul, pow-succ', mod-lt, div-add-mod'}
+use native.Mathlib.Nat.{le-div-iff-mul-le, div-lt-iff-lt-mul, mul-pos, mul-le-mul-right, suc-mul, zero-mul, pow-succ', mod-lt, div-add-mod'}
 use native.Mathlib.{Decide.decLt, Omega.arith}
-use lib.{Arith.digits-div, Arith.digits-mod, Dec.eqb, Pow.pow-pos, Pow.pow-lt, Pow.pow-add}
+use lib.{Arith.digits-div, Arith.digits-mod, Dec.eqb, Pow.pow-pos, Pow.pow-lt}
 use Rattle.lists.specs.Lists.{_among_, upFrom, keep, every}
 use Rattle.evidence.specs.Evidence.{days}
 use Rattle.lists.proofs.Laws.{split, true-or-false, and-both, upFrom-mem, upFrom-bounds, keep-mem, mem-keep, every-at, every-of, every-fails}
 use Rattle.layouts.specs.Layouts.{divides, lg, black, tile, tree, lastDays, offset, covers, coveredDays}
-use Rattle.layouts.proofs.{AllowedLaws.Power, Coverage.divisor-le}
+use Rattle.layouts.proofs.{AllowedLaws.Power, Coverage.divisor-le, Coverage.weight-is}
 use Rattle.acceptance.specs.Private.{alike, passes, prior, tileRule, blockRule, blockAt, halvesRule, halvesAt, levelRule}
 use Rattle.acceptance.specs.Private.{levelsRule, blocksRule, rules, endOf, tileBit, one, number, bitRule, bitsRule, isListed}
 use Rattle.acceptance.proofs.Runs.{some, some-append, some-of, some-none, some-same, keep-all, lastDays-bounds}
@@ -124,10 +124,7 @@ listed-in-2 n k day t m = let b = in-block n k day m in isListed-2 n t (suc k * 
 -- the bit that c(i) looks at
 pub covers-bit : (n k i x : ℕ) → n ≡ 2 ^ k → i < k → covers n (suc i) (x % n) ≡ eqb (x / 2 ^ (k - suc i) % 2) 0
 covers-bit n k i x e l =
-    let q : k - suc i + suc i ≡ k = omega arith in
-    let w : n / 2 ^ suc i ≡ 2 ^ (k - suc i) =
-    ap (λ (y : ℕ). y / 2 ^ suc i) (e ∙ ap (λ (y : ℕ). 2 ^ y) (sym q) ∙ pow-add 2 (k - suc i) (suc i)) ∙ mul-div-cancel (2 ^ (k - suc i)) (pow-pos (suc i)) in
-    ap (λ (y : ℕ). eqb (x % n / y % 2) 0) w ∙ ap (λ (y : ℕ). eqb (x % y / 2 ^ (k - suc i) % 2) 0) e ∙
+    ap (λ (y : ℕ). eqb (x % n / y % 2) 0) (weight-is n k (suc i) e l) ∙ ap (λ (y : ℕ). eqb (x % y / 2 ^ (k - suc i) % 2) 0) e ∙
     ap (λ (y : ℕ). eqb y 0) (bit-low x k (k - suc i) (omega arith))
 
 pub number-small : (p : ℕ → Bool) (k : ℕ) → number p k < 2 ^ k

@@ -4,8 +4,9 @@ use mathlib.Core.{Path._≡_, Path.refl, Path.sym, Path.ap, Path._∙_, Logic.in
 use mathlib.Core.Bool.{Bool, true, false, cond}
 use mathlib.Core.List.{List, [], _∷_, _++_, map, flatMap, map-append, append-assoc, append-nil, List·Memᴰ·head, List·Memᴰ·tail}
 use mathlib.Core.List.{List·Memᴰ·append-cases, List·Memᴰ·eq-of-singleton, Memᴰ·append-left, Memᴰ·append-right, Memᴰ·map, Memᴰ·of-map, Memᴰ·cast}
-use Prim.Native.Nat.{ℕ, zero, suc, _+_, _-_, _%_, _^_, _≤_}
-use native.Mathlib.{Nat.mod-eq-of-lt, Nat.mod-one, Nat.lt-of-not-le, Nat.add-zero, Nat.add-suc, Decide.decLe, Omega.arith}
+use Prim.Native.Nat.{ℕ, zero, suc, _+_, _-_, _/_, _%_, _^_, _≤_}
+use native.Mathlib.{Nat.mod-eq-of-lt, Nat.mod-one, Nat.lt-of-not-le, Nat.add-zero, Nat.add-suc, Nat.mul-div-cancel, Decide.decLe, Omega.arith}
+use lib.Pow.{pow-pos, pow-add}
 use borrow.Author.Tests.{eqb-true, eq-eqb}
 use Rattle.lists.specs.Lists.{_among_, upFrom}
 use Rattle.evidence.specs.Evidence.{days, Within}
@@ -34,6 +35,12 @@ lastDays-within n g l x m = let b = upFrom-bounds (suc (g - n)) n x m in omega a
 pub cond-mem : (b : Bool) (xs : List Name) {x : Name} → x among cond b xs [] → (b ≡ true) × (x among xs)
 cond-mem true xs m = (refl, m)
 cond-mem false xs m = elim m [ ]
+
+-- the weight of c(i)'s bit
+pub weight-is : (n k i : ℕ) → n ≡ 2 ^ k → i ≤ k → n / 2 ^ i ≡ 2 ^ (k - i)
+weight-is n k i e l =
+    let q : k - i + i ≡ k = omega arith in
+    ap (λ (x : ℕ). x / 2 ^ i) (e ∙ ap (λ (x : ℕ). 2 ^ x) (sym q) ∙ pow-add 2 (k - i) i) ∙ mul-div-cancel (2 ^ (k - i)) (pow-pos i)
 
 -- ---- the names that close at g: what holds of each holds of all
 

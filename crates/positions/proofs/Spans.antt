@@ -12,7 +12,7 @@ use borrow.Author.Tests.{eqb-true, eq-eqb, ne-eqb}
 use Rattle.lists.specs.Lists.{upFrom, keep, firstOf, lastOf}
 use Rattle.lists.proofs.Laws.{split}
 use Rattle.layouts.specs.Layouts.{allowedN, divides, lg, black, tile, tree, offset, covers, lastDays}
-use Rattle.layouts.proofs.{AllowedLaws.allowed-n-is, Coverage.divisor-le}
+use Rattle.layouts.proofs.{AllowedLaws.allowed-n-is, Coverage.divisor-le, Coverage.weight-is}
 use Rattle.positions.specs.Positions.{chainOf}
 use Rattle.positions.specs.Statements.{SpansTold}
 
@@ -91,8 +91,7 @@ weighed n i a l =
     let p = allowed-n-is n a in
     let k : lg n ≡ lg n - suc i + suc i = omega arith in
     let e : n ≡ 2 ^ (lg n - suc i) * 2 ^ suc i = p .power ∙ ap (λ (x : ℕ). 2 ^ x) k ∙ pow-add 2 (lg n - suc i) (suc i) in
-    let z : n ≡ 2 ^ (lg n - suc i) * 2 ^ suc i + 0 = omega arith in
-    let w : n / 2 ^ suc i ≡ 2 ^ (lg n - suc i) = ap (λ (x : ℕ). x / 2 ^ suc i) z ∙ digits-div (2 ^ (lg n - suc i)) (pow-pos (suc i)) in
+    let w = weight-is n (lg n) (suc i) (p .power) l in
     let b : 2 ^ (lg n - suc i) * 2 ^ suc i ≡ 2 * (2 ^ (lg n - suc i) * 2 ^ i) = rw (pow-succ' 2 i) (omega arith) in
     let s : suc (pred (2 ^ i)) ≡ 2 ^ i = omega (arith, pow-pos i) in
     let c : 2 ^ i * 2 ^ (lg n - suc i) ≡ pred (2 ^ i) * 2 ^ (lg n - suc i) + 2 ^ (lg n - suc i) = ap (λ (x : ℕ). x * 2 ^ (lg n - suc i)) (sym s) ∙ suc-mul (pred (2 ^ i)) (2 ^ (lg n - suc i)) in

@@ -10,7 +10,7 @@ use borrow.Author.Tests.{eq-eqb, ne-eqb, le-leb, lt-leb}
 use Rattle.lists.specs.Lists.{same}
 use Rattle.refusals.specs.Refusals.{bookLimit}
 use Rattle.layouts.specs.Layouts.{allowedScheme, allowedN, divides, lg, black, tile, tree, lastDays, coveredDays, namesOfDay, namesThrough, chains, chainsOfDay}
-use Rattle.layouts.proofs.AllowedLaws.{allowed-scheme-is, allowed-n-is, weight}
+use Rattle.layouts.proofs.AllowedLaws.{allowed-scheme-is, allowed-n-is}
 use Rattle.layouts.proofs.Coverage.{by-scheme, divisor-le}
 use Rattle.layouts.proofs.Counts.{levels-ones}
 use Rattle.positions.specs.declared.Kind.{Kind}
@@ -73,7 +73,7 @@ module _ (n i g : ℕ) (a : allowedN n ≡ true) (l : i ≤ lg n) (o : 1 ≤ g) 
       go (suc j) m k = sym (tile-last n g a w o j m)
 
   pub weight-fits : (i < 32) × (n / 2 ^ i ≤ g)
-  weight-fits = (weight n i a l .0, omega (arith, div-le-self n (2 ^ i), divisor-le n g o w))
+  weight-fits = (omega (arith, allowed-n-is n a .small), omega (arith, div-le-self n (2 ^ i), divisor-le n g o w))
 
   pub tile-of : {z : ℕ} → z ≡ chainOf n (tile i g) .last → four Tile i (g - n + 1) z ≡ chainOf n (tile i g)
   tile-of e = let p : suc (g - n) ≡ g - n + 1 = omega arith in four-of (tile-first n g a w o i l ∙ p) (sym e)
