@@ -6,8 +6,7 @@
 #include <stdio.h>
 
 #define SECONDS 3.0
-#define DAYS 64
-#define N 8
+#define DAYS 64 /* or N, if it is more */
 
 enum { BARE, SEAL, CHECK, CLOSE, JOBS };
 
@@ -17,9 +16,9 @@ static struct ledger bare_ledger(size_t blocks) { return make_ledger(1, 64 * (bl
 
 static double over(double time, double bare) { return 100 * (time / bare - 1); }
 
-static void print_row(uint32_t scheme, size_t size, size_t blocks, const double *t) {
-  printf("| %s | %zu | %.2f | %+.1f %% | %+.1f %% | %+.1f %% | %.2f |\n", scheme_name(scheme), size,
-         (double)blocks / DAYS, over(t[SEAL], t[BARE]), over(t[CHECK], t[BARE]), over(t[CLOSE], t[BARE]),
+static void print_row(uint32_t scheme, uint32_t n, size_t size, double blocks, const double *t) {
+  printf("| %s | %u | %zu | %.2f | %+.1f %% | %+.1f %% | %+.1f %% | %.2f |\n", scheme_name(scheme), n, size,
+         blocks, over(t[SEAL], t[BARE]), over(t[CHECK], t[BARE]), over(t[CLOSE], t[BARE]),
          t[CHECK] / t[SEAL]);
 }
 
@@ -37,16 +36,17 @@ static void note_targets(uint32_t scheme, const double *t) {
     target_at_most("tree: close against its blocks one after the other", t[CLOSE] / t[BARE], limits[2]);
 }
 
-static void row(uint32_t scheme, size_t size) {
-  size_t blocks = model_blocks(scheme, N, DAYS);
-  struct ledger ledger = make_ledger(DAYS, size), one = bare_ledger(blocks);
-  struct books books = make_books(scheme, N, ledger), bare = make_books(1, 1, one);
+static void row(uint32_t scheme, uint32_t n, size_t size) {
+  uint32_t days = n < DAYS ? DAYS : n;
+  size_t blocks = model_blocks(scheme, n, days);
+  struct ledger ledger = make_ledger(days, size), one = bare_ledger(blocks);
+  struct books books = make_books(scheme, n, ledger), bare = make_books(1, 1, one);
   struct job jobs[JOBS] = {{seal_job, &bare, 1}, {seal_job, &books, 1}, {check_job, &books, 1}, {close_job, &books, 1}};
   double t[JOBS];
   compare_books(&books);
   compare_books(&bare);
   least_times(jobs, JOBS, SECONDS, t);
-  print_row(scheme, size, blocks, t);
+  print_row(scheme, n, size, (double)blocks / days, t);
   note_targets(scheme, t);
   drop_books(&books);
   drop_books(&bare);
@@ -56,11 +56,12 @@ static void row(uint32_t scheme, size_t size) {
 
 void short_days(void) {
   printf("\n### Short days\n\nTime beyond that of the same number of blocks one after the other, in one long day. "
-         "N %d, F 1, %d days.\nClose is the call with its record in bytes, with an add before it where the day "
-         "has bytes.\n\n", N, DAYS);
-  printf("| layout | bytes a day | blocks a day | seal | check | close | check / seal |\n|---|---|---|---|---|---|---|\n");
+         "F 1, %d days,\nor N if it is more. Close is the call with its record in bytes, with an add before it where the day "
+         "has bytes.\n\n", DAYS);
+  printf("| layout | N | bytes a day | blocks a day | seal | check | close | check / seal |\n|---|---|---|---|---|---|---|---|\n");
   for (uint32_t scheme = 1; scheme <= SCHEMES; scheme++) {
-    row(scheme, 0);
-    row(scheme, 40);
+    row(scheme, 8, 0);
+    row(scheme, 8, 40);
   }
+  row(2, 256, 0);
 }

@@ -5,15 +5,15 @@ use Prim.Native.Nat.{ℕ, zero, suc, pred, _+_, _-_, _*_, _/_, _%_, _^_, _≤_, 
 use native.Mathlib.Nat.{le-div-iff-mul-le, div-add-mod', mul-assoc, div-le-self, le-trans, mul-le-mul, le-add-right}
 use native.Mathlib.Omega.{arith}
 use lib.{Arith.digits-mod, Count.ones, Count.leadingZeros, Count.leading-top, Count.leading-of-zero, Dec.eqb}
-use lib.{Dec.leb, ListN.length, ListN.length-map, ListN.length-append, Pow.pow-pos, Pow.pow-mono}
+use lib.{Dec.leb, ListN.length, ListN.length-map, ListN.length-append}
 use borrow.Author.Tests.{eqb-true, eq-eqb, leb-true, not-true}
 use Rattle.lists.proofs.Laws.{split, and-both, has-mem, upFrom-mem, every-at}
 use Rattle.refusals.specs.Refusals.{bookLimit, _orRefuse_}
 use Rattle.refusals.proofs.TestLaws.{passed, failed, Pass, none-fails, pass-split, refused-before, last-fails, last-passes}
-use Rattle.layouts.specs.{Statements.ValuesCounted, Statements.BookFront, Private.position}
+use Rattle.layouts.specs.{Statements.ValuesCounted, Statements.BookFront, Statements.CoverByArithmetic, Private.position}
 use Rattle.layouts.specs.Layouts.{divides, allowedScheme, allowedN, allowedF, allowedD, setupTests, layoutTests, setupRefusal}
-use Rattle.layouts.specs.Layouts.{layoutRefusal, lg, black, covers, namesThrough, coveredDays, chainsOfDay, chains}
-use Rattle.layouts.proofs.Coverage.{by-scheme, divisor-le, chains-suc, chains-front}
+use Rattle.layouts.specs.Layouts.{layoutRefusal, lg, black, namesThrough, coveredDays, chainsOfDay, chains}
+use Rattle.layouts.proofs.Coverage.{by-scheme, divisor-le, covers-by-bit, chains-suc, chains-front}
 use Rattle.layouts.proofs.Counts.{lg-unique, ones-small, digits, digits-small, through, count-through, values-length}
 
 -- ---- n
@@ -227,17 +227,6 @@ black-value s n g {p} a e l h q =
 pub place : (s n g i : ℕ) {p : ℕ} → p ≡ length (chains s n (g - 1)) → p + i ≡ length (namesThrough s n (pred g)) + i
 place s n g i {p} e = let k : g - 1 ≡ pred g = omega arith in rw (e, k, namesThrough-length s n (pred g))
 
--- the weight of a tile chain's bit
-pub weight : (n i : ℕ) → allowedN n ≡ true → i ≤ lg n → (i < 32) × (0 < n / 2 ^ i)
-weight n i e l =
-    let p = allowed-n-is n e in
-    let m : 2 ^ i ≤ n = rw (← (p .power)) at (pow-mono l) in
-    (omega (arith, p .small), le-div-iff-mul-le (pow-pos i) .1 (omega arith))
-
-pub covers-by : (n i o : ℕ) → (i ≡ 0 → ⊥) → eqb (o / (n / 2 ^ i) % 2) 0 ≡ covers n i o
-covers-by n zero o h = absurd (h refl)
-covers-by n (suc i) o h = refl
-
 pub lg-fits : (n k : ℕ) → allowedN n ≡ true → k ≡ lg n → 2 + k < 2 ^ 32
 lg-fits n k e h = let p = allowed-n-is n e in omega (arith, p .small)
 
@@ -260,3 +249,6 @@ values-counted s n f d e =
 
 pub book-front : BookFront
 book-front = chains-front
+
+pub cover-by-arithmetic : CoverByArithmetic
+cover-by-arithmetic n i o a l h = covers-by-bit n (lg n) i o (allowed-n-is n a .power) l h

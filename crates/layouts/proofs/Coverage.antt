@@ -4,9 +4,10 @@ use mathlib.Core.{Path._≡_, Path.refl, Path.sym, Path.ap, Path._∙_, Logic.in
 use mathlib.Core.Bool.{Bool, true, false, cond}
 use mathlib.Core.List.{List, [], _∷_, _++_, map, flatMap, map-append, append-assoc, append-nil, List·Memᴰ·head, List·Memᴰ·tail}
 use mathlib.Core.List.{List·Memᴰ·append-cases, List·Memᴰ·eq-of-singleton, Memᴰ·append-left, Memᴰ·append-right, Memᴰ·map, Memᴰ·of-map, Memᴰ·cast}
-use Prim.Native.Nat.{ℕ, zero, suc, _+_, _-_, _/_, _%_, _^_, _≤_}
-use native.Mathlib.{Nat.mod-eq-of-lt, Nat.mod-one, Nat.lt-of-not-le, Nat.add-zero, Nat.add-suc, Nat.mul-div-cancel, Decide.decLe, Omega.arith}
-use lib.Pow.{pow-pos, pow-add}
+use Prim.Native.Nat.{ℕ, zero, suc, _+_, _-_, _/_, _%_, _^_, _≤_, _<_}
+use native.Mathlib.{Nat.mod-eq-of-lt, Nat.mod-one, Nat.lt-of-not-le, Nat.add-zero, Nat.add-suc, Nat.mul-div-cancel, Nat.div-eq-of-lt}
+use native.Mathlib.{Decide.decLe, Omega.arith}
+use lib.{Dec.eqb, Pow.pow-pos, Pow.pow-add}
 use borrow.Author.Tests.{eqb-true, eq-eqb}
 use Rattle.lists.specs.Lists.{_among_, upFrom}
 use Rattle.evidence.specs.Evidence.{days, Within}
@@ -41,6 +42,13 @@ pub weight-is : (n k i : ℕ) → n ≡ 2 ^ k → i ≤ k → n / 2 ^ i ≡ 2 ^ 
 weight-is n k i e l =
     let q : k - i + i ≡ k = omega arith in
     ap (λ (x : ℕ). x / 2 ^ i) (e ∙ ap (λ (x : ℕ). 2 ^ x) (sym q) ∙ pow-add 2 (k - i) i) ∙ mul-div-cancel (2 ^ (k - i)) (pow-pos i)
+
+-- one rule for c(0) to c(k): the bit of c(0) is 0 at every offset
+pub covers-by-bit : (n k i o : ℕ) → n ≡ 2 ^ k → i ≤ k → o < n → covers n i o ≡ eqb (o / 2 ^ (k - i) % 2) 0
+covers-by-bit n k zero o e l h =
+    let q : n ≡ 2 ^ (k - 0) = e ∙ ap (λ (x : ℕ). 2 ^ x) (omega arith) in
+    ap (λ (x : ℕ). eqb (x % 2) 0) (sym (div-eq-of-lt (rw q at h)))
+covers-by-bit n k (suc i) o e l h = ap (λ (w : ℕ). eqb (o / w % 2) 0) (weight-is n k (suc i) e l)
 
 -- ---- the names that close at g: what holds of each holds of all
 

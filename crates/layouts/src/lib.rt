@@ -166,13 +166,10 @@ pub fn tree_at(n: u32, l: u32, g: u32) -> u32
     values_through(3, n, g - 1) + l
 }
 
-// Whether tile chain c(i) covers the offset o.
+// Whether tile chain c(i) covers the offset o: o's bit of weight 2^(lg n - i) is 0, which c(0)'s always is.
 pub fn covers(n: u32, i: u32, o: u32) -> bool
     requires { ⌜ (allowedN n ≡ true) × (i ≤ spec.lg n) × (o < n) ⌝ }
     ensures { λ r. ⌜ r ≡ spec.covers n i o ⌝ }
 {
-    if i == 0 {
-        return true;
-    }
-    o / (n >> i) % 2 == 0
+    (o >> (lg(n) - i)) % 2 == 0
 }

@@ -1,0 +1,59 @@
+/* Two builds of the library in one program, on the same empty days under the tile layout. Words: the call and N, for the
+ * time of the later build, that of the earlier one = 1; with "before" or "after" behind them one run of that build, for a
+ * count of its instructions. */
+#include "../calls.h"
+#include "../report.h"
+#include "../timing.h"
+
+#include <stdio.h>
+#include <stdlib.h>
+#include <string.h>
+
+#define SECONDS 5.0
+#define DAYS 256
+#define TILE 2
+
+enum { BEFORE, AFTER, BUILDS };
+
+/* Those of calls.h, over the earlier build. */
+void before_close_job(void *arg);
+void before_check_job(void *arg);
+void before_compare_books(struct books *books);
+
+typedef void job_function(void *arg);
+
+static job_function *const closing[BUILDS] = {before_close_job, close_job};
+static job_function *const checking[BUILDS] = {before_check_job, check_job};
+
+static job_function *const *call_of(const char *word) {
+  require(strcmp(word, "close") == 0 || strcmp(word, "check") == 0, "calls: close check");
+  return strcmp(word, "close") == 0 ? closing : checking;
+}
+
+static int build_of(const char *word) {
+  require(strcmp(word, "before") == 0 || strcmp(word, "after") == 0, "builds: before after");
+  return strcmp(word, "before") == 0 ? BEFORE : AFTER;
+}
+
+static void print_ratio(job_function *const *call, struct books *books) {
+  struct job jobs[BUILDS] = {{call[BEFORE], books, 1}, {call[AFTER], books, 1}};
+  double t[BUILDS];
+  before_compare_books(books);
+  compare_books(books);
+  least_times(jobs, BUILDS, SECONDS, t);
+  printf("%.3f\n", t[AFTER] / t[BEFORE]);
+}
+
+int main(int count, char **words) {
+  require(count == 3 || count == 4, "words: call N, or call N build");
+  struct ledger ledger = make_ledger(DAYS, 0);
+  struct books books = make_books(TILE, (uint32_t)atoi(words[2]), ledger);
+  job_function *const *call = call_of(words[1]);
+  if (count == 3)
+    print_ratio(call, &books);
+  else
+    call[build_of(words[3])](&books);
+  drop_books(&books);
+  drop_ledger(&ledger);
+  return 0;
+}

@@ -1,0 +1,24 @@
+# Counts of what a function of a program takes, with all that it calls: callgrind counts inside it alone.
+callgrind() { # FILE FUNCTION PROGRAM WORDS...
+    out=$1
+    inside=$2
+    shift 2
+    valgrind --tool=callgrind --callgrind-out-file="$out" --dump-instr=yes --dump-line=no --compress-pos=no \
+        --toggle-collect="$inside" "$@" 2>&1
+}
+
+instructions() { # FUNCTION PROGRAM WORDS...
+    callgrind /dev/null "$@" | sed -n 's/.*Collected : //p'
+}
+
+# The divisions of whole numbers among them. The program has to be linked with -no-pie: its addresses are then its file's.
+divisions() { # FUNCTION PROGRAM WORDS...
+    counts=$(mktemp)
+    callgrind "$counts" "$@" >/dev/null
+    objdump -d --no-show-raw-insn "$2" |
+        awk 'FNR == NR { if ($2 ~ /^i?div[bwlq]?$/) { sub(":", "", $1); is["0x" $1] = 1 } next }
+             /^calls=/ { getline; next }
+             $1 in is { all += $2 }
+             END { print all + 0 }' - "$counts"
+    rm "$counts"
+}
