@@ -1,9 +1,12 @@
-# Counts of what a function of a program takes, with all that it calls: callgrind counts inside it alone.
+# Counts of what a function of a program takes, with all that it calls: callgrind counts inside it alone. A copy takes more or
+# fewer instructions by where the stack lies, so there is no environment, which would move it.
+command -v valgrind >/dev/null || { echo "instructions: no valgrind here" >&2; exit 1; }
+
 callgrind() { # FILE FUNCTION PROGRAM WORDS...
     out=$1
     inside=$2
     shift 2
-    valgrind --tool=callgrind --callgrind-out-file="$out" --dump-instr=yes --dump-line=no --compress-pos=no \
+    env -i "$(command -v valgrind)" --tool=callgrind --callgrind-out-file="$out" --dump-instr=yes --dump-line=no --compress-pos=no \
         --toggle-collect="$inside" "$@" 2>&1
 }
 

@@ -54,14 +54,19 @@ static void row(uint32_t scheme, uint32_t n, size_t size) {
   drop_ledger(&one);
 }
 
+static void rows(uint32_t scheme, uint32_t n) {
+  row(scheme, n, 0);
+  row(scheme, n, 40);
+}
+
 void short_days(void) {
   printf("\n### Short days\n\nTime beyond that of the same number of blocks one after the other, in one long day. "
          "F 1, %d days,\nor N if it is more. Close is the call with its record in bytes, with an add before it where the day "
          "has bytes.\n\n", DAYS);
   printf("| layout | N | bytes a day | blocks a day | seal | check | close | check / seal |\n|---|---|---|---|---|---|---|---|\n");
   for (uint32_t scheme = 1; scheme <= SCHEMES; scheme++) {
-    row(scheme, 8, 0);
-    row(scheme, 8, 40);
+    rows(scheme, 8);
+    if (scheme == 2)
+      rows(scheme, 256);
   }
-  row(2, 256, 0);
 }

@@ -1,6 +1,6 @@
 /* Two builds of the library in one program, on the same empty days under the tile layout. Words: the call and N, for the
- * time of the later build, that of the earlier one = 1; with "before" or "after" behind them one run of that build, for a
- * count of its instructions. */
+ * time of the later build, that of the earlier one = 1; with "old" or "new" behind them one run of that build, for a count
+ * of its instructions. */
 #include "../calls.h"
 #include "../report.h"
 #include "../timing.h"
@@ -31,15 +31,24 @@ static job_function *const *call_of(const char *word) {
 }
 
 static int build_of(const char *word) {
-  require(strcmp(word, "before") == 0 || strcmp(word, "after") == 0, "builds: before after");
-  return strcmp(word, "before") == 0 ? BEFORE : AFTER;
+  require(strcmp(word, "old") == 0 || strcmp(word, "new") == 0, "builds: old new");
+  return strcmp(word, "old") == 0 ? BEFORE : AFTER;
+}
+
+/* On days with bytes: of empty ones a chain's value tells how many it covers, and not which. */
+static void compare_builds(uint32_t n) {
+  struct ledger ledger = make_ledger(DAYS, 40);
+  struct books books = make_books(TILE, n, ledger);
+  before_compare_books(&books);
+  compare_books(&books);
+  drop_books(&books);
+  drop_ledger(&ledger);
 }
 
 static void print_ratio(job_function *const *call, struct books *books) {
   struct job jobs[BUILDS] = {{call[BEFORE], books, 1}, {call[AFTER], books, 1}};
   double t[BUILDS];
-  before_compare_books(books);
-  compare_books(books);
+  compare_builds(books->n);
   least_times(jobs, BUILDS, SECONDS, t);
   printf("%.3f\n", t[AFTER] / t[BEFORE]);
 }

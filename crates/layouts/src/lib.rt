@@ -166,10 +166,11 @@ pub fn tree_at(n: u32, l: u32, g: u32) -> u32
     values_through(3, n, g - 1) + l
 }
 
-// Whether tile chain c(i) covers the offset o: o's bit of weight 2^(lg n - i) is 0, which c(0)'s always is.
+// Whether tile chain c(i) covers the offset o.
 pub fn covers(n: u32, i: u32, o: u32) -> bool
     requires { ⌜ (allowedN n ≡ true) × (i ≤ spec.lg n) × (o < n) ⌝ }
     ensures { λ r. ⌜ r ≡ spec.covers n i o ⌝ }
 {
+    // The bit of c(0) has the weight n, so it is 0 in every offset.
     (o >> (lg(n) - i)) % 2 == 0
 }
