@@ -10,8 +10,10 @@ callgrind() { # FILE FUNCTION PROGRAM WORDS...
         --toggle-collect="$inside" "$@" 2>&1
 }
 
+# A program that fails is not counted.
 instructions() { # FUNCTION PROGRAM WORDS...
-    callgrind /dev/null "$@" | sed -n 's/.*Collected : //p'
+    said=$(callgrind /dev/null "$@")
+    echo "$said" | sed -n 's/.*Collected : //p'
 }
 
 # The divisions of whole numbers among them. The program has to be linked with -no-pie: its addresses are then its file's.
