@@ -22,8 +22,8 @@ extern "C" {
 #endif
 
 /* The version of this header: 10000 * major + 100 * minor + patch, and as text. */
-#define DAYBOOK_VERSION 500
-#define DAYBOOK_VERSION_TEXT "0.5.0"
+#define DAYBOOK_VERSION 600
+#define DAYBOOK_VERSION_TEXT "0.6.0"
 
 /* The bytes of a record. To be kept on disk as it is: no padding, the same on every machine.
  * Numbers are 32 bits, little-endian:
@@ -71,7 +71,8 @@ enum daybook_refusal {
   DAYBOOK_FEW_LENGTHS = 16,      /* fewer than D lengths of days */
   DAYBOOK_LONG_DAY = 17,         /* one of the first D lengths is over the day's limit */
   DAYBOOK_NOT_IN_BOOK = 18,      /* a position not below the number of values, or no chain of the book */
-  DAYBOOK_BAD_PASSED = 19        /* the day of the last passed check is not below D, or no multiple of N */
+  DAYBOOK_BAD_PASSED = 19,       /* the day of the last passed check is not below D, or no multiple of N */
+  DAYBOOK_NOT_TREE = 20          /* a search of a table whose scheme is not 3 */
 };
 
 /* What a refusal says, in words. */
@@ -98,6 +99,7 @@ static inline const char *daybook_refusal_text(uint32_t number) {
   case DAYBOOK_LONG_DAY: return "the length of a day is over 16,777,216 bytes";
   case DAYBOOK_NOT_IN_BOOK: return "the book has no such position or chain";
   case DAYBOOK_BAD_PASSED: return "the day of the last passed check is not below D, or N does not divide it";
+  case DAYBOOK_NOT_TREE: return "the scheme is not 3, and only tables of the tree are searched";
   default: return "a number that is no refusal";
   }
 }
@@ -145,6 +147,19 @@ uint32_t daybook_read(uint32_t scheme, uint32_t n, uint32_t f, uint32_t d, uint3
                       const uint8_t *outcomes, size_t outcomes_len,
                       uint32_t *list, size_t list_len,
                       uint32_t numbers[5]);
+
+/* Search a table of scheme 3 for its altered days, looking at no more than limit chains. The largest
+ * chains over the D days are looked at from left to right; when one fails, its left half and then its
+ * right half are dealt with fully before whatever follows. Writes the altered days found, ascending, to
+ * the front of list (which must have D places, whatever is found); the rest stays. progress: chains
+ * looked at, days found, days undecided. Undecided are the days under chains that would come next: the
+ * last ones up to D. With none undecided the list is that of daybook_read; else the number of altered
+ * days lies between found and found + undecided. A limit of 2 * D is never reached.
+ * Refusals 1 2 3 7 8 12 13 14 20. */
+uint32_t daybook_search(uint32_t scheme, uint32_t n, uint32_t f, uint32_t d,
+                        const uint8_t *outcomes, size_t outcomes_len, uint32_t limit,
+                        uint32_t *list, size_t list_len,
+                        uint32_t progress[3]);
 
 /* The 32 bits at an offset of a record. */
 static inline uint32_t daybook_record_number(const uint8_t record[DAYBOOK_RECORD], size_t offset) {
