@@ -27,7 +27,11 @@ use Rattle.positions.specs.declared.Located.the-variants as case-of-located
 use Rattle.positions.specs.declared.Place.{Place}
 use Rattle.positions.specs.declared.Place.the-variants as case-of-place
 use Rattle.positions.specs.Positions.{kindNumber, locatedNumber, placeNumber}
-use Rattle.daybook_c.specs.Contract.{addedBytes, closedBytes, numbersAfter, valuesAfter, recordValuesAfter, sizesAfter, chainAfter, positionAfter}
+use Rattle.searching.specs.declared.Progress.{Progress}
+use Rattle.searching.specs.declared.Searched.{Searched}
+use Rattle.searching.specs.declared.Searched.the-variants as case-of-searched
+use Rattle.searching.specs.Searching.{searchedNumber}
+use Rattle.daybook_c.specs.Contract.{addedBytes, closedBytes, numbersAfter, valuesAfter, recordValuesAfter, sizesAfter, chainAfter, positionAfter, progressAfter}
 
 -- ---- add
 
@@ -176,3 +180,15 @@ module _ (answer : Place) (old : ℕ) where
   pub place-kept : (x : ℕ) → case-of-place.Refused x ≡ answer → (x ≡ placeNumber answer) × (old ≡ positionAfter answer old)
   unfolding positionAfter
   place-kept x e = (rw (← e), rw (← e))
+
+-- ---- search
+
+module _ (answer : Searched) (old : List ℕ) where
+  pub search-given : (p : Progress) → case-of-searched.State p ≡ answer →
+      (0 ≡ searchedNumber answer) × (p .looked ∷ p .found ∷ p .undecided ∷ [] ≡ progressAfter answer old)
+  unfolding progressAfter
+  search-given p e = (rw (← e), rw (← e))
+
+  pub search-kept : (x : ℕ) → case-of-searched.Refused x ≡ answer → (x ≡ searchedNumber answer) × (old ≡ progressAfter answer old)
+  unfolding progressAfter
+  search-kept x e = (rw (← e), rw (← e))

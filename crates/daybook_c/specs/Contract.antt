@@ -13,6 +13,8 @@ use Rattle.positions.specs.declared.Located.the-variants as case-of-located
 use Rattle.positions.specs.declared.Place.{Place}
 use Rattle.positions.specs.declared.Place.the-variants as case-of-place
 use Rattle.positions.specs.Positions.{numbersOf}
+use Rattle.searching.specs.declared.Searched.{Searched}
+use Rattle.searching.specs.declared.Searched.the-variants as case-of-searched
 use Rattle.service.specs.Contract.{writingNumber, countOf, added, closing, writtenSoFar}
 
 -- add, on a record's bytes; blocks is what the number of blocks was before
@@ -79,6 +81,11 @@ unfoldable pub positionAfter : Place → ℕ → ℕ
 positionAfter (case-of-place.At p) position = p
 positionAfter (case-of-place.Refused number) position = position
 
+-- the three numbers after search: looked, found, undecided (SPEC 20.5)
+unfoldable pub progressAfter : Searched → List ℕ → List ℕ
+progressAfter (case-of-searched.State p) progress = p .looked ∷ p .found ∷ p .undecided ∷ []
+progressAfter (case-of-searched.Refused number) progress = progress
+
 -- the version of the calls: 10000 · major + 100 · minor + patch
 abbrev pub version : ℕ
-version = 500
+version = 600

@@ -3,6 +3,7 @@
 use positions::Located;
 use positions::Place;
 use record_bytes::RECORD_BYTES;
+use searching::Searched;
 use sizing::Sizing;
 ghost use mathlib.Core.Path.{_≡_};
 ghost use Rattle.refusals.specs.Refusals.{numberOf};
@@ -14,8 +15,10 @@ ghost use Rattle.positions.specs.Positions.{located, locatedNumber, placed, pla
 ghost use Rattle.sealing.specs.Contract.{sealedBook};
 ghost use Rattle.checking.specs.Contract.{checked};
 ghost use Rattle.reading.specs.Contract.{readout};
+ghost use Rattle.searching.specs.Searching.{searched, searchedNumber};
 ghost use Rattle.daybook_c.specs.Contract.{addedBytes, closedBytes, numbersAfter, valuesAfter};
-ghost use Rattle.daybook_c.specs.Contract.{recordValuesAfter, sizesAfter, chainAfter, positionAfter, version};
+ghost use Rattle.daybook_c.specs.Contract.{recordValuesAfter, sizesAfter, chainAfter, positionAfter, progressAfter};
+ghost use Rattle.daybook_c.specs.Contract.{version};
 
 #[no_mangle]
 pub extern "C" fn daybook_open(scheme: u32, n: u32, f: u32, state: &mut [u8; RECORD_BYTES]) -> u32
@@ -248,8 +251,37 @@ pub extern "C" fn daybook_position_of(
 }
 
 #[no_mangle]
+pub extern "C" fn daybook_search(
+    scheme: u32,
+    n: u32,
+    f: u32,
+    d: u32,
+    outcomes: &[u8],
+    limit: u32,
+    list: &mut [u32],
+    progress: &mut [u32; 3],
+) -> u32
+    ensures { λ r. ⌜ r ≡
+        searchedNumber (searched scheme n f d (now (outcomes .entry)) limit (now (list .entry)) .answer) ⌝ }
+    ensures { λ r. ⌜ now (list .exit) ≡
+        searched scheme n f d (now (outcomes .entry)) limit (now (list .entry)) .list ⌝ }
+    ensures { λ r. ⌜ now (progress .exit) ≡
+        progressAfter (searched scheme n f d (now (outcomes .entry)) limit (now (list .entry)) .answer)
+        (now (progress .entry)) ⌝ }
+{
+    let a = searching::search(scheme, n, f, d, outcomes, limit, list);
+    match a {
+        Searched::State(p) => {
+            *progress = [p.looked, p.found, p.undecided];
+            0
+        }
+        Searched::Refused(x) => x,
+    }
+}
+
+#[no_mangle]
 pub extern "C" fn daybook_version() -> u32
     ensures { λ r. ⌜ r ≡ version ⌝ }
 {
-    500
+    600
 }

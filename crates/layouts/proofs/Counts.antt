@@ -68,12 +68,12 @@ double-mod h w p =
     let e : 2 * h ≡ h / w * (2 * w) + 2 * (h % w) = omega arith in
     ap (λ (x : ℕ). x % (2 * w)) e ∙ digits-mod (h / w) (omega arith)
 
-double-divides : (i h : ℕ) → divides (2 ^ suc i) (2 * h) ≡ divides (2 ^ i) h
+pub double-divides : (i h : ℕ) → divides (2 ^ suc i) (2 * h) ≡ divides (2 ^ i) h
 double-divides i h = rw (pow-succ', double-mod h (2 ^ i) (pow-pos i)) (bool-ext (eqb (2 * (h % 2 ^ i)) 0) (eqb (h % 2 ^ i) 0)
     (λ e. let z = eqb-true (2 * (h % 2 ^ i)) 0 e in eq-eqb (h % 2 ^ i) 0 (omega arith))
     (λ e. let z = eqb-true (h % 2 ^ i) 0 e in eq-eqb (2 * (h % 2 ^ i)) 0 (omega arith)))
 
-odd-divides : (i h : ℕ) → divides (2 ^ suc i) (2 * h + 1) ≡ false
+pub odd-divides : (i h : ℕ) → divides (2 ^ suc i) (2 * h + 1) ≡ false
 odd-divides i h = ne-eqb ((2 * h + 1) % 2 ^ suc i) 0 (λ z.
     let d : (2 * h + 1) / 2 ^ suc i * 2 ^ suc i + (2 * h + 1) % 2 ^ suc i ≡ 2 * h + 1 = div-add-mod' (2 * h + 1) (2 ^ suc i) in
     let m : (2 * h + 1) / 2 ^ suc i * 2 ^ suc i ≡ 2 * ((2 * h + 1) / 2 ^ suc i * 2 ^ i) = rw pow-succ' (omega arith) in
@@ -92,7 +92,7 @@ unfolding count
 count-odd h zero i = refl
 count-odd h (suc n) i = rw (odd-divides i h) (count-odd h n (suc i))
 
-parity : (g : ℕ) → (g ≡ 2 * (g / 2)) ⊎ (g ≡ 2 * (g / 2) + 1)
+pub parity : (g : ℕ) → (g ≡ 2 * (g / 2)) ⊎ (g ≡ 2 * (g / 2) + 1)
 parity g = elim (decLt (g % 2) 1) [ yes h ↦ inl (omega arith) | no h ↦ inr (omega arith) ]
 
 count-first : (n g : ℕ) → count g (suc n) 0 ≡ 1 + count g n 1
