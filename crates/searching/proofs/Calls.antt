@@ -83,10 +83,10 @@ module _ (s n f d : ℕ) (o : List ℕ) (places : ℕ) where
 
 -- ---- the answer
 
-module _ (s n f d : ℕ) (o : List ℕ) (limit : ℕ) (l : List ℕ) {r : ℕ} (e : r ≡ searchRefusal s n f d o (length l)) where
-  pub search-refused : (r ≡ 0 → ⊥) → (Refused r ≡ searched s n f d o limit l .answer) × (l ≡ searched s n f d o limit l .list)
+module _ (s n f d : ℕ) (o l : List ℕ) {r : ℕ} (e : r ≡ searchRefusal s n f d o (length l)) where
+  pub search-refused : (limit : ℕ) → (r ≡ 0 → ⊥) → (Refused r ≡ searched s n f d o limit l .answer) × (l ≡ searched s n f d o limit l .list)
   unfolding searched
-  search-refused h = (rw (← e) (refused r h), old-stays (searchRefusal s n f d o (length l)) _ l e h)
+  search-refused limit h = (rw (← e) (refused r h), old-stays (searchRefusal s n f d o (length l)) _ l e h)
     where
       refused : (x : ℕ) → (x ≡ 0 → ⊥) → Refused x ≡ searchedOf x (progressOf n d (tableIn s n d o) limit)
       refused zero k = absurd (k refl)
@@ -107,11 +107,11 @@ module _ (s n f d : ℕ) (o : List ℕ) (limit : ℕ) (l : List ℕ) {r : ℕ} (
       pub walk-given : Given 3 n d (take x o) (length l)
       walk-given = rw part-is (search-given s n f d o (length l) (sym e ∙ z))
 
-      pub search-state : (p : Progress) → p ≡ progressOf n d (take x o) limit → State p ≡ searched s n f d o limit l .answer
+      pub search-state : (limit : ℕ) (p : Progress) → p ≡ progressOf n d (take x o) limit → State p ≡ searched s n f d o limit l .answer
       unfolding searched
-      search-state p h = rw (← e, z, h, part-is)
+      search-state limit p h = rw (← e, z, h, part-is)
 
-      pub search-list : {m : List ℕ} → m ≡ foundDays n d (take x o) limit ++ drop (length (foundDays n d (take x o) limit)) l → m ≡ searched s n f d o limit l .list
+      pub search-list : (limit : ℕ) {m : List ℕ} → m ≡ foundDays n d (take x o) limit ++ drop (length (foundDays n d (take x o) limit)) l → m ≡ searched s n f d o limit l .list
       unfolding searched
-      search-list h =
+      search-list limit h =
           h ∙ ap (λ y. foundDays n d y limit ++ drop (length (foundDays n d y limit)) l) part-is ∙ new-stands (searchRefusal s n f d o (length l)) _ l e z
