@@ -99,7 +99,7 @@ module _ (n d places : ℕ) (t : List ℕ) (G : Given 3 n d t places) where
         let x = dealt-size l g (fits-left d g l f) in
         let y = rw (← r) at (dealt-size l (g + 2 ^ l) (fits-right d g l f)) in
         let s : length (changedIn n d t g (2 ^ suc l)) ≡ length (changedIn n d t g (2 ^ l)) + length (changedIn n d t (g + 2 ^ l) (2 ^ l)) =
-            ap (λ k. length (changedIn n d t g k)) c ∙ ap length (changed-split n d t g (2 ^ l) (2 ^ l)) ∙ length-append (changedIn n d t g (2 ^ l)) (changedIn n d t (g + 2 ^ l) (2 ^ l)) in
+        ap (λ k. length (changedIn n d t g k)) c ∙ ap length (changed-split n d t g (2 ^ l) (2 ^ l)) ∙ length-append (changedIn n d t g (2 ^ l)) (changedIn n d t (g + 2 ^ l) (2 ^ l)) in
         let o = rw s at (own-some n d places t G g (suc l) f e) in
         rw (dealt-both p l (g + 2 ^ suc l) e, h, s) (omega arith)
   ]
@@ -114,10 +114,10 @@ module _ (n d places : ℕ) (t : List ℕ) (G : Given 3 n d t places) where
       let b = dealt-size l g f in
       let c : d - g ≡ 2 ^ l + (d - (g + 2 ^ l)) = omega (arith, f .room) in
       let u : 2 * l * length (changedIn n d t g (2 ^ l)) ≤ 2 * lg d * length (changedIn n d t g (2 ^ l)) =
-          mul-le-mul-right (length (changedIn n d t g (2 ^ l))) (let m = level-most d g l f in omega arith) in
+      mul-le-mul-right (length (changedIn n d t g (2 ^ l))) (let m = level-most d g l f in omega arith) in
       let s : length (changedIn n d t g (d - g)) ≡ length (changedIn n d t g (2 ^ l)) + length (changedIn n d t (g + 2 ^ l) (d - (g + 2 ^ l))) =
-          ap (λ k. length (changedIn n d t g k)) c ∙ ap length (changed-split n d t g (2 ^ l) (d - (g + 2 ^ l))) ∙
-          length-append (changedIn n d t g (2 ^ l)) (changedIn n d t (g + 2 ^ l) (d - (g + 2 ^ l))) in
+      ap (λ k. length (changedIn n d t g k)) c ∙ ap length (changed-split n d t g (2 ^ l) (d - (g + 2 ^ l))) ∙
+      length-append (changedIn n d t g (2 ^ l)) (changedIn n d t (g + 2 ^ l) (d - (g + 2 ^ l))) in
       rw (e .1, length-append, s) (omega arith)
 
   pub walk-size : length (walk p d) ≤ ones d + 2 * length (changedTo n d t d) * lg d

@@ -176,7 +176,7 @@ module _ (d l : ℕ) where
 abbrev pub before : ℕ → ℕ → ℕ
 before d l = d / 2 ^ l * 2 ^ l
 
-before-one : (d l : ℕ) → d / 2 ^ l % 2 ≡ 1 → before d l ≡ before d (suc l) + 2 ^ l
+pub before-one : (d l : ℕ) → d / 2 ^ l % 2 ≡ 1 → before d l ≡ before d (suc l) + 2 ^ l
 before-one d l o = let w = pow-succ' 2 l in let b = bit-point d l in rw (b, o, w) (omega arith)
 
 before-none : (d l : ℕ) → d / 2 ^ l % 2 ≡ 0 → before d l ≡ before d (suc l)

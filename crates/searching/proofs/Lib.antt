@@ -5,3 +5,5 @@ pub mod Reached
 pub mod Bounds
 pub mod Looks
 pub mod Calls
+pub mod Maximal
+pub mod Statements

@@ -59,7 +59,7 @@ changed-split n d t g a b =
     let e : suc g + a ≡ suc (g + a) = omega arith in
     ap (keep (isChanged n d t)) (upFrom-append (suc g) a b) ∙ keep-append (isChanged n d t) (upFrom (suc g) a) (upFrom (suc g + a) b) ∙ rw e
 
-changed-more : (n d : ℕ) (t : List ℕ) (g k : ℕ) → changedTo n d t g ++ changedIn n d t g k ≡ changedTo n d t (g + k)
+pub changed-more : (n d : ℕ) (t : List ℕ) (g k : ℕ) → changedTo n d t g ++ changedIn n d t g k ≡ changedTo n d t (g + k)
 changed-more n d t g k = let z : 0 + g ≡ g = omega arith in sym (rw z at (changed-split n d t 0 g k))
 
 some-there : {x : ℕ} {xs : List ℕ} → x among xs → 1 ≤ length xs

@@ -1,0 +1,220 @@
+-- What specs/Statements says of a search.
+use mathlib.Core.Path.{_≡_, refl, sym, ap, subst, _∙_}
+use mathlib.Core.Logic.{_↔_, inl, inr}
+use mathlib.Core.Bool.{Bool, true, false, not, _||_}
+use mathlib.Core.List.{List, [], _∷_, _++_, flatMap, List·Memᴰ·head, List·Memᴰ·tail, List·Memᴰ·cases-cons}
+use Prim.Native.Nat.{ℕ, zero, suc, _+_, _-_, _*_, _≤_, _<_}
+use native.Mathlib.{Decide.decLt, Decide.ℕ-discrete, Omega.arith}
+use lib.{Dec.eqb, ListN.length, ListN.take, ListN.drop, ListN.length-append, ListN.length-take}
+use lib.{Seq.take-append-seam, Seq.drop-at, Count.ones}
+use borrow.Author.Tests.{eqb-true, eq-eqb, ne-eqb}
+use Rattle.lists.specs.Lists.{_among_, has, upFrom, keep, Ascends}
+use Rattle.lists.proofs.Laws.{split, true-or-false, mem-has, has-mem, upFrom-mem, upFrom-bounds, keep-congr, has-keep, keep-ascends, ascends-later, length-upFrom}
+use Rattle.evidence.specs.Evidence.{days, tableOf, cleared, Gives, listing}
+use Rattle.evidence.proofs.TableLaws.{lists-exactly}
+use Rattle.refusals.specs.Refusals.{Test, _orRefuse_, firstRefusal}
+use Rattle.refusals.proofs.TestLaws.{refused-before, refused-after, never-said, last-fails, same-refusal}
+use Rattle.layouts.specs.Layouts.{lg, lastDays, chains, layoutTests}
+use Rattle.layouts.proofs.Coverage.{tree-single}
+use Rattle.acceptance.proofs.{Runs.keep-none, Runs.keep-length}
+use Rattle.reading.specs.Contract.{tableIn, allowedPassed, tableTests, readTests, readRefusal, listedIn, Readout, readout}
+use Rattle.reading.specs.Private.{Given}
+use Rattle.reading.proofs.Report.{readout-found}
+use Rattle.searching.specs.declared.Progress.{Progress}
+use Rattle.searching.specs.Searching.{maximal, passesIn, walk, Looks, looks, searchOf, foundIn, daysUnder, foundDays, progressOf, searchRefusal, Searchout, searched}
+use Rattle.searching.specs.Private.{isChanged, changedTo}
+use Rattle.searching.specs.Statements.{SaysNotTree, RefusesAsReading, StateOf, FinishedOf, SearchOf, SearchTold, NothingLooked, WalkShort}
+use Rattle.searching.proofs.WalkLaws.{looks-first, looks-all}
+use Rattle.searching.proofs.Frontier.{due-days, maximal-laid, laid-days}
+use Rattle.searching.proofs.Tables.{changedIn, changed-more}
+use Rattle.searching.proofs.Reached.{Reached, reached}
+use Rattle.searching.proofs.Bounds.{walk-few, walk-size}
+use Rattle.searching.proofs.Calls.{firstTests, search-tree, search-given}
+
+-- ---- tests
+
+pub says-not-tree : SaysNotTree
+unfolding searchRefusal
+says-not-tree s n f d o places = (
+  λ e. elim (ℕ-discrete (firstRefusal A) 0) [
+    | yes z ↦ (z, λ q. zero-twenty (searchRefusal s n f d o places) (refused-after A (eqb s 3 orRefuse 20 ∷ []) refl z ∙ rw (eq-eqb s 3 q)) e)
+    | no h ↦ absurd (never-said 20 A refl (λ q. absurd (omega arith)) (refused-before A (eqb s 3 orRefuse 20 ∷ []) refl h ∙ e))
+  ],
+  λ h. sym (last-fails A (eqb s 3) 20 refl refl (h .0) (ne-eqb s 3 (h .1))),
+)
+  where
+    A : List Test
+    A = firstTests s n f d o places
+
+    zero-twenty : (x : ℕ) → x ≡ 0 → x ≡ 20 → ⊥
+    zero-twenty x p q = omega arith
+
+last-true : (x : ℕ) (a : List Test) → firstRefusal (a ++ (true orRefuse x ∷ [])) ≡ firstRefusal a
+last-true x [] = refl
+last-true x (true orRefuse y ∷ a) = last-true x a
+last-true x (false orRefuse y ∷ a) = refl
+
+pub refuses-as-reading : RefusesAsReading
+unfolding searchRefusal readRefusal
+refuses-as-reading n f d p o places h =
+    let L = layoutTests 3 n f d in
+    let T = tableTests 3 n d o places in
+    last-true 20 (L ++ T) ∙ sym (ap (λ b. firstRefusal ((L ++ (b orRefuse 19 ∷ [])) ++ T)) h ∙ same-refusal (L ++ (true orRefuse 19 ∷ [])) L T T refl refl (last-true 19 L) refl)
+
+-- ---- a set of days, ascending, is told by its members
+
+isIn : List ℕ → ℕ → Bool
+isIn S x = has x S
+
+ascends-apart : (i : ℕ) (S : List ℕ) → Ascends (suc i) S → has i S ≡ false
+ascends-apart i [] a = refl
+ascends-apart i (y ∷ ys) a = rw (ne-eqb i y (λ e. absurd (omega (arith, a .0))), ascends-apart i ys (ascends-later ys (suc i) (suc y) (omega (arith, a .0)) (a .1)))
+
+ascends-keep : (k i : ℕ) (S : List ℕ) → Ascends i S → ((x : ℕ) → x among S → x < i + k) → keep (isIn S) (upFrom i k) ≡ S
+unfolding isIn
+ascends-keep zero i [] a b = refl
+ascends-keep zero i (y ∷ ys) a b = absurd (omega (arith, a .0, b y (List·Memᴰ·head refl)))
+ascends-keep (suc k) i [] a b = keep-none (isIn []) (upFrom i (suc k)) (λ g m. refl)
+ascends-keep (suc k) i (y ∷ ys) a b = elim (decLt i y) [
+  | yes h ↦ rw (ascends-apart i (y ∷ ys) (h, a .1)) (ascends-keep k (suc i) (y ∷ ys) (h, a .1) (λ x m. omega (arith, b x m)))
+  | no h ↦ let e : i ≡ y = omega (arith, a .0) in
+      rw (eq-eqb i y e) (ap (λ r. i ∷ r) (keep-congr (isIn (y ∷ ys)) (isIn ys) (upFrom (suc i) k) (λ x m. later x (upFrom-bounds (suc i) k x m .0) e) ∙
+      ascends-keep k (suc i) ys (rw e (a .1)) (λ x m. omega (arith, b x (List·Memᴰ·tail m)))) ∙ ap (λ x. x ∷ ys) e)
+]
+  where
+    later : (x : ℕ) → suc i ≤ x → i ≡ y → eqb x y || has x ys ≡ has x ys
+    later x l e = rw (ne-eqb x y (λ q. absurd (omega arith)))
+
+-- the one set that gives a table of the tree
+only-set : (n d : ℕ) (S t : List ℕ) → Ascends 1 S → Gives (chains 3 n d) d S t → listing (chains 3 n d) d t ≡ S
+only-set n d S t a h =
+    let e : keep (isIn S) (days d) ≡ S = ascends-keep d 1 S a (λ x m. omega (arith, h .within x m)) in
+    ap (listing (chains 3 n d) d) (sym (h .gives) ∙ ap (tableOf (chains 3 n d)) (sym e)) ∙ lists-exactly (chains 3 n d) d (tree-single n d) (isIn S) ∙ e
+
+changed-listed : (n d : ℕ) (t : List ℕ) → changedTo n d t d ≡ listing (chains 3 n d) d t
+unfolding listing
+changed-listed n d t =
+    keep-congr (isChanged n d t) (λ g. not (cleared g (chains 3 n d) t)) (days d)
+    (λ g m. has-keep (λ x. not (cleared x (chains 3 n d) t)) (days d) g ∙ rw (mem-has m))
+
+-- ---- a search that is not refused
+
+module _ (n d : ℕ) (t : List ℕ) (limit : ℕ) (before : List ℕ) (G : Given 3 n d t (length before)) where
+  abbrev P : Progress
+  P = progressOf n d t limit
+
+  abbrev F : List ℕ
+  F = foundDays n d t limit
+
+  g : ℕ
+  g = reached n d (length before) t G limit .0
+
+  R : Reached n d t limit g (reached n d (length before) t G limit .1)
+  unfolding g
+  R = reached n d (length before) t G limit .2
+
+  under : daysUnder n (searchOf n d t limit .due) ≡ upFrom (suc g) (d - g)
+  under = due-days n d g _ (searchOf n d t limit .due) (R .due)
+
+  found-is : P .found ≡ length (changedTo n d t g)
+  unfolding progressOf
+  found-is = ap length (R .found)
+
+  undecided-is : P .undecided ≡ d - g
+  unfolding progressOf
+  undecided-is = ap length under ∙ length-upFrom (suc g) (d - g)
+
+  changed-size : length (changedTo n d t d) ≡ length (changedTo n d t g) + length (changedIn n d t g (d - g))
+  changed-size =
+      let e : g + (d - g) ≡ d = omega (arith, R .due .most) in
+      ap (λ x. length (changedTo n d t x)) (sym e) ∙ ap length (sym (changed-more n d t g (d - g))) ∙ length-append (changedTo n d t g) (changedIn n d t g (d - g))
+
+  set-size : (S : List ℕ) → Ascends 1 S → Gives (chains 3 n d) d S t → length S ≡ length (changedTo n d t d)
+  set-size S a h = ap length (sym (only-set n d S t a h) ∙ sym (changed-listed n d t))
+
+  number-between : (S : List ℕ) → Ascends 1 S → Gives (chains 3 n d) d S t → (P .found ≤ length S) × (length S ≤ P .found + P .undecided)
+  number-between S a h =
+      let e = set-size S a h in
+      let c = changed-size in
+      let b = keep-length (isChanged n d t) (upFrom (suc g) (d - g)) in
+      let l = length-upFrom (suc g) (d - g) in
+      (omega (arith, found-is), omega (arith, found-is, undecided-is))
+
+  pub state-of : StateOf n d t limit before (F ++ drop (length F) before) P
+  unfolding progressOf walk foundDays
+  state-of =
+      record {
+        first-of-walk = looks-first (passesIn n d t) limit (maximal d);
+        looked-counted = refl;
+        looked-least = ap length (looks-first (passesIn n d t) limit (maximal d)) ∙ length-take limit (walk (passesIn n d t) d);
+        found-counted = ap length front;
+        found-days = front;
+        ascending = rw front (rw (R .found) (keep-ascends (isChanged n d t) 1 g));
+        rest = drop-at F (drop (length F) before) (length F) refl;
+        undecided-few = omega (arith, undecided-is);
+        undecided-last = under ∙ last;
+        between = number-between;
+      }
+    where
+      front : take (length F) (F ++ drop (length F) before) ≡ F
+      front = take-append-seam F (drop (length F) before)
+
+      last : upFrom (suc g) (d - g) ≡ lastDays (P .undecided) d
+      last = let e : d - (d - g) ≡ g = omega (arith, R .due .most) in rw (undecided-is, e)
+
+  -- with none undecided
+  module _ (z : P .undecided ≡ 0) where
+    all-decided : g ≡ d
+    all-decided = omega (arith, undecided-is, R .due .most)
+
+    pub all-looked : searchOf n d t limit .looked ≡ walk (passesIn n d t) d
+    unfolding walk
+    all-looked = looks-all (passesIn n d t) limit (maximal d) (R .due .none all-decided)
+
+    pub all-found : F ≡ listing (chains 3 n d) d t
+    all-found = R .found ∙ ap (changedTo n d t) all-decided ∙ changed-listed n d t
+
+    pub all-bound : (S : List ℕ) → Ascends 1 S → Gives (chains 3 n d) d S t → P .looked ≤ ones d + 2 * length S * lg d
+    unfolding progressOf
+    all-bound S a h = rw (set-size S a h, all-looked) (walk-size n d (length before) t G)
+
+module _ (n f d : ℕ) (o : List ℕ) (limit : ℕ) (l : List ℕ) (e : searchRefusal 3 n f d o (length l) ≡ 0) where
+  G : Given 3 n d (tableIn 3 n d o) (length l)
+  G = search-given 3 n f d o (length l) e
+
+  as-read : progressOf n d (tableIn 3 n d o) limit .undecided ≡ 0 → (p : ℕ) → allowedPassed n d p ≡ true →
+      searched 3 n f d o limit l .list ≡ readout 3 n f d p o l .list
+  unfolding searched listedIn
+  as-read z p h =
+      let F = all-found n d (tableIn 3 n d o) limit l G z in
+      rw e (ap (λ x. x ++ drop (length x) l) F ∙ sym (ap (λ (r : Readout). r .list) (readout-found 3 n f d p o l (sym (refuses-as-reading n f d p o (length l) h) ∙ e))))
+
+  tree-search : SearchOf 3 n f d o limit l
+  unfolding searched
+  tree-search =
+      record {
+        progress = progressOf n d (tableIn 3 n d o) limit;
+        answer = rw e;
+        state = rw e (state-of n d (tableIn 3 n d o) limit l G);
+        finished = λ z. record {
+          walked = all-looked n d (tableIn 3 n d o) limit l G z;
+          as-reading = as-read z;
+          bound = all-bound n d (tableIn 3 n d o) limit l G z;
+        };
+      }
+
+pub search-told : SearchTold
+search-told s n f d o limit l e =
+    subst (λ (x : ℕ). searchRefusal x n f d o (length l) ≡ 0 → SearchOf x n f d o limit l) (sym (search-tree s n f d o (length l) e)) (tree-search n f d o limit l) e
+
+pub nothing-looked : NothingLooked
+unfolding searched progressOf foundDays foundIn looks flatMap
+nothing-looked s n f d o l e =
+    let t = tableIn s n d o in
+    let some = search-given s n f d o (length l) e .table .some in
+    let z : d - 0 ≡ d = omega arith in
+    let u : length (daysUnder n (maximal d)) ≡ d = ap length (laid-days n d 0 (maximal d) (maximal-laid d some)) ∙ length-upFrom 1 (d - 0) ∙ z in
+    rw (e, u)
+
+pub walk-short : WalkShort
+walk-short = walk-few
