@@ -7,7 +7,8 @@ use Rattle.lists.proofs.Laws.{true-or-false}
 use Rattle.evidence.proofs.TableLaws.{listing-ascends, given-iff-accepted, listed-iff}
 use Rattle.layouts.specs.Layouts.{lg, namesThrough, chains}
 use Rattle.reading.specs.Numbers.{lastGood}
-use Rattle.examples.specs.Examples.{Lists, NotGiven, Examples, LastGoods, Skipped}
+use Rattle.searching.specs.Searching.{maximal, looks, foundIn, foundDays, daysUnder, progressOf}
+use Rattle.examples.specs.Examples.{Lists, NotGiven, Examples, LastGoods, Skipped, Searched}
 
 lists : (s n d : ℕ) (table list : List ℕ) → accepted (chains s n d) d table ≡ true → listing (chains s n d) d table ≡ list → Lists s n d table list
 lists s n d table list a e =
@@ -52,4 +53,17 @@ skipped =
       one-skipped = record { lists = e .lists; passed-ok = refl; low-is = refl; good-is = e .good-is };
       all-skipped = record { lists = e .lists; passed-ok = refl; low-is = refl; good-is = e .good-is };
       one-between = record { lists = e .lists; passed-ok = refl; low-is = refl; good-is = e .good-is };
+    }
+
+pub searched : Searched
+unfolding tableOf lg namesThrough flatMap chains lib.Count.ones lib.Count.onesIn maximal looks foundIn foundDays daysUnder progressOf
+searched =
+    record {
+      not-begun = record { looked-at = refl; days-found = refl; undecided-is = refl };
+      stopped = record { looked-at = refl; days-found = refl; undecided-is = refl };
+      not-there-yet = record { looked-at = refl; days-found = refl; undecided-is = refl };
+      finished = record { looked-at = refl; days-found = refl; undecided-is = refl };
+      clean = record { looked-at = refl; days-found = refl; undecided-is = refl };
+      two-maximal = record { looked-at = refl; days-found = refl; undecided-is = refl };
+      allowed = refl;
     }

@@ -3,13 +3,15 @@ use mathlib.Core.Path.{_≡_}
 use mathlib.Core.Logic.{_↔_}
 use mathlib.Core.Bool.{true}
 use mathlib.Core.List.{List, [], _∷_}
-use Prim.Native.Nat.{ℕ}
+use Prim.Native.Nat.{ℕ, _+_, _*_}
+use lib.Count.{ones}
 use lib.ListN.{length}
 use Rattle.lists.specs.Lists.{_among_, upFrom, Ascends, firstOf}
 use Rattle.evidence.specs.Evidence.{tableOf, Gives}
-use Rattle.layouts.specs.Layouts.{chains, valueCount}
+use Rattle.layouts.specs.Layouts.{lg, Name, tree, chains, valueCount}
 use Rattle.reading.specs.Numbers.{lowOf, validationBefore, lastGood}
 use Rattle.reading.specs.Contract.{allowedPassed}
+use Rattle.searching.specs.Searching.{searchOf, foundDays, progressOf}
 
 -- some set gives the table, and the list is that of the days of such sets (SPEC 8.5), ascending, each once
 pub record Lists (scheme n d : ℕ) (table list : List ℕ) : Type 0 where
@@ -70,3 +72,25 @@ pub record Skipped : Type 0 where
   pub one-skipped : ReadsBy 2 16 64 16 figureChanged figureListed 18 16
   pub all-skipped : ReadsBy 2 16 64 0 figureChanged figureListed 18 16
   pub one-between : ReadsBy 2 16 64 48 figureChanged figureListed 48 16
+
+-- searching the table that the days S give, N 1: the chains looked at, the days found, the number undecided
+pub record Searches (d : ℕ) (S : List ℕ) (limit : ℕ) (looked : List Name) (found : List ℕ) (undecided : ℕ) : Type 0 where
+  pub looked-at : searchOf 1 d (tableOf (chains 3 1 d) S) limit .looked ≡ looked
+  pub days-found : foundDays 1 d (tableOf (chains 3 1 d) S) limit ≡ found
+  pub undecided-is : progressOf 1 d (tableOf (chains 3 1 d) S) limit .undecided ≡ undecided
+
+-- 02's search (SPEC 20.8); with day 3 of 4 changed the whole walk has as many chains as 02 allows
+abbrev pub walkOf4 : List Name
+walkOf4 = tree 2 4 ∷ tree 1 2 ∷ tree 1 4 ∷ tree 0 3 ∷ tree 0 4 ∷ []
+
+abbrev pub walkOf6 : List Name
+walkOf6 = tree 2 4 ∷ tree 1 2 ∷ tree 0 1 ∷ tree 0 2 ∷ tree 1 4 ∷ tree 1 6 ∷ tree 0 5 ∷ tree 0 6 ∷ []
+
+pub record Searched : Type 0 where
+  pub not-begun : Searches 4 (3 ∷ []) 0 [] [] 4
+  pub stopped : Searches 4 (3 ∷ []) 2 (tree 2 4 ∷ tree 1 2 ∷ []) [] 2
+  pub not-there-yet : Searches 4 (3 ∷ []) 4 (tree 2 4 ∷ tree 1 2 ∷ tree 1 4 ∷ tree 0 3 ∷ []) (3 ∷ []) 1
+  pub finished : Searches 4 (3 ∷ []) 5 walkOf4 (3 ∷ []) 0
+  pub clean : Searches 4 [] 9 (tree 2 4 ∷ []) [] 0
+  pub two-maximal : Searches 6 (2 ∷ 6 ∷ []) 9 walkOf6 (2 ∷ 6 ∷ []) 0
+  pub allowed : ones 4 + 2 * 1 * lg 4 ≡ length walkOf4

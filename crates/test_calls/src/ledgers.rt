@@ -1,6 +1,6 @@
 // The calls on a ledger of 24 days: its values are counted, days of 130 bytes are sized, a chain and a position of its
-// book are found, it is sealed, checked with day 10 altered, and read with P 0, with P 16, and with P 12, which is
-// refused.
+// book are found, it is sealed, checked with day 10 altered, read with P 0, with P 16, and with P 12, which is refused,
+// and searched, which is refused too. Then a table of the tree is searched: scheme 3, N 2, D 6, the days 2 and 6 changed.
 use crate::lines;
 use test_samples::days;
 use test_samples::lent;
@@ -89,6 +89,28 @@ fn read(passed: u32, outcomes: &[u8]) {
     lines::end();
 }
 
+fn print_search(returned: u32, progress: [u32; 3], list: &[u32]) {
+    lines::head(b"search", returned);
+    lines::numbers(&[progress[0], progress[1], progress[2]]);
+    lines::numbers(list);
+    lines::end();
+}
+
+fn search(outcomes: &[u8]) {
+    let mut list = [99u32; 30];
+    let mut progress = [94u32; 3];
+    let returned = daybook_c::daybook_search(2, 8, 3, 24, outcomes, 7, &mut list, &mut progress);
+    print_search(returned, progress, &list);
+}
+
+fn search_tree() {
+    let outcomes = [1u8, 0, 0, 1, 1, 1, 0, 1, 0, 0, 0, 170, 170, 170, 170];
+    let mut list = [99u32; 9];
+    let mut progress = [94u32; 3];
+    let returned = daybook_c::daybook_search(3, 2, 1, 6, &outcomes, 5, &mut list, &mut progress);
+    print_search(returned, progress, &list);
+}
+
 // The book has room for more than its 15 values, the outcomes for more than 15.
 fn seal_check_read(ledger: &mut [u8], ends: &[u32]) {
     let mut book = [170u8; 500];
@@ -99,6 +121,7 @@ fn seal_check_read(ledger: &mut [u8], ends: &[u32]) {
     read(0, &outcomes);
     read(16, &outcomes);
     read(12, &outcomes);
+    search(&outcomes);
 }
 
 pub fn run() {
@@ -110,4 +133,5 @@ pub fn run() {
     chain_at();
     position_of();
     seal_check_read(&mut ledger, &ends);
+    search_tree();
 }
