@@ -17,8 +17,8 @@ ghost use Rattle.checking.specs.Contract.{checked};
 ghost use Rattle.reading.specs.Contract.{readout};
 ghost use Rattle.searching.specs.Searching.{searched, searchedNumber};
 ghost use Rattle.daybook_c.specs.Contract.{addedBytes, closedBytes, numbersAfter, valuesAfter};
-ghost use Rattle.daybook_c.specs.Contract.{recordValuesAfter, sizesAfter, chainAfter, positionAfter, progressAfter};
-ghost use Rattle.daybook_c.specs.Contract.{version};
+ghost use Rattle.daybook_c.specs.Contract.{recordValuesAfter, sizesAfter, chainAfter, positionAfter};
+ghost use Rattle.daybook_c.specs.Contract.{progressAfter, version};
 
 #[no_mangle]
 pub extern "C" fn daybook_open(scheme: u32, n: u32, f: u32, state: &mut [u8; RECORD_BYTES]) -> u32

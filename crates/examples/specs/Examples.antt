@@ -74,7 +74,8 @@ pub record Skipped : Type 0 where
   pub one-between : ReadsBy 2 16 64 48 figureChanged figureListed 48 16
 
 -- searching the table that the days S give, N 1: the chains looked at, the days found, the number undecided
-pub record Searches (d : ℕ) (S : List ℕ) (limit : ℕ) (looked : List Name) (found : List ℕ) (undecided : ℕ) : Type 0 where
+pub record Searches (d : ℕ) (S : List ℕ) (limit : ℕ) (looked : List Name) (found : List ℕ) (undecided : ℕ)
+    : Type 0 where
   pub looked-at : searchOf 1 d (tableOf (chains 3 1 d) S) limit .looked ≡ looked
   pub days-found : foundDays 1 d (tableOf (chains 3 1 d) S) limit ≡ found
   pub undecided-is : progressOf 1 d (tableOf (chains 3 1 d) S) limit .undecided ≡ undecided

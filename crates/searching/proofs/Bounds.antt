@@ -1,12 +1,12 @@
 -- How many chains a whole walk has: no more than the tree has, and, of a table with k changed days, no more than 02 says.
-use mathlib.Core.Path.{_≡_, refl, sym, ap, _∙_}
+use mathlib.Core.Path.{_≡_, refl, ap, _∙_}
 use mathlib.Core.Bool.{Bool, true, false}
 use mathlib.Core.Logic.{inl, inr}
-use mathlib.Core.List.{List, [], _∷_, _++_, flatMap}
+use mathlib.Core.List.{List, [], _∷_, flatMap}
 use Prim.Native.Nat.{ℕ, zero, suc, _+_, _-_, _*_, _/_, _%_, _^_, _≤_, _<_}
-use native.Mathlib.Nat.{mod-lt, mod-one, mod-eq-of-lt, div-add-mod', mul-le-mul-right, pow-succ'}
+use native.Mathlib.Nat.{mod-lt, mod-one, mod-eq-of-lt, mul-le-mul-right, pow-succ'}
 use native.Mathlib.{Decide.decLt, Omega.arith}
-use lib.{Dec.eqb, ListN.length, ListN.length-append, Arith.digits-mod, Pow.pow-pos, Pow.pow-mono, Count.ones, Count.onesIn, Count.ones-cat}
+use lib.{Dec.eqb, ListN.length, ListN.length-append, Pow.pow-pos, Pow.pow-mono, Count.ones, Count.onesIn, Count.ones-cat}
 use borrow.Author.Tests.{eqb-true, eqb-false}
 use Rattle.lists.proofs.Laws.{split}
 use Rattle.layouts.specs.Layouts.{lg, Name, tree}

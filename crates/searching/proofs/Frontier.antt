@@ -1,7 +1,7 @@
 -- Where the walk is: chains that are due cover the days that are not decided, each the largest that fits there but the first.
 use mathlib.Core.Path.{_≡_, refl, sym, ap, ap₂, _∙_}
-use mathlib.Core.Bool.{true, false, cond}
-use mathlib.Core.Logic.{_⊎_, inl, inr}
+use mathlib.Core.Bool.{true, false}
+use mathlib.Core.Logic.{inl, inr}
 use mathlib.Core.List.{List, [], _∷_, _++_, flatMap}
 use Prim.Native.Nat.{ℕ, zero, suc, _+_, _-_, _*_, _/_, _%_, _^_, _≤_, _<_}
 use native.Mathlib.Nat.{mod-lt, mod-one, div-add-mod', div-mul-le-self, div-eq-of-lt, suc-mul, pow-succ'}
@@ -10,7 +10,7 @@ use lib.{Dec.eqb, Arith.digits-div, Arith.digits-mod, Pow.pow-pos, Pow.pow-mono,
 use borrow.Author.Tests.{eqb-true, eqb-false, eq-eqb}
 use Rattle.lists.specs.Lists.{upFrom}
 use Rattle.lists.proofs.Laws.{split, true-or-false, upFrom-append}
-use Rattle.layouts.specs.Layouts.{divides, lg, Name, tree, coveredDays}
+use Rattle.layouts.specs.Layouts.{divides, lg, Name, tree}
 use Rattle.layouts.proofs.Counts.{parity, double-divides, odd-divides, lg-bounds}
 use Rattle.layouts.proofs.Positions.{divides-half}
 use Rattle.acceptance.proofs.Runs.{div-whole, divides-multiple}
@@ -213,31 +213,28 @@ maximal-laid d s = rw (before-all d s) at (maximal-below d (suc (lg d)))
 
 -- ---- the days under what is due
 
+-- those of a chain, then the rest
+chain-days : (n d g l : ℕ) (rest : List Name) → Fits d g l → daysUnder n rest ≡ upFrom (suc (g + 2 ^ l)) (d - (g + 2 ^ l)) →
+    daysUnder n (tree l (g + 2 ^ l) ∷ rest) ≡ upFrom (suc g) (d - g)
+unfolding daysUnder flatMap
+chain-days n d g l rest f e =
+    let a : g + 2 ^ l - 2 ^ l ≡ g = omega arith in
+    let b : d - g ≡ 2 ^ l + (d - (g + 2 ^ l)) = omega (arith, f .room) in
+    let c : suc g + 2 ^ l ≡ suc (g + 2 ^ l) = omega arith in
+    ap₂ (λ y r. y ++ r) (ap (λ y. upFrom (suc y) (2 ^ l)) a) e ∙
+    sym (ap (upFrom (suc g)) b ∙ upFrom-append (suc g) (2 ^ l) (d - (g + 2 ^ l)) ∙ ap (λ y. upFrom (suc g) (2 ^ l) ++ upFrom y (d - (g + 2 ^ l))) c)
+
 pub laid-days : (n d g : ℕ) (due : List Name) → Laid d g due → daysUnder n due ≡ upFrom (suc g) (d - g)
 unfolding daysUnder flatMap
 laid-days n d g [] e = let z : d - g ≡ 0 = omega arith in rw z
 laid-days n d g (x ∷ due) e =
-    let l = e .0 in
-    let a : g + 2 ^ l - 2 ^ l ≡ g = omega arith in
-    let b : d - g ≡ 2 ^ l + (d - (g + 2 ^ l)) = omega (arith, e .2 .fits .room) in
-    let c : suc g + 2 ^ l ≡ suc (g + 2 ^ l) = omega arith in
-    ap₂ (λ y r. y ++ r) (ap (coveredDays n) (e .1) ∙ ap (λ y. upFrom (suc y) (2 ^ l)) a) (laid-days n d (g + 2 ^ l) due (e .3)) ∙
-    sym (ap (upFrom (suc g)) b ∙ upFrom-append (suc g) (2 ^ l) (d - (g + 2 ^ l)) ∙ ap (λ y. upFrom (suc g) (2 ^ l) ++ upFrom y (d - (g + 2 ^ l))) c)
+    ap (λ y. daysUnder n (y ∷ due)) (e .1) ∙ chain-days n d g (e .0) due (e .2 .fits) (laid-days n d (g + 2 ^ e .0) due (e .3))
 
 pub due-days : (n d g l : ℕ) (due : List Name) → Due d g l due → daysUnder n due ≡ upFrom (suc g) (d - g)
 unfolding daysUnder flatMap
 due-days n d g l due h = elim (decLt g d) [
   | yes k ↦ let r = h .first k in
-      ap (daysUnder n) (r .1) ∙ frontier (r .0) (r .2) (r .3)
-  | no k ↦ let z : g ≡ d = omega (arith, h .most) in
-      let y : d - g ≡ 0 = omega arith in
-      ap (daysUnder n) (h .none z) ∙ rw y
+      ap (daysUnder n) (r .1) ∙ chain-days n d g l (r .0) (r .2) (laid-days n d (g + 2 ^ l) (r .0) (r .3))
+  | no k ↦ let z : d - g ≡ 0 = omega arith in
+      ap (daysUnder n) (h .none (omega (arith, h .most))) ∙ rw z
 ]
-  where
-    frontier : (rest : List Name) → Fits d g l → Laid d (g + 2 ^ l) rest → daysUnder n (tree l (g + 2 ^ l) ∷ rest) ≡ upFrom (suc g) (d - g)
-    frontier rest f e =
-        let a : g + 2 ^ l - 2 ^ l ≡ g = omega arith in
-        let b : d - g ≡ 2 ^ l + (d - (g + 2 ^ l)) = omega (arith, f .room) in
-        let c : suc g + 2 ^ l ≡ suc (g + 2 ^ l) = omega arith in
-        ap₂ (λ y r. y ++ r) (ap (λ y. upFrom (suc y) (2 ^ l)) a) (laid-days n d (g + 2 ^ l) rest e) ∙
-        sym (ap (upFrom (suc g)) b ∙ upFrom-append (suc g) (2 ^ l) (d - (g + 2 ^ l)) ∙ ap (λ y. upFrom (suc g) (2 ^ l) ++ upFrom y (d - (g + 2 ^ l))) c)

@@ -16,12 +16,11 @@ use Rattle.acceptance.specs.Private.{Chain, passes}
 use Rattle.acceptance.proofs.{Runs.keep-length, Steps.has-earlier, Steps.table-has}
 use Rattle.reading.specs.Private.{Given}
 use Rattle.searching.specs.declared.Cursor.{Cursor}
-use Rattle.searching.specs.declared.Progress.{Progress}
-use Rattle.searching.specs.Searching.{passesIn, foundAt, Looks, looks, searchOf, daysUnder, foundDays, progressOf}
+use Rattle.searching.specs.Searching.{passesIn, foundAt, looks, searchOf, foundDays, progressOf}
 use Rattle.searching.specs.Private.{Fits, Largest, isChanged, changedTo, Stepped, Looked}
 use Rattle.searching.proofs.Frontier.{end-whole, due-days}
 use Rattle.searching.proofs.Tables.{look-is, found-none, step-passed, step-found, step-halves}
-use Rattle.searching.proofs.Reached.{Reached, reached-none, reached-fits, found-more, reached-more, count-more, reached-all}
+use Rattle.searching.proofs.Reached.{Reached, reached-none, found-more, reached-more, count-more, reached-all}
 
 -- ---- a look
 

@@ -1,20 +1,18 @@
 -- The maximal chains are chains of the book, cover each day once, and lie in no other chain of the tree.
-use mathlib.Core.Path.{_≡_, refl, sym, ap, _∙_}
-use mathlib.Core.Bool.{true, cond}
-use mathlib.Core.Logic.{_⊎_, inl, inr}
+use mathlib.Core.Path.{_≡_, refl, ap, _∙_}
+use mathlib.Core.Logic.{inl, inr}
 use mathlib.Core.List.{List, [], _∷_, List·Memᴰ·cases-cons}
-use Prim.Native.Nat.{ℕ, zero, suc, _+_, _-_, _*_, _/_, _%_, _^_, _≤_, _<_}
+use Prim.Native.Nat.{ℕ, zero, suc, _+_, _-_, _/_, _%_, _^_, _≤_, _<_}
 use native.Mathlib.Nat.{le-div-iff-mul-le, mul-le-mul-right}
 use native.Mathlib.{Decide.decLt, Omega.arith}
 use lib.{Dec.eqb, Pow.pow-pos, Pow.pow-lt}
 use borrow.Author.Tests.{eqb-true}
 use Rattle.lists.specs.Lists.{_among_}
 use Rattle.lists.proofs.Laws.{split}
-use Rattle.evidence.specs.Evidence.{days}
-use Rattle.layouts.specs.Layouts.{divides, lg, Name, black, tile, tree, coveredDays, namesThrough}
+use Rattle.layouts.specs.Layouts.{lg, Name, black, tile, tree, coveredDays, namesThrough}
 use Rattle.layouts.proofs.Coverage.{divisor-le}
 use Rattle.acceptance.proofs.{Runs.div-whole, Runs.lastDays-mem, Runs.lastDays-bounds, Lookup.Block, Lookup.tree-named, Lookup.each-3}
-use Rattle.searching.specs.Searching.{maximalBelow, maximal, daysUnder}
+use Rattle.searching.specs.Searching.{maximalBelow, maximal}
 use Rattle.searching.specs.Private.{Laid}
 use Rattle.searching.specs.Statements.{MaximalTold}
 use Rattle.searching.proofs.Frontier.{divides-below, end-whole, before, before-one, maximal-laid, laid-days}

@@ -1,15 +1,14 @@
 -- What specs/Statements says of a search.
 use mathlib.Core.Path.{_≡_, refl, sym, ap, subst, _∙_}
-use mathlib.Core.Logic.{_↔_, inl, inr}
 use mathlib.Core.Bool.{Bool, true, false, not, _||_}
-use mathlib.Core.List.{List, [], _∷_, _++_, flatMap, List·Memᴰ·head, List·Memᴰ·tail, List·Memᴰ·cases-cons}
+use mathlib.Core.List.{List, [], _∷_, _++_, flatMap, List·Memᴰ·head, List·Memᴰ·tail}
 use Prim.Native.Nat.{ℕ, zero, suc, _+_, _-_, _*_, _≤_, _<_}
 use native.Mathlib.{Decide.decLt, Decide.ℕ-discrete, Omega.arith}
 use lib.{Dec.eqb, ListN.length, ListN.take, ListN.drop, ListN.length-append, ListN.length-take}
 use lib.{Seq.take-append-seam, Seq.drop-at, Count.ones}
-use borrow.Author.Tests.{eqb-true, eq-eqb, ne-eqb}
+use borrow.Author.Tests.{eq-eqb, ne-eqb}
 use Rattle.lists.specs.Lists.{_among_, has, upFrom, keep, Ascends}
-use Rattle.lists.proofs.Laws.{split, true-or-false, mem-has, has-mem, upFrom-mem, upFrom-bounds, keep-congr, has-keep, keep-ascends, ascends-later, length-upFrom}
+use Rattle.lists.proofs.Laws.{mem-has, upFrom-bounds, keep-congr, has-keep, keep-ascends, ascends-later, length-upFrom}
 use Rattle.evidence.specs.Evidence.{days, tableOf, cleared, Gives, listing}
 use Rattle.evidence.proofs.TableLaws.{lists-exactly}
 use Rattle.refusals.specs.Refusals.{Test, _orRefuse_, firstRefusal}
@@ -17,13 +16,13 @@ use Rattle.refusals.proofs.TestLaws.{refused-before, refused-after, never-said,
 use Rattle.layouts.specs.Layouts.{lg, lastDays, chains, layoutTests}
 use Rattle.layouts.proofs.Coverage.{tree-single}
 use Rattle.acceptance.proofs.{Runs.keep-none, Runs.keep-length}
-use Rattle.reading.specs.Contract.{tableIn, allowedPassed, tableTests, readTests, readRefusal, listedIn, Readout, readout}
+use Rattle.reading.specs.Contract.{tableIn, allowedPassed, tableTests, readRefusal, listedIn, Readout, readout}
 use Rattle.reading.specs.Private.{Given}
 use Rattle.reading.proofs.Report.{readout-found}
 use Rattle.searching.specs.declared.Progress.{Progress}
-use Rattle.searching.specs.Searching.{maximal, passesIn, walk, Looks, looks, searchOf, foundIn, daysUnder, foundDays, progressOf, searchRefusal, Searchout, searched}
+use Rattle.searching.specs.Searching.{maximal, passesIn, walk, looks, searchOf, foundIn, daysUnder, foundDays, progressOf, searchRefusal, searched}
 use Rattle.searching.specs.Private.{isChanged, changedTo}
-use Rattle.searching.specs.Statements.{SaysNotTree, RefusesAsReading, StateOf, FinishedOf, SearchOf, SearchTold, NothingLooked, WalkShort}
+use Rattle.searching.specs.Statements.{SaysNotTree, RefusesAsReading, StateOf, SearchOf, SearchTold, NothingLooked, WalkShort}
 use Rattle.searching.proofs.WalkLaws.{looks-first, looks-all}
 use Rattle.searching.proofs.Frontier.{due-days, maximal-laid, laid-days}
 use Rattle.searching.proofs.Tables.{changedIn, changed-more}

@@ -11,7 +11,7 @@ use Rattle.lists.specs.Lists.{_among_, has, upFrom, keep}
 use Rattle.lists.proofs.Laws.{split, true-or-false, and-both, has-mem, mem-has, mem-keep, keep-append, upFrom-append}
 use Rattle.evidence.specs.Evidence.{days, meets, setOutcome, tableOf, Gives, listing}
 use Rattle.evidence.proofs.TableLaws.{meets-of, meets-day, accepted-gives}
-use Rattle.layouts.specs.Layouts.{divides, Name, black, tile, tree, lastDays, coveredDays, namesThrough, chains}
+use Rattle.layouts.specs.Layouts.{Name, black, tile, tree, lastDays, coveredDays, namesThrough, chains}
 use Rattle.acceptance.specs.Private.{passes}
 use Rattle.acceptance.proofs.{Runs.keep-none, Lookup.gives-passes, Lookup.tree-named}
 use Rattle.reading.specs.Private.{Given}

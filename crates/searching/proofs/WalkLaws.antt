@@ -1,6 +1,6 @@
 -- The search looks at the chains of the walk, in the walk's order; one look more; no look where none is due.
 use mathlib.Core.Path.{_≡_, refl, sym, ap, _∙_}
-use mathlib.Core.Bool.{Bool, true, false, cond}
+use mathlib.Core.Bool.{Bool}
 use mathlib.Core.Logic.{inl, inr}
 use mathlib.Core.List.{List, [], _∷_, _++_, flatMap, append-assoc, append-nil}
 use Prim.Native.Nat.{ℕ, zero, suc, _-_, _^_, _≤_}
@@ -8,7 +8,7 @@ use native.Mathlib.Omega.{arith}
 use lib.ListN.{length, take}
 use Rattle.lists.proofs.Laws.{split}
 use Rattle.layouts.specs.Layouts.{Name, black, tile, tree}
-use Rattle.searching.specs.Searching.{halves, fully, dealtWith, Looks, looks}
+use Rattle.searching.specs.Searching.{halves, fully, dealtWith, looks}
 
 pub flatMap-append : {A B : Type 0} (f : A → List B) (xs ys : List A) → flatMap f (xs ++ ys) ≡ flatMap f xs ++ flatMap f ys
 unfolding flatMap

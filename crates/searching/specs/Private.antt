@@ -1,5 +1,5 @@
--- What private contracts cite: where the walk is, by a day and a level. Definitions only; the laws of proofs/Frontier lead
--- them back to the walk.
+-- What private contracts cite: where the walk is, by a day and a level. Definitions only; the laws of proofs/Frontier
+-- lead them back to the walk.
 use mathlib.Core.Path.{_≡_}
 use mathlib.Core.Bool.{Bool, true}
 use mathlib.Core.List.{List, [], _∷_, _++_}

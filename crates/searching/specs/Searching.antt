@@ -39,13 +39,6 @@ abbrev pub passesIn : ℕ → ℕ → List ℕ → ℕ → ℕ → Bool
 passesIn n d table = passing (namesThrough 3 n d) table
 
 module _ (passes : ℕ → ℕ → Bool) where
-  -- what a look makes due (SPEC 20.4): of a chain that fails its left half, then its right; of a single day nothing
-  abbrev pub halves : Name → List Name
-  halves (black g) = []
-  halves (tile i g) = []
-  halves (tree zero g) = []
-  halves (tree (suc l) g) = cond (passes (suc l) g) [] (tree l (g - 2 ^ l) ∷ tree l g ∷ [])
-
   -- the day that a look finds (SPEC 20.3): a single one that fails
   abbrev pub foundAt : Name → List ℕ
   foundAt (black g) = []
@@ -64,6 +57,13 @@ module _ (passes : ℕ → ℕ → Bool) where
   fully (black g) = black g ∷ []
   fully (tile i g) = tile i g ∷ []
   fully (tree l g) = dealtWith l g
+
+  -- what a look makes due (SPEC 20.4): of a chain that fails its left half, then its right; of a single day nothing
+  abbrev pub halves : Name → List Name
+  halves (black g) = []
+  halves (tile i g) = []
+  halves (tree zero g) = []
+  halves (tree (suc l) g) = cond (passes (suc l) g) [] (tree l (g - 2 ^ l) ∷ tree l g ∷ [])
 
 -- 02's walk over d days
 unfoldable pub walk : (ℕ → ℕ → Bool) → ℕ → List Name

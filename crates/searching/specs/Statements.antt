@@ -13,7 +13,8 @@ use Rattle.layouts.specs.Layouts.{lg, Name, tree, lastDays, coveredDays, namesT
 use Rattle.reading.specs.Contract.{tableIn, allowedPassed, tableTests, readRefusal, readout}
 use Rattle.searching.specs.declared.Progress.{Progress}
 use Rattle.searching.specs.declared.Searched.the-variants.{State}
-use Rattle.searching.specs.Searching.{maximal, passesIn, walk, searchOf, foundIn, daysUnder, searchRefusal, searched}
+use Rattle.searching.specs.Searching.{maximal, passesIn, walk, searchOf, foundIn, daysUnder}
+use Rattle.searching.specs.Searching.{searchRefusal, searched}
 
 -- ---- the maximal chains (SPEC 20.2)
 

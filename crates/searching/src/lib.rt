@@ -63,8 +63,8 @@ fn level_behind(d: u32, g: u32) -> u32
     longest
 }
 
-// One look, at the chain that is due first. A failing one of more days than one goes to its left half, which starts at the
-// same day; any other is decided.
+// One look, at the chain that is due first. A failing one of more days than one gives way to its left half, which starts
+// at the same day; any other is decided.
 fn look(n: u32, d: u32, t: &[u8], c: Cursor, list: &mut [u32]) -> Cursor
     requires { ⌜ Given 3 n d (now t) (length (now list)) × Fits d (c .day) (c .level) × (c .found ≤ c .day) ⌝ }
     ensures { λ r. ⌜ Looked n d (now (t .entry)) c (now (list .entry)) r (now (list .exit)) ⌝ }
@@ -94,8 +94,8 @@ fn look(n: u32, d: u32, t: &[u8], c: Cursor, list: &mut [u32]) -> Cursor
     }
 }
 
-// The walk of a table that some set gives, until limit chains are looked at or none is due: the days found to the front of
-// the list.
+// The walk of a table that some set gives, until limit chains are looked at or none is due: the days found to the front
+// of the list.
 fn walk(n: u32, d: u32, t: &[u8], limit: u32, list: &mut [u32]) -> Progress
     requires { ⌜ Given 3 n d (now t) (length (now list)) ⌝ }
     ensures { λ r. ⌜ r ≡ progressOf n d (now (t .entry)) limit ⌝ }
@@ -120,8 +120,8 @@ fn walk(n: u32, d: u32, t: &[u8], limit: u32, list: &mut [u32]) -> Progress
     }
 }
 
-// Searches the outcomes needed, in book order, looking at no more than limit chains: writes the days found to the front of
-// the list and gives the numbers, or refuses and writes nothing.
+// Searches the outcomes needed, in book order, looking at no more than limit chains: writes the days found to the front
+// of the list and gives the numbers, or refuses and writes nothing.
 pub fn search(
     scheme: u32,
     n: u32,

@@ -1,6 +1,7 @@
 // The calls on a ledger of 24 days: its values are counted, days of 130 bytes are sized, a chain and a position of its
 // book are found, it is sealed, checked with day 10 altered, read with P 0, with P 16, and with P 12, which is refused,
-// and searched, which is refused too. Then a table of the tree is searched: scheme 3, N 2, D 6, the days 2 and 6 changed.
+// and searched, which is refused too. Then a table of the tree is searched: scheme 3, N 2, D 6, the days 2 and 6
+// changed.
 use crate::lines;
 use test_samples::days;
 use test_samples::lent;
