@@ -63,8 +63,8 @@ fn level_behind(d: u32, g: u32) -> u32
     longest
 }
 
-// One look, at the chain that is due first. A failing one of more days than one gives way to its left half, which starts
-// at the same day; any other is decided.
+// One look, at the chain that is due first. A failing one of more days than one gives way to its left half, which
+// starts at the same day; any other is decided.
 fn look(n: u32, d: u32, t: &[u8], c: Cursor, list: &mut [u32]) -> Cursor
     requires { ⌜ Given 3 n d (now t) (length (now list)) × Fits d (c .day) (c .level) × (c .found ≤ c .day) ⌝ }
     ensures { λ r. ⌜ Looked n d (now (t .entry)) c (now (list .entry)) r (now (list .exit)) ⌝ }
