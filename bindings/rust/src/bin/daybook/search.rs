@@ -99,10 +99,10 @@ fn in_steps(
     let mut limit = FIRST;
     loop {
         let state = call(limit)?;
-        if state.progress.is_finished() || !goes_on(&state) {
-            return Ok(state);
+        match limit.checked_mul(2) {
+            Some(next) if !state.progress.is_finished() && goes_on(&state) => limit = next,
+            _ => return Ok(state),
         }
-        limit = limit.saturating_mul(2);
     }
 }
 
@@ -265,6 +265,18 @@ mod tests {
         let few = all_altered(16);
         let state = in_steps(|limit| few.state(limit), |_| panic!("asked")).unwrap();
         assert_eq!(state, few.state(31).unwrap());
+    }
+
+    /// The steps end where the limit cannot grow, whatever the calls say.
+    #[test]
+    fn steps_that_are_never_finished() {
+        let mut last = 0;
+        let call = |limit| {
+            last = limit;
+            Ok(state(7, &[], 9))
+        };
+        assert_eq!(in_steps(call, |_| true), Ok(state(7, &[], 9)));
+        assert_eq!(last, 1 << 31);
     }
 
     #[test]
