@@ -74,6 +74,21 @@ fn clean_tables() {
     said(&folder, &two, (0, "SEARCH,2,0,0\n"), &[]);
 }
 
+/// The page prints what the command prints.
+#[test]
+fn the_lines_of_the_page() {
+    let folder = with_table("search-page", Layout::tree(2), 16, &[4, 7, 10]);
+    let path = concat!(env!("CARGO_MANIFEST_DIR"), "/../../README.md");
+    let page = fs::read_to_string(path).unwrap();
+    let line = "search --scheme 3 --n 2 --f 1 --d 16 --outcomes";
+    for words in [" --limit 10", ""] {
+        let (status, out, _) = run(&folder, &format!("{line} table{words}"));
+        assert_eq!(status, 1);
+        let shown = format!("$ daybook {line} FILE{words}\n{out}").replace('\n', "\n    ");
+        assert!(page.contains(shown.trim_end()), "{shown}");
+    }
+}
+
 /// Without a limit the days are those that read lists, also where it takes several steps.
 #[test]
 fn to_the_end() {
