@@ -11,7 +11,7 @@ use std::process::{Child, Command, Stdio};
 
 use common::{searched, table, tree_table, Folder};
 use daybook::Layout;
-use program::{command, ended, fault, run, said};
+use program::{command, done, ended, fault, run, said};
 
 /// Four days, of which day 3 was altered.
 const FOUR: &str = "search --scheme 3 --n 1 --f 1 --d 4 --outcomes table";
@@ -67,11 +67,10 @@ fn every_limit_of_an_example() {
 fn clean_tables() {
     let folder = with_table("search-clean", Layout::tree(2), 6, &[]);
     let line = "search --scheme 3 --n 2 --f 1 --d 6 --outcomes table";
-    said(&folder, line, (0, "SEARCH,2,0,0\n"), &[]);
+    done(&folder, line, "SEARCH,2,0,0\n");
     let one = format!("{line} --limit 1");
     said(&folder, &one, (4, "SEARCH,1,0,2\n"), &[]);
-    let two = format!("{line} --limit 2");
-    said(&folder, &two, (0, "SEARCH,2,0,0\n"), &[]);
+    done(&folder, &format!("{line} --limit 2"), "SEARCH,2,0,0\n");
 }
 
 /// The page prints what the command prints.
