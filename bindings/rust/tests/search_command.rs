@@ -11,7 +11,7 @@ use std::process::{Child, Command, Stdio};
 
 use common::{searched, table, tree_table, Folder};
 use daybook::Layout;
-use program::{command, done, ended, fault, run, said};
+use program::{command, done, ended, fault, run, said, Ran};
 
 /// Four days, of which day 3 was altered.
 const FOUR: &str = "search --scheme 3 --n 1 --f 1 --d 4 --outcomes table";
@@ -269,17 +269,17 @@ fn standard_output_closed_or_full() {
 
 const DAYS: u32 = 4096;
 
-/// A search that waits for its outcomes, with the pipe that it reads them from. The signal it is sent
-/// waits for it where it is started with this option of env.
-fn waiting(folder: &Folder, option: Option<&str>, limit: &str) -> (Child, File) {
+/// A search that waits for its outcomes, with the pipe that it reads them from. It is started by env with
+/// these options: they say which signals are blocked, and so wait for it, and which are ignored.
+fn waiting(folder: &Folder, options: &[&str]) -> (Child, File) {
     let pipe = folder.file("pipe");
     if !pipe.exists() {
         let made = Command::new("mkfifo").arg(&pipe).status().unwrap();
         assert!(made.success());
     }
-    let line = format!("search --scheme 3 --n 1 --f 1 --d {DAYS} --outcomes pipe {limit}");
+    let line = format!("search --scheme 3 --n 1 --f 1 --d {DAYS} --outcomes pipe");
     let child = Command::new("env")
-        .args(option)
+        .args(options)
         .arg(env!("CARGO_BIN_EXE_daybook"))
         .args(line.split_whitespace())
         .current_dir(folder.path())
@@ -298,27 +298,53 @@ fn send(signal: &str, child: &Child) {
     assert!(sent.success());
 }
 
-/// A signal that comes before the first step is over ends the search with the state of that step.
+/// Sends the signal while the outcomes are awaited, and then these. Gives what the search printed and said.
+fn signalled(folder: &Folder, signal: &str, options: &[&str], changed: &[u32]) -> Ran {
+    let (child, mut pipe) = waiting(folder, options);
+    send(signal, &child);
+    pipe.write_all(&tree_table(1, DAYS, changed)).unwrap();
+    drop(pipe);
+    ended(child.wait_with_output().unwrap())
+}
+
+/// What a search with this limit prints.
+fn state(changed: &[u32], limit: u32) -> String {
+    let (numbers, days) = searched(DAYS, changed, limit);
+    lines(numbers, &days)
+}
+
+/// A signal that waits when the first step is over ends the search with the state of that step.
 #[test]
 fn a_signal_while_it_searches() {
     let folder = Folder::new("search-signal");
     let all: Vec<u32> = (1..=DAYS).collect();
-    let last = [DAYS];
-    for (signal, changed) in [("TERM", &all[..]), ("INT", &all), ("TERM", &last)] {
-        let table = tree_table(1, DAYS, changed);
-        let option = format!("--block-signal={signal}");
-        let (child, mut pipe) = waiting(&folder, Some(&option), "");
-        send(&format!("-{signal}"), &child);
-        pipe.write_all(&table).unwrap();
-        drop(pipe);
-        let (status, out, messages) = ended(child.wait_with_output().unwrap());
-        let limit = if changed.len() == 1 { u32::MAX } else { 1024 };
-        let (numbers, days) = searched(DAYS, changed, limit);
-        assert_eq!((status, out), (1, lines(numbers, &days)), "{messages}");
+    let some: Vec<u32> = (1..=512).map(|k| 8 * k - 3).collect();
+    let stopped = "daybook: stopped by a signal: this is the state so far\n";
+    for (signal, blocked) in [("-TERM", "TERM"), ("-INT", "INT")] {
+        let options = format!("--block-signal={blocked}");
+        let ran = |changed: &[u32]| signalled(&folder, signal, &[&options], changed);
+        for changed in [&all, &some] {
+            let out = state(changed, 1024);
+            assert_eq!(ran(changed), (1, out, stopped.to_string()));
+        }
         // one that is finished in its first step is not stopped
-        let stopped = "daybook: stopped by a signal: this is the state so far\n";
-        let said = if changed.len() == 1 { "" } else { stopped };
-        assert_eq!(messages, said);
+        let out = state(&[DAYS], u32::MAX);
+        assert_eq!(ran(&[DAYS]), (1, out, String::new()));
+    }
+}
+
+/// A signal that the program was started to ignore does not stop the search.
+#[test]
+fn a_signal_that_is_ignored() {
+    let folder = Folder::new("search-ignored");
+    let all: Vec<u32> = (1..=DAYS).collect();
+    let out = state(&all, u32::MAX);
+    for options in [
+        &["--ignore-signal=TERM"][..],
+        &["--ignore-signal=TERM", "--block-signal=TERM"],
+    ] {
+        let ran = signalled(&folder, "-TERM", options, &all);
+        assert_eq!(ran, (1, out.clone(), String::new()));
     }
 }
 
@@ -326,9 +352,9 @@ fn a_signal_while_it_searches() {
 #[test]
 fn a_signal_before_it_searches() {
     let folder = Folder::new("search-early");
-    for (signal, number) in [("TERM", 15), ("INT", 2)] {
-        let (child, pipe) = waiting(&folder, None, "");
-        send(&format!("-{signal}"), &child);
+    for (signal, number) in [("-TERM", 15), ("-INT", 2)] {
+        let (child, pipe) = waiting(&folder, &[]);
+        send(signal, &child);
         let output = child.wait_with_output().unwrap();
         drop(pipe);
         assert_eq!(output.status.signal(), Some(number));
