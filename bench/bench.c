@@ -29,6 +29,7 @@ int main(int count, char **words) {
   peers();
   short_days();
   reading();
+  searching();
   growth();
   print_targets();
   return 0;

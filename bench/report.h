@@ -15,6 +15,7 @@ void long_days(void);
 void peers(void);
 void short_days(void);
 void reading(void);
+void searching(void);
 void growth(void);
 
 #endif

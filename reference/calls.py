@@ -6,16 +6,19 @@ thousand.py, with zeros behind up to 1,400 bytes: its values are counted, a
 season of days of 130 bytes, 30 lengths lent, is sized, the chain at position 7
 is found and the position of c(3) of the last tile, the ledger is sealed,
 checked with the lowest bit altered in the first byte of day 10, and read with
-P 0, which is D - F*N, with P 16, and with P 12, which is refused.  Last the
-version.
+P 0, which is D - F*N, with P 16, and with P 12, which is refused, and its
+outcomes are searched with limit 7, which is refused too.  Then a table of
+scheme 3, N 2, F 1, D 6, with the days 2 and 6 changed and four outcomes of 170
+behind, is searched with limit 5.  Last the version.
 
 A line is the call, what it returned and what it wrote: of a record the lowest
 bytes of its five numbers, the blocks of an add, of a close the number of
 values, the blocks and the first 32 bytes of a part of 200, the three sizes,
 the four numbers of a chain, a position, of a book of 500 bytes and of a work
 buffer of 800 the first 32, all 20 outcomes, the five numbers and all 30 places
-of a list.  A byte not written is 170 (aa), a number 99, one of the five 98, of
-blocks 97, a size 96, one of the four 95.
+of a list, the three numbers of a search and all places of its list, 30 and 9.
+A byte not written is 170 (aa), a number 99, one of the five 98, of blocks 97,
+a size 96, one of the four 95, one of the three 94.
 """
 
 import daybook
@@ -66,8 +69,9 @@ def ledger_lines():
     work, outcomes = bytearray([170]) * 800, bytearray([170]) * 20
     refusal = daybook.check(*settings, ledger, ends[1:], book, work, outcomes)
     out.append(line("check", refusal, work[:32], outcomes))
-    return out + [read_line(settings, passed, outcomes)
-                  for passed in (0, 16, 12)]
+    return [*out, *(read_line(settings, passed, outcomes)
+                    for passed in (0, 16, 12)),
+            search_line(settings, outcomes, 7, 30)]
 
 
 def read_line(settings, passed, outcomes):
@@ -79,9 +83,21 @@ def read_line(settings, passed, outcomes):
     return line("read", found.refusal, *numbers, *places)
 
 
+def search_line(settings, outcomes, limit, count):
+    places, progress = [99] * count, [94] * 3
+    refusal, *found = daybook.search(*settings, outcomes, limit, places)
+    return line("search", refusal, *(progress if refusal else found), *places)
+
+
+def tree_line():
+    changed = 0b100010          # days 2 and 6
+    table = [int(mask & changed == 0) for mask in daybook.masks(3, 2, 6)]
+    return search_line((3, 2, 1, 6), table + [170] * 4, 5, 9)
+
+
 def lines():
-    return record_lines() + ledger_lines() + [line("version",
-                                                   daybook.VERSION)]
+    return [*record_lines(), *ledger_lines(), tree_line(),
+            line("version", daybook.VERSION)]
 
 
 if __name__ == "__main__":

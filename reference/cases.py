@@ -267,6 +267,75 @@ def skipped(case):
     case.claim(read(before, places=places[:d - 1])[0] == 8, "8 is not said")
 
 
+# ------------------------------------------------------------------- searches
+
+def search(case, settings, table, limit, places=None):
+    """A search, in a list of D places if none is given."""
+    if places is None:
+        places = random_words(case.rng, settings[3])
+    return case.call("search", *settings, bytes(table), limit, places,
+                     random_words(case.rng, 3))
+
+
+def searched(case, n, d, chosen, limits):
+    """A table of the tree searched with these limits, against what is said
+    of every search; chosen is the set of changed days, a mask."""
+    settings = 3, n, 1, d
+    table = table_of(3, n, d, chosen)
+    days = daybook.unmask(chosen) if chosen else []
+    fails = daybook.tree_outcomes(n, d, table)
+    whole = len(daybook.searched(d, fails, TOP)[0])
+    case.claim(whole <= bin(d).count("1") + 2 * len(days) * daybook.lg(d),
+               "the walk is longer than its bound")
+    for limit in limits(whole):
+        answer, after = search(case, settings, table, limit)
+        looked, found, undecided = after[-1]
+        case.claim(answer == 0 and looked == min(limit, whole),
+                   "not as many looks as the limit says")
+        case.claim(found <= len(days) <= found + undecided,
+                   "the number of changed days is not within its bounds")
+        case.claim(list(after[-2][:found]) == [
+            day for day in days if day <= d - undecided],
+            "the undecided days are not the last ones")
+        case.claim((undecided == 0) == (limit >= whole),
+                   "a search is not finished where it ends")
+
+
+def spoilt_table(rng, table):
+    """The table with an outcome altered, out of range or missing."""
+    table = bytearray(table)
+    way = rng.randrange(4)
+    if way == 0:
+        table[rng.randrange(len(table))] ^= 1
+    elif way == 1:
+        table[rng.randrange(len(table))] = rng.choice((2, 3, 128, 255))
+    elif way == 2:
+        return bytes(table[:rng.randrange(len(table))])
+    return bytes(table) + rng.randbytes(rng.randint(0, 9))
+
+
+def searches(case):
+    """Searches with several limits, of tables of all schemes, refused ones."""
+    rng, scheme = case.rng, case.scheme
+    n, f, d = layout(scheme, rng, rng.choice((8, 16, 64, 256)))
+    settings = scheme, n, f, d
+    chosen = random_set(rng, d)
+    table = table_of(scheme, n, d, chosen)
+    if scheme == 3:
+        searched(case, n, d, chosen, lambda whole: (
+            0, 1, whole - 1, whole, whole + 1, rng.randrange(whole + 1), TOP))
+    else:
+        case.claim(search(case, settings, table, 9)[0] == 20,
+                   "20 is not said")
+    limit = rng.choice((0, 1, rng.randrange(2 * d), 2 * d, TOP))
+    places = random_words(rng, room(rng, d, 0.2))
+    search(case, settings, spoilt_table(rng, table), limit, places)
+    search(case, settings, spoilt_table(rng, table), limit)
+    search(case, bad_settings(rng, *settings), table, limit, places)
+    case.claim(search(case, settings, b"", limit, places[:d - 1])[0] == 8,
+               "8 is after 12")
+
+
 # ------------------------------------------------------------------- refusals
 
 BAD_SCHEMES = (0, 4, 5, 7, 255, 256, 257, 258, 259, 65537, 2 ** 31 + 1, TOP)
@@ -322,7 +391,7 @@ def refused(case):
     if rng.random() < 0.3:
         ends = ends[:bad_length(rng, d)]
     name = rng.choice(("open", "values", "seal", "check", "check", "read",
-                       "read"))
+                       "read", "search"))
     if name == "open":
         arguments = *settings[:3], rng.randbytes(record.SIZE)
     elif name == "values":
@@ -341,9 +410,12 @@ def refused(case):
             table[rng.randrange(len(table))] = rng.choice((0, 0, 2, 255))
         passed = rng.choice((0, passed_day(rng, n, f, d),
                              bad_passed(rng, n, d)))
-        arguments = (*settings, passed, bytes(table),
-                     random_words(rng, bad_length(rng, d)),
+        places = random_words(rng, bad_length(rng, d))
+        arguments = (*settings, passed, bytes(table), places,
                      random_words(rng, 5))
+        if name == "search":
+            arguments = (*settings, bytes(table), rng.choice((0, 1, TOP)),
+                         places, random_words(rng, 3))
     case.call(name, *arguments)
 
 
@@ -538,7 +610,8 @@ def empty_arrays(case):
     def some(data):
         return data if rng.random() < 0.7 else data[:0]
 
-    name = rng.choice(("add", "close", "seal", "check", "read", "forecast"))
+    name = rng.choice(("add", "close", "seal", "check", "read", "search",
+                       "forecast"))
     if name == "add":
         case.call("add", made_up(scheme, rng), b"", random_words(rng, 1),
                   nulls=True)
@@ -555,6 +628,10 @@ def empty_arrays(case):
         book = b"".join(values_of(scheme, n, [daybook.digest(b"")] * d))
         case.call("check", scheme, n, f, d, b"", some([0] * d), some(book),
                   some(rng.randbytes(32 * d)), some(rng.randbytes(count)),
+                  nulls=True)
+    elif name == "search":
+        case.call("search", scheme, n, f, d, some(b"\1" * count), d,
+                  some(random_words(rng, d)), random_words(rng, 3),
                   nulls=True)
     else:
         case.call("read", scheme, n, f, d, passed_day(rng, n, f, d),
@@ -920,6 +997,11 @@ def wide_arrays(case):
                               random_words(rng, d), random_words(rng, 5),
                               wide=label)
         case.claim(answer == 0, "read is refused")
+        answer, _ = case.call("search", *settings,
+                              table_of(*settings[:2], d, 8), 5,
+                              random_words(rng, d), random_words(rng, 3),
+                              wide=label)
+        case.claim(answer == (0 if scheme == 3 else 20), "search is refused")
 
 
 def longest_season(case):
@@ -980,10 +1062,76 @@ def longest_positions(case):
                    "the last chain does not end with the book")
 
 
+def every_search(case):
+    """All tables of few days with every limit; those of no set are 14."""
+    scheme = case.scheme
+    sizes = (1, 2, 4, 8) if scheme == 3 else (1, 2, 4)
+    for n in sizes:
+        for d in range(n, 9 if scheme == 3 else 5, n):
+            settings = scheme, n, 1, d
+            for chosen in range(1 << d):
+                if scheme == 3:
+                    searched(case, n, d, chosen,
+                             lambda whole: (*range(whole + 2), TOP))
+                else:
+                    table = table_of(scheme, n, d, chosen)
+                    for limit in (0, 1, 2 * d, TOP):
+                        search(case, settings, table, limit)
+            count = daybook.values(scheme, n, d)
+            for bits in range(1 << min(count, 9)):
+                table = bytes(bits >> k & 1 for k in range(count))
+                search(case, settings, table, bits % (2 * d + 1))
+
+
+def longest_search(case):
+    """65,536 days of which none, 1, 16 and 4,096 are changed."""
+    rng, scheme = case.rng, case.scheme
+    n = rng.choice((1, 8, 256))
+    for count in (0, 1, 16, 4096):
+        days = sorted(rng.sample(range(1, DAYS + 1), count))
+        table = long_table(scheme, n, days)
+        settings = scheme, n, 1, DAYS
+        if scheme != 3:
+            case.claim(search(case, settings, table, TOP)[0] == 20,
+                       "20 is not said")
+            continue
+        fails = daybook.tree_outcomes(n, DAYS, table)
+        whole = len(daybook.searched(DAYS, fails, TOP)[0])
+        for limit in (0, 1, whole // 2, whole - 1, whole, TOP):
+            answer, after = search(case, settings, table, limit)
+            looked, found, undecided = after[-1]
+            case.claim(answer == 0 and looked == min(limit, whole)
+                       and found <= count <= found + undecided
+                       and (limit < whole or after[-2][:found] == days),
+                       "a long search is not as due")
+        table = bytearray(table)
+        table[rng.randrange(len(table))] = 2
+        case.claim(search(case, settings, table, 1)[0] == 13,
+                   "13 is not said")
+
+
+def long_table(scheme, n, days):
+    """The table of 65,536 days that these changed days, ascending, give."""
+    before = [0] * (DAYS + 1)
+    for day in days:
+        before[day] = 1
+    before = list(accumulate(before))
+    out = bytearray()
+    for g in range(1, DAYS + 1):
+        for chain in daybook._closing(scheme, n, g):
+            if isinstance(chain, range):
+                out.append(before[chain[-1]] == before[chain[0] - 1])
+            else:
+                out.append(all(before[day] == before[day - 1]
+                               for day in chain))
+    return bytes(out)
+
+
 ONCE = (whole_book, whole_service, big_day, big_ledger, high_bytes,
         settings_grid, record_grid, wide_arrays, longest_season,
-        every_position, longest_positions)
+        every_position, longest_positions, every_search, longest_search)
 KINDS = ((round_trip, 26), (read_table, 24), (refused, 14), (history, 12),
          (made_up_calls, 14), (empty_arrays, 5), (number_of_values, 5),
-         (values_of_record, 4), (sizes, 6), (positions, 6), (skipped, 4))
+         (values_of_record, 4), (sizes, 6), (positions, 6), (skipped, 4),
+         (searches, 4))
 CHOICES = [kind for kind, weight in KINDS for _ in range(weight)]

@@ -12,14 +12,14 @@ import re
 from array import array
 from dataclasses import dataclass, replace
 from functools import lru_cache
-from itertools import accumulate
+from itertools import accumulate, islice
 
 DAY_LIMIT = 16_777_216      # bytes in a day
 DAYS_LIMIT = 65_536         # days in a book
 SLOTS = 17                  # running tile or tree chains in a record
 SUBSETS_LIMIT = 12          # up to this D, reading tries every set of days
 MASKS_LIMIT = 512           # up to this D, it has the chains as masks
-VERSION = 500               # 10000 major + 100 minor + patch: 0.5.0
+VERSION = 600               # 10000 major + 100 minor + patch: 0.6.0
 
 BLACK, TILE, TREE = "black", "tile", "tree"
 
@@ -670,6 +670,20 @@ class Reading:
     last_good: int = 0
 
 
+def tested_table(scheme, n, d, outcomes, places, lister):
+    """(refusal, table, days to be listed): refusals 8 12 13 14."""
+    count = values(scheme, n, d)
+    table = list(outcomes[:count])
+    if places < d:
+        return 8, None, None
+    if len(outcomes) < count:
+        return 12, None, None
+    if any(outcome not in (0, 1) for outcome in table):
+        return 13, None, None
+    listed = lister(scheme, n, d, table)
+    return (14, None, None) if listed is None else (0, table, listed)
+
+
 def read(scheme, n, f, d, passed, outcomes, list_buffer, lister=list_of):
     """Reading; days go to list_buffer's front.
 
@@ -679,17 +693,10 @@ def read(scheme, n, f, d, passed, outcomes, list_buffer, lister=list_of):
     refusal = passed_refusal(scheme, n, f, d, passed)
     if refusal:
         return Reading("refused", refusal)
-    if len(list_buffer) < d:
-        return Reading("refused", 8)
-    count = values(scheme, n, d)
-    if len(outcomes) < count:
-        return Reading("refused", 12)
-    table = list(outcomes[:count])
-    if any(outcome not in (0, 1) for outcome in table):
-        return Reading("refused", 13)
-    listed = lister(scheme, n, d, table)
-    if listed is None:
-        return Reading("refused", 14)
+    refusal, table, listed = tested_table(scheme, n, d, outcomes,
+                                          len(list_buffer), lister)
+    if refusal:
+        return Reading("refused", refusal)
     if not listed:
         return Reading("clean", last_good=d)
     for k, day in enumerate(listed):
@@ -697,6 +704,83 @@ def read(scheme, n, f, d, passed, outcomes, list_buffer, lister=list_of):
     return Reading("changed", 0, len(listed), listed[0],
                    max(passed, listed[0] - 1), d,
                    last_good_day(scheme, n, d, table))
+
+
+# ------------------------------------------------------------------- search
+
+def maximal_chains(d):
+    """The tree's chains over days of 1 to d that lie in no other of them.
+
+    From left to right, each as its first and last day: one for each one bit
+    of d, the greatest weight first.
+    """
+    out = []
+    for level in range(lg(d), -1, -1):
+        if d >> level & 1:
+            last = d // 2 ** level * 2 ** level
+            out.append((last - 2 ** level + 1, last))
+    return out
+
+
+def halves(chain):
+    """The left and the right half of a chain of two days or more."""
+    first, last = chain
+    middle = (first + last) // 2
+    return [(first, middle), (middle + 1, last)]
+
+
+def walk_of(chain, fails):
+    """The chains looked at when a chain is dealt with, in order."""
+    yield chain
+    if fails(chain) and chain[0] < chain[1]:
+        for half in halves(chain):
+            yield from walk_of(half, fails)
+
+
+def tree_outcomes(n, d, table):
+    """Whether the tree's chain from a first to a last day fails."""
+    where = places(3, n, d)
+
+    def fails(chain):
+        first, last = chain
+        level = lg(last - first + 1)
+        return table[where[KIND_NUMBERS[TREE], level, first, last]] == 0
+    return fails
+
+
+def searched(d, fails, limit):
+    """(looked, found, undecided): chains, days, days, each as a list."""
+    largest = maximal_chains(d)
+    walk = (chain for whole in largest for chain in walk_of(whole, fails))
+    looked = list(islice(walk, limit))
+    failing = [chain for chain in looked if fails(chain)]
+    found = [first for first, last in failing if first == last]
+    due = largest + [half for chain in failing if chain[0] < chain[1]
+                     for half in halves(chain)]
+    seen = set(looked)
+    undecided = [day for first, last in due if (first, last) not in seen
+                 for day in range(first, last + 1)]
+    return looked, found, undecided
+
+
+def search(scheme, n, f, d, outcomes, limit, list_buffer, lister=list_of):
+    """(refusal, looked, found, undecided); days go to list_buffer's front.
+
+    Refusals 1 2 3 7 8 12 13 14 20.
+    """
+    refusal = days_call_refusal(scheme, n, f, d)
+    if refusal:
+        return refusal, 0, 0, 0
+    refusal, table, _ = tested_table(scheme, n, d, outcomes, len(list_buffer),
+                                     lister)
+    if refusal == 0 and scheme != 3:
+        refusal = 20
+    if refusal:
+        return refusal, 0, 0, 0
+    looked, found, undecided = searched(d, tree_outcomes(n, d, table), limit)
+    for k, day in enumerate(found):
+        list_buffer[k] = day
+    return 0, len(looked), len(found), len(undecided)
 
 
 # ------------------------------------------------------------------- program

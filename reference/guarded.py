@@ -11,9 +11,9 @@ from wanted import WANT
 # n number, b bytes with their length, w words with their length, B and W
 # the same without a length, Q numbers of 64 bits without a length.
 FORMS = {"open": "nnnB", "add": "BbW", "close": "BbWW", "seal": "nnnnbwb",
-         "check": "nnnnbwbbb", "read": "nnnnnbwW", "values": "nnnnW",
-         "record_values": "BW", "forecast": "nnnnwQ", "chain_at": "nnnnnW",
-         "position_of": "nnnnWW", "version": ""}
+         "check": "nnnnbwbbb", "read": "nnnnnbwW", "search": "nnnnbnwW",
+         "values": "nnnnW", "record_values": "BW", "forecast": "nnnnwQ",
+         "chain_at": "nnnnnW", "position_of": "nnnnWW", "version": ""}
 LABELS = {
     "open": ("scheme", "n", "f", "record"),
     "add": ("record", "piece", "blocks"),
@@ -23,6 +23,8 @@ LABELS = {
               "outcomes"),
     "read": ("scheme", "n", "f", "d", "passed", "outcomes", "list",
              "numbers"),
+    "search": ("scheme", "n", "f", "d", "outcomes", "limit", "list",
+               "progress"),
     "values": ("scheme", "n", "f", "d", "values"),
     "record_values": ("record", "values"),
     "forecast": ("scheme", "n", "f", "d", "lengths", "sizes"),
@@ -30,11 +32,12 @@ LABELS = {
     "position_of": ("scheme", "n", "f", "d", "chain", "position"),
     "version": ()}
 WRITTEN = {"record", "part", "values", "blocks", "work", "list", "numbers",
-           "sizes"}
+           "progress", "sizes"}
 ANSWERS = {"open": (0, 1, 2, 3), "add": (0, 6, 5, 4), "close": (0, 6, 5, 8),
            "seal": (0, 1, 2, 3, 7, 9, 10, 8),
            "check": (0, 1, 2, 3, 7, 9, 10, 11, 8),
            "read": (0, 1, 2, 3, 7, 19, 8, 12, 13, 14),
+           "search": (0, 1, 2, 3, 7, 8, 12, 13, 14, 20),
            "values": (0, 1, 2, 3, 7), "record_values": (0, 6),
            "forecast": (0, 1, 2, 3, 7, 16, 17),
            "chain_at": (0, 1, 2, 3, 7, 18),

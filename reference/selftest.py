@@ -658,6 +658,130 @@ def skipped_validations():
                db.passed_refusal(scheme, n, f, d, d - f * n), 0)
 
 
+# --------------------------------------------------------------------- search
+
+def search_steps(d, fails):
+    """Each state of a search, by the list of what is due.
+
+    The chain that is due first is looked at; the halves of a failing one
+    come before whatever was due.  A state has the chains looked at, the days
+    found and the chains that are due.
+    """
+    due, looked, found = db.maximal_chains(d), [], []
+    yield list(looked), list(found), list(due)
+    while due:
+        chain = due.pop(0)
+        looked.append(chain)
+        if fails(chain) and chain[0] == chain[1]:
+            found.append(chain[0])
+        elif fails(chain):
+            due = db.halves(chain) + due
+        yield list(looked), list(found), list(due)
+
+
+def search_list(n, d, changed, limit):
+    """(numbers, found days) of a search; the rest of the list must stay."""
+    buffer = [777] * (d + 3)
+    refusal, *numbers = db.search(3, n, 1, d, table_of(3, n, d, changed),
+                                  limit, buffer)
+    expect("search accepted", refusal, 0)
+    expect("list buffer's rest", set(buffer[numbers[1]:]), {777})
+    return tuple(numbers), buffer[:numbers[1]]
+
+
+def search_examples():
+    """The examples of docs/SPEC.md, 20.8, and the largest chains."""
+    for d, changed, limits, numbers, days in [
+            (4, [3], (0,), (0, 0, 4), []), (4, [3], (1,), (1, 0, 4), []),
+            (4, [3], (2,), (2, 0, 2), []), (4, [3], (3,), (3, 0, 2), []),
+            (4, [3], (4,), (4, 1, 1), [3]),
+            (4, [3], (5, 6, 100), (5, 1, 0), [3]),
+            (4, [], (1, 2, 100), (1, 0, 0), []),
+            (6, [2, 6], (4,), (4, 1, 4), [2]),
+            (6, [2, 6], (5,), (5, 1, 2), [2]),
+            (6, [2, 6], (8, 9, 100), (8, 2, 0), [2, 6])]:
+        for limit in limits:
+            expect(f"search {d} {changed} {limit}",
+                   search_list(1, d, changed, limit), (numbers, days))
+    for d in range(1, 600):
+        tree = {chain for g in range(1, d + 1) for chain in (
+            (g - 2 ** level + 1, g) for level in range(db.lg(g & -g) + 1))}
+        most = sorted(a for a in tree if not any(
+            a != b and b[0] <= a[0] and a[1] <= b[1] for b in tree)) \
+            if d <= 40 else None
+        found = db.maximal_chains(d)
+        expect("largest chains", found, most or found)
+        expect("largest chains are of the tree", set(found) <= tree, True)
+        expect("one for each one bit", len(found), bin(d).count("1"))
+        expect("each day once", [day for first, last in found
+                                 for day in range(first, last + 1)],
+               list(range(1, d + 1)))
+
+
+def searches():
+    """Every set of few days with every limit, against steps and reading."""
+    search_examples()
+    for n, d in [(n, d) for n in SIZES for d in range(n, 9, n)]:
+        for chosen in range(1 << d):
+            changed = db.unmask(chosen) if chosen else []
+            table = table_of(3, n, d, changed)
+            fails = db.tree_outcomes(n, d, table)
+            states = list(search_steps(d, fails))
+            walk, found, _ = states[-1]
+            expect("found is read", found, read_list(3, n, 1, d, table)[1])
+            expect("bound", len(walk) <= bin(d).count("1")
+                   + 2 * len(changed) * db.lg(d), True)
+            for limit in (*range(len(walk) + 2), 2 * d, 2 ** 32 - 1):
+                looked, found, due = states[min(limit, len(walk))]
+                left = [day for first, last in due
+                        for day in range(first, last + 1)]
+                got = db.searched(d, fails, limit)
+                expect("search by steps", (got[0], got[1], sorted(got[2])),
+                       (looked, found, left))
+                expect("the last ones", left,
+                       list(range(d - len(left) + 1, d + 1)))
+                expect("bounds", len(found) <= len(changed)
+                       <= len(found) + len(left), True)
+    for n, d in [(1, 100), (4, 124), (8, 1000), (256, 1024)]:
+        changed = [g for g in range(1, d + 1) if g * g % 37 < 5]
+        numbers, days = search_list(n, d, changed, 2 * d)
+        expect("many days", (numbers[2], days), (0, changed))
+
+
+def search_refusals():
+    def call(scheme=3, n=4, f=1, d=4, outcomes=(1,) * 7, places=4):
+        answers = set()
+        for limit in (0, 1, 2 ** 32 - 1):
+            buffer = [777] * places
+            answers.add(db.search(scheme, n, f, d, list(outcomes), limit,
+                                  buffer)[0])
+            expect("list buffer kept", buffer, [777] * places)
+        expect("one answer", len(answers), 1)
+        return answers.pop()
+
+    expect("search accepted", call(), 0)
+    faults = [(1, dict(scheme=0)), (2, dict(n=0)), (3, dict(f=65)),
+              (7, dict(d=65_540)), (8, dict(places=3)),
+              (12, dict(outcomes=(2, 1, 1)))]
+    for k, (number, _) in enumerate(faults):
+        arguments = {}
+        for _, fault in faults[k:]:
+            arguments.update(fault)
+        expect(f"search order {number}", call(**arguments), number)
+    for outcomes, want in [((0, 1, 1, 1, 1, 1, 2), 13), ((1,) * 6, 12),
+                           ((0, 1, 1, 1, 1, 1, 1), 14), ((), 12),
+                           ((1,) * 7 + (2,), 0)]:
+        expect("search outcomes", call(outcomes=outcomes), want)
+    for scheme, good, bad in [(1, (1, 1, 0, 0), (1, 0, 1, 0)),
+                              (2, (0, 0) * 4, (0, 1) * 4)]:
+        for outcomes, want in [(good, 20), (bad, 14), (good[:-1], 12),
+                               (good[:-1] + (2,), 13), (good + (2,), 20)]:
+            expect(f"search of scheme {scheme}",
+                   call(scheme=scheme, n=1, outcomes=outcomes), want)
+        expect("8 before 20", call(scheme=scheme, n=1, outcomes=good,
+                                   places=3), 8)
+
+
 def whole_chain():
     """Seal, change, check, read: the days listed are those the set allows."""
     for scheme, n, d in layouts(8):
@@ -1202,7 +1326,88 @@ def comparison():
                                           + len(db.names(scheme, n, day))])
         return answer
 
+    def other_search(limit_of=lambda limit: limit, order=lambda due: due,
+                     goes_into=lambda fails: fails, listed=lambda found: found,
+                     stops=lambda found: False, once_more=0,
+                     days_of=lambda chain: chain[1] - chain[0] + 1):
+        """A search by what is due, in which one thing is another."""
+        def fault(good, scheme, n, f, d, outcomes, length, limit, places,
+                  count, progress):
+            answer = good(scheme, n, f, d, outcomes, length, 0, places, count,
+                          progress)
+            if answer:
+                return answer
+            fails = db.tree_outcomes(n, d, stand_in.get(outcomes, length))
+            due, looked, found = db.maximal_chains(d), 0, []
+            while due and looked < limit_of(limit) and not stops(found):
+                chain, due = due[0], due[1:]
+                looked += 1
+                if chain[0] < chain[1] and goes_into(fails(chain)):
+                    due = order(db.halves(chain)) + due
+                elif chain[0] == chain[1] and fails(chain):
+                    found.append(chain[0])
+            stand_in.put_words(places, listed(found))
+            stand_in.put_words(progress, [
+                looked + once_more * (not due), len(found),
+                sum(map(days_of, due))])
+            return 0
+        return fault
+
+    def no_tree_first(good, scheme, n, f, d, *rest):
+        """20 before 8, 12, 13 and 14."""
+        if scheme in (1, 2) and db.days_call_refusal(scheme, n, f, d) == 0:
+            return 20
+        return good(scheme, n, f, d, *rest)
+
+    def no_tree_before_14(good, scheme, *rest):
+        answer = good(scheme, *rest)
+        return 20 if answer == 14 and scheme != 3 else answer
+
+    def clears_the_rest(good, *arguments):
+        answer = good(*arguments)
+        if answer == 0:
+            places, count, progress = arguments[-3:]
+            found = stand_in.get_words(progress, 3)[1]
+            if count > found:
+                stand_in.put_words(places + 4 * found, [0] * (count - found))
+        return answer
+
+    def few_places(good, *arguments):
+        """8 only if the list is too short for what is found."""
+        *front, places, count, progress = arguments
+        d = arguments[3]
+        if not places or count >= d:
+            return good(*arguments)
+        more = (ctypes.c_uint32 * min(d, db.DAYS_LIMIT))()
+        return good(*front, ctypes.addressof(more), len(more), progress)
+
+    def few_before_short(good, scheme, n, f, d, outcomes, length, *rest):
+        """12 before 8."""
+        answer = good(scheme, n, f, d, outcomes, length, *rest)
+        few = answer == 8 and length < db.values(scheme, n, d)
+        return 12 if few else answer
+
+    # the first is no fault: the same search by what is due
+    expect("search by what is due is equal",
+           differs(faulty("search", other_search()), 3, first, first + 200),
+           False)
     for name, fault, schemes in [
+            ("search", number_of_refused, (1, 2, 3)),
+            ("search", other_search(limit_of=lambda limit: 2 ** 32), (3,)),
+            ("search", other_search(limit_of=lambda limit: limit - 1), (3,)),
+            ("search", other_search(limit_of=lambda limit: limit + 1), (3,)),
+            ("search", other_search(
+                limit_of=lambda limit: limit or 2 ** 32), (3,)),
+            ("search", other_search(order=lambda due: due[::-1]), (3,)),
+            ("search", other_search(goes_into=lambda fails: True), (3,)),
+            ("search", other_search(days_of=lambda chain: 1), (3,)),
+            ("search", other_search(stops=bool), (3,)),
+            ("search", other_search(listed=lambda found: found[::-1]), (3,)),
+            ("search", other_search(once_more=1), (3,)),
+            ("search", clears_the_rest, (3,)), ("search", few_places, (3,)),
+            ("search", few_before_short, (1, 2, 3)),
+            ("search", no_tree_first, (1, 2)),
+            ("search", no_tree_before_14, (1, 2)),
             ("chain_at", number_of_refused, (1, 2, 3)),
             ("chain_at", days_from_0, (1, 2, 3)),
             ("chain_at", days_to_the_tiles_end, (2,)),
@@ -1407,7 +1612,7 @@ def main():
                  call_lists, pieces, service_bounds, made_up_records,
                  last_days, check_tests, check_refusals, reading_tests,
                  reading_large, reading_refusals, skipped_validations,
-                 whole_chain, values_calls,
+                 searches, search_refusals, whole_chain, values_calls,
                  record_values_calls, sizing, positions, compression,
                  record_layout, record_histories, record_made_up, comparison,
                  program, text_faults, expected_outputs):

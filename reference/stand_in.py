@@ -84,6 +84,16 @@ def read(scheme, n, f, d, passed, outcomes, count, places, length, numbers):
     return result.refusal
 
 
+def search(scheme, n, f, d, outcomes, length, limit, places, count, progress):
+    after = get_words(places, count)
+    refusal, *found = daybook.search(scheme, n, f, d, get(outcomes, length),
+                                     limit, after)
+    if refusal == 0:
+        put_words(places, after)
+        put_words(progress, found)
+    return refusal
+
+
 def values(scheme, n, f, d, address):
     refusal, count = daybook.number_of_values(scheme, n, f, d)
     if refusal == 0:
@@ -127,7 +137,7 @@ def version():
 def calls():
     """The calls, by name."""
     return {"open": open_service, "add": add, "close": close, "seal": seal,
-            "check": check, "read": read, "values": values,
+            "check": check, "read": read, "search": search, "values": values,
             "record_values": record_values, "forecast": forecast,
             "chain_at": chain_at, "position_of": position_of,
             "version": version}

@@ -68,6 +68,15 @@ def want_read(scheme, n, f, d, passed, outcomes, places, numbers):
                               result.high, result.last_good))
 
 
+def want_search(scheme, n, f, d, outcomes, limit, places, progress):
+    same = scheme, n, f, d, outcomes, limit
+    after = list(places)
+    refusal, *found = daybook.search(*same, after, lister)
+    if refusal:
+        return refusal, (*same, places, progress)
+    return 0, (*same, after, found)
+
+
 def want_values(scheme, n, f, d, values):
     refusal, count = daybook.number_of_values(scheme, n, f, d)
     return refusal, (scheme, n, f, d, values if refusal else (count,))
@@ -99,7 +108,8 @@ def want_version():
 
 WANT = {"open": want_open, "add": want_add, "close": want_close,
         "seal": want_seal, "check": want_check, "read": want_read,
-        "values": want_values, "record_values": want_record_values,
+        "search": want_search, "values": want_values,
+        "record_values": want_record_values,
         "forecast": want_forecast, "chain_at": want_chain_at,
         "position_of": want_position_of, "version": want_version}
 

@@ -62,6 +62,18 @@ mod c {
             list_len: usize,
             numbers: *mut u32,
         ) -> u32;
+        pub fn daybook_search(
+            scheme: u32,
+            n: u32,
+            f: u32,
+            d: u32,
+            outcomes: *const u8,
+            outcomes_len: usize,
+            limit: u32,
+            list: *mut u32,
+            list_len: usize,
+            progress: *mut u32,
+        ) -> u32;
         pub fn daybook_values(scheme: u32, n: u32, f: u32, d: u32, values: *mut u32) -> u32;
         pub fn daybook_record_values(record: *const u8, values: *mut u32) -> u32;
         pub fn daybook_forecast(
@@ -204,6 +216,31 @@ pub fn read(
     }
 }
 
+pub fn search(
+    (scheme, n, f): Setting,
+    d: u32,
+    outcomes: &[u8],
+    limit: u32,
+    list: &mut [u32],
+    progress: &mut [u32; 3],
+) -> u32 {
+    // SAFETY: see above; progress has three places.
+    unsafe {
+        c::daybook_search(
+            scheme,
+            n,
+            f,
+            d,
+            outcomes.as_ptr(),
+            outcomes.len(),
+            limit,
+            list.as_mut_ptr(),
+            list.len(),
+            progress.as_mut_ptr(),
+        )
+    }
+}
+
 pub fn values((scheme, n, f): Setting, d: u32, values: &mut [u32; 1]) -> u32 {
     // SAFETY: see above; values has one place.
     unsafe { c::daybook_values(scheme, n, f, d, values.as_mut_ptr()) }
@@ -310,6 +347,34 @@ mod tests {
         assert_eq!(forecast((1, 1, 1), 1, &long, &mut sizes), 0);
         // 16,777,225 / 64 rounded down, plus 1, and one link
         assert_eq!(sizes, [1, 32, 262_147]);
+    }
+
+    #[test]
+    fn a_refused_search_leaves_list_and_progress() {
+        // with five outcomes: four days under N 4 have seven, three under N 1 five
+        for (number, setting, d, table) in [
+            (1, (0, 0, 0), 0, [2; 5]),
+            (2, (3, 0, 0), 0, [2; 5]),
+            (3, (3, 1, 2), 0, [2; 5]),
+            (7, (3, 1, 1), 0, [2; 5]),
+            (8, (3, 1, 1), 5, [2; 5]),
+            (12, (3, 4, 1), 4, [2; 5]),
+            (13, (3, 1, 1), 3, [1, 1, 0, 1, 2]),
+            (14, (3, 1, 1), 3, [1, 1, 0, 1, 1]),
+            (20, (1, 1, 1), 3, [1, 1, 0, 1, 1]),
+        ] {
+            for limit in [0, 1, u32::MAX] {
+                let (mut list, mut progress) = ([66; 4], [77, 78, 79]);
+                let answer = search(setting, d, &table, limit, &mut list, &mut progress);
+                assert_eq!(answer, number);
+                assert_eq!((list, progress), ([66; 4], [77, 78, 79]));
+            }
+        }
+        let (mut list, mut progress) = ([66; 4], [77, 78, 79]);
+        let table = [1, 0, 0, 1, 0];
+        let answer = search((3, 1, 1), 3, &table, 4, &mut list, &mut progress);
+        assert_eq!(answer, 0);
+        assert_eq!((list, progress), ([2, 66, 66, 66], [4, 1, 0]));
     }
 
     /// Settings and D that are refused, and those of a book of 35 values.

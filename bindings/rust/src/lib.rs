@@ -4,9 +4,9 @@
 //! Safe calls of the proved static library `libdaybook_c.a`. A [`Service`] takes each closing day's
 //! bytes and gives the values of the book; [`seal`] does the same for a whole ledger. [`check`]
 //! hashes the ledger again and compares it with the book; [`read`] lists the days that the outcomes
-//! tell of. [`forecast`] says from the lengths of the days what sealing them will take; [`chain_at`]
-//! and [`position_of`] lead from a position of a book to its chain, and back. A call that is refused
-//! gives its [`Refusal`] and changes nothing.
+//! tell of, and [`search`] does so chain by chain, up to a limit. [`forecast`] says from the lengths of
+//! the days what sealing them will take; [`chain_at`] and [`position_of`] lead from a position of a
+//! book to its chain, and back. A call that is refused gives its [`Refusal`] and changes nothing.
 //!
 //! ```
 //! use daybook::{check_to_vecs, read_to_vec, Layout, Refusal, Service};
@@ -40,6 +40,7 @@ mod ffi;
 mod layout;
 mod positions;
 mod refusal;
+mod search;
 mod service;
 mod sizing;
 
@@ -50,6 +51,7 @@ pub use book::{
 pub use layout::Layout;
 pub use positions::{chain_at, position_of, Chain, Kind};
 pub use refusal::Refusal;
+pub use search::{search, search_to_vec, Progress};
 pub use service::{Closed, Service};
 pub use sizing::{forecast, Sizes};
 

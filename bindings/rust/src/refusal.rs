@@ -51,11 +51,13 @@ pub enum Refusal {
     NotInBook = 18,
     /// The day of the last passed check is not below D, or N does not divide it.
     BadPassed = 19,
+    /// A search of a table whose scheme is not 3.
+    NotTree = 20,
 }
 
 impl Refusal {
     /// Every refusal, by number. 15 is one of the program `readtable` and of no call.
-    pub const ALL: [Refusal; 18] = [
+    pub const ALL: [Refusal; 19] = [
         Refusal::BadScheme,
         Refusal::BadN,
         Refusal::BadF,
@@ -74,9 +76,10 @@ impl Refusal {
         Refusal::LongDay,
         Refusal::NotInBook,
         Refusal::BadPassed,
+        Refusal::NotTree,
     ];
 
-    /// The number of the cause: 1 to 14, or 16 to 19.
+    /// The number of the cause: 1 to 14, or 16 to 20.
     #[must_use]
     pub const fn number(self) -> u32 {
         self as u32
@@ -137,6 +140,7 @@ impl Refusal {
             Refusal::BadPassed => {
                 "the day of the last passed check is not below D, or N does not divide it"
             }
+            Refusal::NotTree => "the scheme is not 3, and only tables of the tree are searched",
         }
     }
 }
@@ -154,9 +158,9 @@ mod tests {
     use super::*;
 
     #[test]
-    fn numbers_are_1_to_19_without_15() {
+    fn numbers_are_1_to_20_without_15() {
         let numbers: Vec<u32> = Refusal::ALL.into_iter().map(Refusal::number).collect();
-        assert_eq!(numbers, (1..=14).chain(16..=19).collect::<Vec<u32>>());
+        assert_eq!(numbers, (1..=14).chain(16..=20).collect::<Vec<u32>>());
     }
 
     #[test]
@@ -166,7 +170,7 @@ mod tests {
             assert_eq!(Refusal::answer(refusal.number()), Err(refusal));
         }
         assert_eq!(Refusal::answer(0), Ok(()));
-        for number in [0, 15, 20, u32::MAX] {
+        for number in [0, 15, 21, u32::MAX] {
             assert_eq!(Refusal::from_number(number), None);
         }
     }

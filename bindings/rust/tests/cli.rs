@@ -212,6 +212,7 @@ fn refusals_of_settings_and_days() {
         "check --days in --book book --outcomes table",
         "verify --ledger ledger --ends ends --book book",
         "read --d 8 --outcomes book",
+        "search --d 8 --outcomes book",
     ];
     for rest in rests {
         let with = |layout: &str| format!("{rest} {layout}");
@@ -339,6 +340,7 @@ fn help() {
         ("seal --help", "daybook seal --scheme"),
         ("check --help", "daybook check --scheme"),
         ("read --help", "daybook read --scheme"),
+        ("search --help", "daybook search --scheme"),
         ("verify -h", "daybook verify --scheme"),
         ("forecast --help", "daybook forecast --scheme"),
         ("locate --help", "daybook locate --scheme"),

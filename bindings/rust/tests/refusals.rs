@@ -5,7 +5,8 @@ mod common;
 use common::{day, ledger};
 use daybook::{
     chain_at, check, check_to_vecs, forecast, position_of, read, read_to_vec, seal, seal_to_vec,
-    validation_before, values, Chain, Kind, Layout, Refusal, Service, RECORD,
+    search, search_to_vec, validation_before, values, Chain, Kind, Layout, Refusal, Service,
+    RECORD,
 };
 
 /// Settings that are not allowed, with their refusal. Where two causes meet, the first test tells.
@@ -62,6 +63,8 @@ fn settings_by_every_call() {
         assert_eq!(check_to_vecs(layout, 0, &[], &[], &[]), Err(refusal));
         assert_eq!(read(layout, 0, 0, &[], &mut []), Err(refusal));
         assert_eq!(read_to_vec(layout, 0, 0, &[]), Err(refusal));
+        assert_eq!(search(layout, 0, &[], 0, &mut []), Err(refusal));
+        assert_eq!(search_to_vec(layout, 0, &[], 0), Err(refusal));
         assert_eq!(validation_before(layout, 0), Err(refusal));
         assert_eq!(forecast(layout, 0, &[]), Err(refusal));
         assert_eq!(chain_at(layout, 0, u32::MAX), Err(refusal));
@@ -94,6 +97,8 @@ fn numbers_of_days_by_every_call() {
             assert_eq!(read(LAYOUT, d, passed, &[], &mut []), Err(refusal));
             assert_eq!(read_to_vec(LAYOUT, d, passed, &[]), Err(refusal));
         }
+        assert_eq!(search(LAYOUT, d, &[], 9, &mut []), Err(refusal));
+        assert_eq!(search_to_vec(LAYOUT, d, &[], 9), Err(refusal));
         assert_eq!(validation_before(LAYOUT, d), Err(refusal));
         assert_eq!(forecast(LAYOUT, d, &[u32::MAX; 3]), Err(refusal));
         assert_eq!(chain_at(LAYOUT, d, u32::MAX), Err(refusal));

@@ -2,6 +2,7 @@
 
 #![allow(dead_code)] // each test program uses some of it
 
+use std::collections::BTreeSet;
 use std::fs;
 use std::path::{Path, PathBuf};
 
@@ -146,6 +147,91 @@ pub fn listing(layout: Layout, d: u32, outcomes: &[u8]) -> Option<Vec<u32>> {
     };
     let all = (0..1u32 << d).filter(gives).reduce(|a, b| a | b)?;
     Some((1..=d).filter(|day| all >> (day - 1) & 1 == 1).collect())
+}
+
+/// A chain of the tree: its first and its last day.
+type Span = (u32, u32);
+
+/// The chains of the tree that lie in no other one over days of 1 to `d`, each as its first and last day:
+/// from the left, the longest one that can begin there.
+fn maximal(d: u32) -> Vec<Span> {
+    let mut chains = Vec::new();
+    let mut day = 0;
+    while day < d {
+        let spans = (0..=16).map(|level| 2u32.pow(level));
+        let fits = |span: &u32| day.is_multiple_of(*span) && day + span <= d;
+        let span = spans.filter(fits).max().unwrap();
+        chains.push((day + 1, day + span));
+        day += span;
+    }
+    chains
+}
+
+/// The two halves of a chain of more than one day.
+fn halves((first, last): Span) -> [Span; 2] {
+    let middle = first + (last - first) / 2;
+    [(first, middle), (middle + 1, last)]
+}
+
+/// Whether a chain of the tree fails: it covers one of the changed days, which ascend.
+fn fails((first, last): Span, changed: &[u32]) -> bool {
+    let from = changed.partition_point(|day| *day < first);
+    changed.get(from).is_some_and(|day| *day <= last)
+}
+
+fn look(chain: Span, changed: &[u32], walk: &mut Vec<Span>) {
+    walk.push(chain);
+    if fails(chain, changed) && chain.0 < chain.1 {
+        for half in halves(chain) {
+            look(half, changed, walk);
+        }
+    }
+}
+
+/// The chains that a search to the end looks at, in order.
+pub fn walk(d: u32, changed: &[u32]) -> Vec<Span> {
+    let mut walk = Vec::new();
+    for chain in maximal(d) {
+        look(chain, changed, &mut walk);
+    }
+    walk
+}
+
+/// What a search leaves: looked, found and undecided, and the days found. Undecided are the days of the
+/// chains that are due, the largest ones and the halves of those that failed, and were not looked at.
+pub fn searched(d: u32, changed: &[u32], limit: u32) -> ([u32; 3], Vec<u32>) {
+    let walk = walk(d, changed);
+    let looked = &walk[..walk.len().min(limit as usize)];
+    let failing = looked
+        .iter()
+        .copied()
+        .filter(|chain| fails(*chain, changed));
+    let (single, longer): (Vec<Span>, Vec<Span>) = failing.partition(|chain| chain.0 == chain.1);
+    let found: Vec<u32> = single.iter().map(|chain| chain.0).collect();
+    let mut due = maximal(d);
+    due.extend(longer.into_iter().flat_map(halves));
+    let seen: BTreeSet<_> = looked.iter().collect();
+    let left = due.iter().filter(|chain| !seen.contains(chain));
+    let undecided = left.map(|(first, last)| last - first + 1).sum();
+    let numbers = [looked.len() as u32, found.len() as u32, undecided];
+    (numbers, found)
+}
+
+/// As [`table`], for scheme 3 and many days.
+pub fn tree_table(n: u32, d: u32, changed: &[u32]) -> Vec<u8> {
+    let mut outcomes = Vec::new();
+    let pass = |first, last| u8::from(!fails((first, last), changed));
+    for g in 1..=d {
+        let mut span = 1;
+        while g.is_multiple_of(span) {
+            outcomes.push(pass(g - span + 1, g));
+            span *= 2;
+        }
+        if g.is_multiple_of(n) && !g.is_power_of_two() {
+            outcomes.push(pass(1, g));
+        }
+    }
+    outcomes
 }
 
 /// The ledger of the days and their ends.

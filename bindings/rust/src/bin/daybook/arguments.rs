@@ -49,6 +49,17 @@ pub enum Command {
         sealed: Vec<String>,
         kept: Option<Box<Kept>>,
     },
+    Search {
+        layout: Layout,
+        d: u32,
+        /// How many chains may be looked at; without it the search goes to its end.
+        limit: Option<u32>,
+        outcomes: PathBuf,
+        /// The folder of days, for their names alone.
+        days: Option<PathBuf>,
+        names: bool,
+        sealed: Vec<String>,
+    },
     Verify {
         layout: Layout,
         d: Option<u32>,
@@ -116,7 +127,7 @@ type Form = (
     fn(&mut Options) -> Result<Command, Stop>,
 );
 
-const FORMS: [Form; 10] = [
+const FORMS: [Form; 11] = [
     (
         "open",
         help::OPEN,
@@ -173,6 +184,22 @@ const FORMS: [Form; 10] = [
             "--names",
         ],
         read,
+    ),
+    (
+        "search",
+        help::SEARCH,
+        &[
+            "--scheme",
+            "--n",
+            "--f",
+            "--d",
+            "--state",
+            "--limit",
+            "--outcomes",
+            "--days",
+            "--names",
+        ],
+        search,
     ),
     (
         "verify",
@@ -296,6 +323,20 @@ fn read(options: &mut Options) -> Result<Command, Stop> {
         days: options.path("--days"),
         sealed: options.sealed.take().unwrap_or_default(),
         kept: options.kept.take(),
+    })
+}
+
+fn search(options: &mut Options) -> Result<Command, Stop> {
+    let limit = options.number("--limit")?;
+    options.use_state(Sealed::of)?;
+    Ok(Command::Search {
+        layout: options.layout()?,
+        d: options.needed_number("--d")?,
+        limit,
+        outcomes: options.needed_path("--outcomes")?,
+        names: options.names()?,
+        days: options.path("--days"),
+        sealed: options.sealed.take().unwrap_or_default(),
     })
 }
 
@@ -757,6 +798,54 @@ mod tests {
     }
 
     #[test]
+    fn searches() {
+        let line = "search --scheme 3 --n 4 --f 1 --d 8 --outcomes o";
+        let search = |limit, days, names| {
+            Ok(Request::Run(Command::Search {
+                layout: Layout::tree(4),
+                d: 8,
+                limit,
+                outcomes: "o".into(),
+                days,
+                names,
+                sealed: vec![],
+            }))
+        };
+        assert_eq!(parsed(line), search(None, None, false));
+        for (word, limit) in [("0", 0), ("7", 7), ("4294967295", u32::MAX)] {
+            let limited = parsed(&format!("{line} --limit {word}"));
+            assert_eq!(limited, search(Some(limit), None, false));
+        }
+        assert_eq!(
+            parsed(&format!("{line} --limit=7 --days in --names")),
+            search(Some(7), Some("in".into()), true)
+        );
+        let said = |words: &str| message(&format!("{line} {words}"));
+        for word in ["-1", "+1", "07", "4294967296", "1.0", "all"] {
+            let text = format!("--limit {word} is not a number from 0");
+            assert!(said(&format!("--limit {word}")).starts_with(&text));
+        }
+        assert_eq!(said("--limit"), "--limit has no value");
+        assert_eq!(said("--limit="), "--limit has no value");
+        assert_eq!(said("--limit 1 --limit 1"), "--limit is given twice");
+        assert_eq!(said("--passed 0"), "search has no option --passed");
+        assert_eq!(said("--figure f"), "search has no option --figure");
+        assert_eq!(
+            said("--names"),
+            "--names needs --days or --state: there are no other names"
+        );
+        assert_eq!(
+            message("search --scheme 3 --n 4 --f 1 --outcomes o"),
+            "search needs --d"
+        );
+        assert_eq!(
+            message("search --scheme 3 --n 4 --f 1 --d 8"),
+            "search needs --outcomes"
+        );
+        assert_eq!(message("read --limit 1"), "read has no option --limit");
+    }
+
+    #[test]
     fn forecasts() {
         let forecast = |d, lengths, line| {
             Ok(Request::Run(Command::Forecast {
@@ -930,6 +1019,7 @@ mod tests {
         assert_eq!(parsed("seal --help"), Ok(Request::Help(help::SEAL)));
         assert_eq!(parsed("check -h"), Ok(Request::Help(help::CHECK)));
         assert_eq!(parsed("read --d 1 --help"), Ok(Request::Help(help::READ)));
+        assert_eq!(parsed("search -h"), Ok(Request::Help(help::SEARCH)));
         assert_eq!(parsed("verify --help"), Ok(Request::Help(help::VERIFY)));
         assert_eq!(parsed("forecast -h"), Ok(Request::Help(help::FORECAST)));
         assert_eq!(parsed("locate -h"), Ok(Request::Help(help::LOCATE)));

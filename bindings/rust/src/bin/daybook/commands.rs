@@ -21,6 +21,7 @@ use crate::locate::locate;
 use crate::names::{field, out_of_order};
 use crate::progress::Progress;
 use crate::say;
+use crate::search::search;
 use crate::state::{self, Kept};
 use crate::stop::Stop;
 use crate::summary::{strip, summary};
@@ -29,8 +30,27 @@ use crate::summary::{strip, summary};
 pub struct Done {
     /// What goes to standard output.
     pub lines: String,
-    /// Whether days may have been altered, or a value fails.
-    pub changed: bool,
+    pub answer: Answer,
+}
+
+/// What a command tells of the days; its exit status goes by this.
+#[derive(Clone, Copy, Debug, PartialEq, Eq)]
+pub enum Answer {
+    /// Done, and nothing is altered as far as the command tells.
+    Clean,
+    /// Days may have been altered, or a value fails.
+    Changed,
+    /// A search that is not finished has found no day.
+    Undecided,
+}
+
+impl Answer {
+    fn changed(changed: bool) -> Answer {
+        match changed {
+            true => Answer::Changed,
+            false => Answer::Clean,
+        }
+    }
 }
 
 pub fn run(command: &Command) -> Result<Done, Stop> {
@@ -74,10 +94,20 @@ pub fn run(command: &Command) -> Result<Done, Stop> {
             kept,
         } => {
             let view = View::of_folder(days.as_deref(), sealed, *names)?;
-            let values = values(*layout, *d)
-                .map_err(|refusal| Stop::Refused(refusal, numbers(*layout, *d)))?;
             let asked = Asked::of(*layout, *d, *passed, kept.as_deref())?;
-            read(&asked, values, outcomes, &view)
+            listed(&asked, &outcomes_of(*layout, *d, outcomes)?, &view)
+        }
+        Command::Search {
+            layout,
+            d,
+            limit,
+            outcomes,
+            days,
+            names,
+            sealed,
+        } => {
+            let view = View::of_folder(days.as_deref(), sealed, *names)?;
+            search(*layout, *d, *limit, outcomes, &view)
         }
         Command::Verify {
             layout,
@@ -279,7 +309,7 @@ fn some(sealed: &[String]) -> Option<Vec<String>> {
     (!sealed.is_empty()).then(|| sealed.to_vec())
 }
 
-fn numbers(layout: Layout, d: u32) -> String {
+pub fn numbers(layout: Layout, d: u32) -> String {
     format!("{layout}, D {d}")
 }
 
@@ -309,7 +339,7 @@ fn seal(work: &Work, book: &Path, force: bool) -> Result<Done, Stop> {
     ));
     Ok(Done {
         lines: String::new(),
-        changed: false,
+        answer: Answer::Clean,
     })
 }
 
@@ -378,14 +408,14 @@ fn check(
     }
     Ok(Done {
         lines: String::new(),
-        changed: fail > 0,
+        answer: Answer::changed(fail > 0),
     })
 }
 
 fn verify(work: &Work, book: &Path, asked: &Asked, view: &View) -> Result<Done, Stop> {
     let (checked, front) = checked(work, book)?;
     let done = listed(asked, &checked.outcomes, view)?;
-    if let (false, Some(kept)) = (done.changed, asked.kept) {
+    if let (Answer::Clean, Some(kept)) = (done.answer, asked.kept) {
         kept.keep(&front);
     }
     Ok(done)
@@ -418,15 +448,16 @@ fn read_book(work: &Work, book: &Path) -> Result<Vec<u8>, Stop> {
     Ok(bytes)
 }
 
-fn read(asked: &Asked, values: u32, outcomes: &Path, view: &View) -> Result<Done, Stop> {
-    let (table, more) = read_front(outcomes, u64::from(values))?;
+/// The outcomes of D days, from a file. Layout and D are tested before it is read.
+pub fn outcomes_of(layout: Layout, d: u32, file: &Path) -> Result<Vec<u8>, Stop> {
+    let values = values(layout, d).map_err(|refusal| Stop::Refused(refusal, numbers(layout, d)))?;
+    let (table, more) = read_front(file, u64::from(values))?;
     if more {
-        let d = asked.d;
         say(&format!(
             "note: D {d} has {values} outcomes; the rest of the file is not read"
         ));
     }
-    listed(asked, &table, view)
+    Ok(table)
 }
 
 /// What a table is read with.
@@ -488,12 +519,12 @@ impl Asked<'_> {
     }
 }
 
-/// What is shown of a reading.
-struct View {
+/// What is shown of a reading or a search.
+pub struct View {
     /// The names of the days as fields, where they have names.
     names: Option<Vec<String>>,
     /// Whether each line of a day has its name.
-    named: bool,
+    pub named: bool,
     /// The picture to write.
     figure: Option<PathBuf>,
 }
@@ -517,7 +548,7 @@ impl View {
         })
     }
 
-    fn names(&self) -> Option<&[String]> {
+    pub fn names(&self) -> Option<&[String]> {
         self.names.as_deref()
     }
 }
@@ -548,7 +579,7 @@ fn listed(asked: &Asked, outcomes: &[u8], view: &View) -> Result<Done, Stop> {
     let named = view.names().filter(|_| view.named);
     Ok(Done {
         lines: lines(layout.scheme, reading.numbers(), &days, named),
-        changed: !reading.is_clean(),
+        answer: Answer::changed(!reading.is_clean()),
     })
 }
 
@@ -564,7 +595,7 @@ fn draw(path: &Path, verified: &Verified) -> Result<(), Stop> {
 }
 
 /// A refusal of the outcomes.
-fn unread_table(layout: Layout, d: u32, outcomes: &[u8], refusal: Refusal) -> Stop {
+pub fn unread_table(layout: Layout, d: u32, outcomes: &[u8], refusal: Refusal) -> Stop {
     let line = match refusal {
         Refusal::BadOutcome => bad_outcome(layout, d, outcomes),
         Refusal::ImpossibleTable => impossible_value(layout, d, outcomes),
@@ -579,7 +610,13 @@ fn lines(
     days: &[u32],
     names: Option<&[String]>,
 ) -> String {
-    let mut text = format!("REF,{scheme},{listed},{first},{low},{high},{last_good}\n");
+    let first = format!("REF,{scheme},{listed},{first},{low},{high},{last_good}\n");
+    first + &day_lines(days, names)
+}
+
+/// A line for each day, with its name where the days have names.
+pub fn day_lines(days: &[u32], names: Option<&[String]>) -> String {
+    let mut text = String::new();
     for day in days {
         let name = names.and_then(|names| names.get(*day as usize - 1));
         let name = name.map_or(String::new(), |name| format!(",{name}"));

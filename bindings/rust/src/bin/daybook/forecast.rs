@@ -4,7 +4,7 @@ use daybook::{Layout, Refusal, Sizes, VALUE};
 
 use crate::arguments::Lengths;
 use crate::chains::scheme_name;
-use crate::commands::{labels, warn_of_order, Done};
+use crate::commands::{labels, warn_of_order, Answer, Done};
 use crate::explain::long_day;
 use crate::fit::Fit;
 use crate::lengths::Found;
@@ -33,7 +33,7 @@ pub fn forecast(
     };
     Ok(Done {
         lines,
-        changed: false,
+        answer: Answer::Clean,
     })
 }
 

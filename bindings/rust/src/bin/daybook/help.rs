@@ -15,6 +15,7 @@ Whole books:
   daybook seal    seal the days of a ledger: write the book
   daybook check   hash the ledger again, compare it with the book, write the outcomes
   daybook read    list the days that a file of outcomes tells of
+  daybook search  the same chain by chain, under the tree layout: say how far it is at a limit
   daybook verify  check and read in one
 
 A season before it is sealed:
@@ -30,6 +31,7 @@ A command that reads prints the lines
   REF,scheme,listed,first,low,high,lastgood
   DAY,g                 for each day that may have been altered
 on standard output (clean: REF,scheme,0,0,0,0,D). A refusal prints NO,number there.
+search prints SEARCH,looked,found,undecided in place of REF, and a DAY line for each day found.
 forecast prints the sizes there, with --line as SIZE,scheme,values,bytes,blocks; locate the chain or
 its position, with --line as CHAIN,position,kind,index,first,last.
 Messages go to standard error.
@@ -39,6 +41,7 @@ Exit status:
   1  days may have been altered, or some value fails
   2  refused: the line NO,number says the cause
   3  a file cannot be read or written or does not have its form, or the command line is wrong
+  4  a search has found no altered day and is not finished
 ";
 
 pub const OPEN: &str = "\
@@ -143,6 +146,36 @@ Reads the outcomes of D days and prints which days may have been altered.
   --days DIR               the folder of days, for their names alone
   --names                  each line of a day has its name too: DAY,g,name; it is that of --days, or
                            else that of the index of --state
+";
+
+pub const SEARCH: &str = "\
+daybook search --scheme 3 --n N --f 1 --d D --outcomes FILE [--limit K] [--days DIR] [--names]
+daybook search --state DIR [--d D] --outcomes FILE [--limit K] [--days DIR] [--names]
+
+Searches the outcomes of D days under the tree layout and prints how far it is:
+  SEARCH,looked,found,undecided
+  DAY,g                 for each altered day found
+The largest chains are looked at from left to right; when one fails, its left half and then its right
+half are dealt with fully before whatever follows. Undecided days are the last ones up to D. The number
+of altered days lies between found and found + undecided; with none undecided the days are those that
+read lists.
+
+  --scheme 3 --n N --f 1   the layout of the book that was checked; scheme 1 or 2 is refusal 20
+  --d D                    the number of days
+  --state DIR              layout and book of this state folder; D is then the greatest that is
+                           allowed and not above the days closed
+  --outcomes FILE          a byte for each value, in book order, 1 pass, 0 fail; bytes past the
+                           last value are not read
+  --limit K                look at no more than K chains, 0 for none (else: search to the end)
+  --days DIR               the folder of days, for their names alone
+  --names                  each line of a day has its name too: DAY,g,name; it is that of --days, or
+                           else that of the index of --state
+
+Without --limit the search is done in steps, with a limit that doubles. SIGINT (Ctrl-C) or SIGTERM ends
+it after the step that it is in, and the state so far is printed.
+
+Exit status: 1 days are found; 0 none, and none is undecided; 4 none is found so far, and days are
+undecided.
 ";
 
 pub const VERIFY: &str = "\

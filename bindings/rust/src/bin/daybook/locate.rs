@@ -4,7 +4,7 @@ use daybook::{chain_at, position_of, values, Chain, Kind, Layout, Refusal};
 
 use crate::arguments::Sought;
 use crate::chains::{run_text, runs_listed, scheme_name, Chain as Covering};
-use crate::commands::Done;
+use crate::commands::{Answer, Done};
 use crate::explain::{no_chain, no_position};
 use crate::stop::Stop;
 
@@ -21,7 +21,7 @@ pub fn locate(layout: Layout, d: u32, sought: Sought, line: bool) -> Result<Done
     };
     Ok(Done {
         lines,
-        changed: false,
+        answer: Answer::Clean,
     })
 }
 

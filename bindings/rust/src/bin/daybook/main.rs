@@ -1,6 +1,6 @@
 //! The program `daybook`: seal, check and read day books kept in files.
 
-#![forbid(unsafe_code)]
+#![deny(unsafe_code)]
 
 mod arguments;
 mod chains;
@@ -18,6 +18,9 @@ mod lengths;
 mod locate;
 mod names;
 mod progress;
+mod search;
+#[allow(unsafe_code)]
+mod signals;
 mod state;
 mod stop;
 mod summary;
@@ -27,7 +30,7 @@ use std::io::{self, Write};
 use std::process::ExitCode;
 
 use arguments::Request;
-use commands::Done;
+use commands::{Answer, Done};
 use daybook::Refusal;
 use stop::Stop;
 
@@ -35,6 +38,7 @@ const CLEAN: u8 = 0;
 const CHANGED: u8 = 1;
 const REFUSED: u8 = 2;
 const FAULT: u8 = 3;
+const UNDECIDED: u8 = 4;
 
 fn main() -> ExitCode {
     let status = match arguments::parse(env::args_os().skip(1)) {
@@ -49,7 +53,11 @@ fn main() -> ExitCode {
 fn end(result: Result<Done, Stop>) -> u8 {
     let stop = match result {
         Ok(done) => {
-            let status = if done.changed { CHANGED } else { CLEAN };
+            let status = match done.answer {
+                Answer::Clean => CLEAN,
+                Answer::Changed => CHANGED,
+                Answer::Undecided => UNDECIDED,
+            };
             return print(&done.lines, status);
         }
         Err(stop) => stop,

@@ -99,15 +99,42 @@ fn listing(days: &[u32], names: Option<&[String]>) -> String {
 
 /// The days as signs, '#' for one that is listed; of many days a sign stands for several.
 pub fn strip(d: u32, days: &[u32]) -> String {
+    let (group, signs) = signs(d, days, 0);
+    let title = match group {
+        1 => String::from("Days, '#' for one that is listed:"),
+        _ => format!("Days, {group} a sign, '#' where one of them is listed:"),
+    };
+    laid(&title, group, &signs)
+}
+
+/// The same for a search: '#' for a day that is found, '?' for one that is undecided.
+pub fn strip_of_search(d: u32, days: &[u32], undecided: u32) -> String {
+    let (group, signs) = signs(d, days, undecided);
+    let title = match group {
+        1 => String::from("Days, '#' for one that is found, '?' for one that is undecided:"),
+        _ => format!(
+            "Days, {group} a sign, '#' where one of them is found, '?' where one is undecided:"
+        ),
+    };
+    laid(&title, group, &signs)
+}
+
+/// How many days a sign stands for, and the signs; the last `undecided` days are so.
+fn signs(d: u32, days: &[u32], undecided: u32) -> (u32, Vec<char>) {
     let group = d.div_ceil(WIDTH * LINES).max(1).next_power_of_two();
     let mut signs = vec!['.'; d.div_ceil(group) as usize];
+    if undecided > 0 {
+        signs[((d - undecided) / group) as usize..].fill('?');
+    }
     for day in days {
         signs[((day - 1) / group) as usize] = '#';
     }
-    let mut text = match group {
-        1 => String::from("Days, '#' for one that is listed:\n"),
-        _ => format!("Days, {group} a sign, '#' where one of them is listed:\n"),
-    };
+    (group, signs)
+}
+
+/// The signs in lines, each with its first day.
+fn laid(title: &str, group: u32, signs: &[char]) -> String {
+    let mut text = format!("{title}\n");
     for (line, signs) in signs.chunks(WIDTH as usize).enumerate() {
         let first = line as u32 * WIDTH * group + 1;
         let signs: String = signs.iter().collect();
@@ -240,5 +267,23 @@ mod tests {
         assert_eq!(lines[1], format!("     1 .#{}", ".".repeat(62)));
         assert_eq!(lines[16], format!(" 61441 {}#", ".".repeat(63)));
         assert_eq!(strip(1025, &[]).lines().count(), 10);
+    }
+
+    #[test]
+    fn strips_of_searches() {
+        let title = "Days, '#' for one that is found, '?' for one that is undecided:\n";
+        for (undecided, signs) in [(0, "..#."), (1, "..#?"), (2, "..#?"), (4, "??#?")] {
+            let strip = strip_of_search(4, &[3], undecided);
+            assert_eq!(strip, format!("{title}     1 {signs}\n"));
+        }
+        let long = strip_of_search(65_536, &[65], 65_536 - 130);
+        let lines: Vec<&str> = long.lines().collect();
+        let title = "Days, 64 a sign, '#' where one of them is found, '?' where one is undecided:";
+        assert_eq!(lines[0], title);
+        assert_eq!(lines[1], format!("     1 .#{}", "?".repeat(62)));
+        assert_eq!(lines[16], format!(" 61441 {}", "?".repeat(64)));
+        // the last sign stands for one day alone
+        assert!(strip_of_search(1025, &[], 0).ends_with("  1025 .\n"));
+        assert!(strip_of_search(1025, &[], 1).ends_with("  1025 ?\n"));
     }
 }

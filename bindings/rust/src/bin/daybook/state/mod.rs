@@ -20,7 +20,7 @@ use std::path::Path;
 
 use daybook::Layout;
 
-use crate::commands::Done;
+use crate::commands::{Answer, Done};
 use crate::stop::Stop;
 use load::State;
 use lock::Access;
@@ -76,7 +76,7 @@ pub fn run(folder: &Path, service: &Service) -> Result<Done, Stop> {
     };
     Ok(Done {
         lines: lines?,
-        changed: false,
+        answer: Answer::Clean,
     })
 }
 

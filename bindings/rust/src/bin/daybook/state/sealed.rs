@@ -1,4 +1,4 @@
-//! What a state folder gives to `check`, `read` and `verify`.
+//! What a state folder gives to `check`, `read`, `search`, `verify` and `locate`.
 
 use std::path::{Path, PathBuf};
 

@@ -1,0 +1,100 @@
+//! SIGINT and SIGTERM while a search goes on: they wait, and the search asks for them between its steps.
+//! All unsafe code of the program is here.
+
+use std::ffi::c_void;
+use std::fs;
+use std::ptr;
+
+/// Signals as Linux on x86-64 has them: number n is bit n - 1.
+#[repr(C)]
+#[derive(Clone, Copy)]
+struct Set([u64; 16]);
+
+impl Set {
+    const fn of(first: u64) -> Set {
+        let mut bits = [0; 16];
+        bits[0] = first;
+        Set(bits)
+    }
+}
+
+const SIGINT: u32 = 2;
+const SIGTERM: u32 = 15;
+const STOPS: u64 = 1 << (SIGINT - 1) | 1 << (SIGTERM - 1);
+
+const SIG_BLOCK: i32 = 0;
+const SIG_SETMASK: i32 = 2;
+
+/// A span of time: seconds and nanoseconds.
+#[repr(C)]
+struct Span(i64, i64);
+
+mod c {
+    use super::{c_void, Set, Span};
+
+    extern "C" {
+        pub fn pthread_sigmask(how: i32, set: *const Set, before: *mut Set) -> i32;
+        pub fn sigtimedwait(set: *const Set, info: *mut c_void, span: *const Span) -> i32;
+    }
+}
+
+/// While this lives, the two signals wait; one that the program was started to ignore is still ignored. Then
+/// they are again what they were before.
+pub struct Held {
+    stops: Set,
+    before: Set,
+}
+
+impl Held {
+    pub fn new() -> Held {
+        let stops = Set::of(STOPS & !ignored());
+        let mut before = Set::of(0);
+        // SAFETY: both sets have the size of the system's, and the call keeps neither. Only another `how`
+        // would make it fail.
+        unsafe { c::pthread_sigmask(SIG_BLOCK, &stops, &mut before) };
+        Held { stops, before }
+    }
+
+    /// Whether one of the two has come. It is taken, and ends nothing any more.
+    pub fn arrived(&self) -> bool {
+        // SAFETY: set and span are valid and only read; nothing is to be told of the signal, so that is null.
+        unsafe { c::sigtimedwait(&self.stops, ptr::null_mut(), &Span(0, 0)) > 0 }
+    }
+}
+
+impl Drop for Held {
+    fn drop(&mut self) {
+        // SAFETY: the set is one that the system gave; the one before is not asked for.
+        unsafe { c::pthread_sigmask(SIG_SETMASK, &self.before, ptr::null_mut()) };
+    }
+}
+
+/// The signals that this process ignores.
+fn ignored() -> u64 {
+    told("SigIgn:")
+}
+
+/// A set of signals as the system tells it of this thread.
+fn told(name: &str) -> u64 {
+    let status = fs::read_to_string("/proc/thread-self/status").unwrap_or_default();
+    let mask = status.lines().find_map(|line| line.strip_prefix(name));
+    mask.and_then(|mask| u64::from_str_radix(mask.trim(), 16).ok())
+        .unwrap_or(0)
+}
+
+#[cfg(test)]
+mod tests {
+    use super::*;
+
+    #[test]
+    fn the_two_wait_while_it_lives() {
+        let blocked = || told("SigBlk:");
+        let before = blocked();
+        let held = Held::new();
+        assert_eq!(blocked(), before | STOPS);
+        assert!(!held.arrived());
+        drop(held);
+        assert_eq!(blocked(), before);
+        assert_eq!(before & STOPS, 0);
+    }
+}
