@@ -1,34 +1,76 @@
--- The maximal chains are chains of the book, cover each day once, and lie in no other chain of the tree.
-use mathlib.Core.Path.{_≡_, refl, ap, _∙_}
-use mathlib.Core.Logic.{inl, inr}
-use mathlib.Core.List.{List, [], _∷_, List·Memᴰ·cases-cons}
+-- The maximal chains are chains of the book, cover each day once, and lie in no other chain of the tree; each chain that is
+-- looked at is one of the tree and of the book.
+use mathlib.Core.Path.{_≡_, refl, ap, subst, _∙_}
+use mathlib.Core.Bool.{Bool, true, false, cond}
+use mathlib.Core.Logic.{_⊎_, inl, inr}
+use mathlib.Core.List.{List, [], _∷_, _++_, flatMap, List·Memᴰ·cases-cons, List·Memᴰ·append-cases, List·Memᴰ·eq-of-singleton, Memᴰ·append-left}
 use Prim.Native.Nat.{ℕ, zero, suc, _+_, _-_, _/_, _%_, _^_, _≤_, _<_}
-use native.Mathlib.Nat.{le-div-iff-mul-le, mul-le-mul-right}
+use native.Mathlib.Nat.{le-div-iff-mul-le, mul-le-mul-right, pow-succ'}
 use native.Mathlib.{Decide.decLt, Omega.arith}
-use lib.{Dec.eqb, Pow.pow-pos, Pow.pow-lt}
+use lib.{Dec.eqb, ListN.take, ListN.drop, ListN.take-append-drop, Pow.pow-pos, Pow.pow-lt}
 use borrow.Author.Tests.{eqb-true}
 use Rattle.lists.specs.Lists.{_among_}
 use Rattle.lists.proofs.Laws.{split}
 use Rattle.layouts.specs.Layouts.{lg, Name, black, tile, tree, coveredDays, namesThrough}
 use Rattle.layouts.proofs.Coverage.{divisor-le}
 use Rattle.acceptance.proofs.{Runs.div-whole, Runs.lastDays-mem, Runs.lastDays-bounds, Lookup.Block, Lookup.tree-named, Lookup.each-3}
-use Rattle.searching.specs.Searching.{maximalBelow, maximal}
-use Rattle.searching.specs.Private.{Laid}
-use Rattle.searching.specs.Statements.{MaximalTold}
-use Rattle.searching.proofs.Frontier.{divides-below, end-whole, before, before-one, maximal-laid, laid-days}
+use Rattle.searching.specs.Searching.{maximalBelow, maximal, dealtWith, fully, looks}
+use Rattle.searching.specs.Private.{Fits, Laid}
+use Rattle.searching.specs.Statements.{TreeInBook, MaximalTold}
+use Rattle.searching.proofs.WalkLaws.{looks-first}
+use Rattle.searching.proofs.Frontier.{divides-below, end-whole, fits-left, fits-right, before, before-one, maximal-laid, laid-days}
 use Rattle.searching.proofs.Bounds.{maximal-ones}
 
-laid-named : (n d g : ℕ) (due : List Name) → Laid d g due → (x : Name) → x among due → (l : ℕ) × (e : ℕ) × (x ≡ tree l e) × (x among namesThrough 3 n d)
-laid-named n d g [] e x m = elim m [ ]
-laid-named n d g (y ∷ due) e x m = elim (List·Memᴰ·cases-cons m) [
-  | inl q ↦
-      let l = e .0 in
-      let f = e .2 .fits in
+-- ---- in the book
+
+in-half : (b : Bool) (s t : List Name) {x : Name} → x among cond b [] (s ++ t) → (x among s) ⊎ (x among t)
+in-half true s t m = elim m [ ]
+in-half false s t m = List·Memᴰ·append-cases s m
+
+module _ (n d : ℕ) where
+  fits-named : (g l : ℕ) → Fits d g l → {x : Name} → x ≡ tree l (g + 2 ^ l) → TreeInBook n d x
+  fits-named g l f e =
       let w = pow-pos l in
-      let r : x ≡ tree l (g + 2 ^ l) = q ∙ e .1 in
-      (l, g + 2 ^ l, r, rw r (tree-named n d (g + 2 ^ l) l (omega arith) (f .room) (end-whole g l (f .whole))))
-  | inr k ↦ laid-named n d (g + 2 ^ e .0) due (e .3) x k
-]
+      (l, g + 2 ^ l, e, rw e (tree-named n d (g + 2 ^ l) l (omega arith) (f .room) (end-whole g l (f .whole))))
+
+  laid-named : (g : ℕ) (due : List Name) → Laid d g due → (x : Name) → x among due → TreeInBook n d x
+  laid-named g [] e x m = elim m [ ]
+  laid-named g (y ∷ due) e x m = elim (List·Memᴰ·cases-cons m) [
+    | inl q ↦ fits-named g (e .0) (e .2 .fits) (q ∙ e .1)
+    | inr k ↦ laid-named (g + 2 ^ e .0) due (e .3) x k
+  ]
+
+  -- and so is each chain that the walk has
+  module _ (p : ℕ → ℕ → Bool) where
+    dealt-named : (l g : ℕ) → Fits d g l → (x : Name) → x among dealtWith p l (g + 2 ^ l) → TreeInBook n d x
+    dealt-named zero g f x m = fits-named g 0 f (List·Memᴰ·eq-of-singleton m)
+    dealt-named (suc l) g f x m =
+        let w = pow-succ' 2 l in
+        let h : g + 2 ^ suc l - 2 ^ l ≡ g + 2 ^ l = omega arith in
+        let r : g + 2 ^ suc l ≡ g + 2 ^ l + 2 ^ l = omega arith in
+        elim (List·Memᴰ·cases-cons m) [
+          | inl q ↦ fits-named g (suc l) f q
+          | inr k ↦ elim (in-half (p (suc l) (g + 2 ^ suc l)) (dealtWith p l (g + 2 ^ suc l - 2 ^ l)) (dealtWith p l (g + 2 ^ suc l)) k) [
+            | inl j ↦ dealt-named l g (fits-left d g l f) x (subst (λ (y : ℕ). x among dealtWith p l y) h j)
+            | inr j ↦ dealt-named l (g + 2 ^ l) (fits-right d g l f) x (subst (λ (y : ℕ). x among dealtWith p l y) r j)
+          ]
+        ]
+
+    laid-walk : (g : ℕ) (due : List Name) → Laid d g due → (x : Name) → x among flatMap (fully p) due → TreeInBook n d x
+    unfolding flatMap
+    laid-walk g [] e x m = elim m [ ]
+    laid-walk g (y ∷ due) e x m =
+        let i : x among (dealtWith p (e .0) (g + 2 ^ e .0) ++ flatMap (fully p) due) = subst (λ (z : Name). x among (fully p z ++ flatMap (fully p) due)) (e .1) m in
+        elim (List·Memᴰ·append-cases (dealtWith p (e .0) (g + 2 ^ e .0)) i) [
+          | inl j ↦ dealt-named (e .0) g (e .2 .fits) x j
+          | inr j ↦ laid-walk (g + 2 ^ e .0) due (e .3) x j
+        ]
+
+    pub looked-named : (k : ℕ) → 1 ≤ d → (x : Name) → x among looks p k (maximal d) .looked → TreeInBook n d x
+    looked-named k s x m =
+        let W = flatMap (fully p) (maximal d) in
+        let i : x among take k W = subst (λ (r : List Name). x among r) (looks-first p k (maximal d)) m in
+        laid-walk 0 (maximal d) (maximal-laid d s) x (subst (λ (r : List Name). x among r) (take-append-drop k W) (Memᴰ·append-left (drop k W) i))
 
 -- ---- a maximal chain by its bit
 

@@ -28,6 +28,7 @@ use Rattle.searching.proofs.Frontier.{due-days, maximal-laid, laid-days
 use Rattle.searching.proofs.Tables.{changedIn, changed-more}
 use Rattle.searching.proofs.Reached.{Reached, reached}
 use Rattle.searching.proofs.Bounds.{walk-few, walk-size}
+use Rattle.searching.proofs.Maximal.{looked-named}
 use Rattle.searching.proofs.Calls.{firstTests, search-tree, search-given}
 
 -- ---- tests
@@ -144,6 +145,7 @@ module _ (n d : ℕ) (t : List ℕ) (limit : ℕ) (before : List ℕ) (G : Given
   state-of =
       record {
         first-of-walk = looks-first (passesIn n d t) limit (maximal d);
+        in-book = looked-named n d (passesIn n d t) limit (G .table .some);
         looked-counted = refl;
         looked-least = ap length (looks-first (passesIn n d t) limit (maximal d)) ∙ length-take limit (walk (passesIn n d t) d);
         found-counted = ap length front;

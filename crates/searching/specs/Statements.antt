@@ -16,12 +16,16 @@ use Rattle.searching.specs.declared.Searched.the-variants.{State}
 use Rattle.searching.specs.Searching.{maximal, passesIn, walk, searchOf, foundIn, daysUnder}
 use Rattle.searching.specs.Searching.{searchRefusal, searched}
 
+-- a chain of the tree, with a value in the book of d days
+abbrev pub TreeInBook : ℕ → ℕ → Name → Type 0
+TreeInBook n d x = (l : ℕ) × (g : ℕ) × (x ≡ tree l g) × (x among namesThrough 3 n d)
+
 -- ---- the maximal chains (SPEC 20.2)
 
 -- they are chains of the book, cover each day from 1 to d once, from left to right, and lie in no other chain of the
 -- tree; there are as many as d has bits that are 1
 pub record MaximalOf (n d : ℕ) : Type 0 where
-  pub in-book : (x : Name) → x among maximal d → (l : ℕ) × (g : ℕ) × (x ≡ tree l g) × (x among namesThrough 3 n d)
+  pub in-book : (x : Name) → x among maximal d → TreeInBook n d x
   pub days-once : daysUnder n (maximal d) ≡ days d
   pub in-no-other : (l g m h : ℕ) → tree l g among maximal d → tree m h among namesThrough 3 n d →
       ((x : ℕ) → x among coveredDays n (tree l g) → x among coveredDays n (tree m h)) → tree m h ≡ tree l g
@@ -49,8 +53,9 @@ RefusesAsReading =
 
 -- of a table, with a limit: the list before and after, and the three numbers
 pub record StateOf (n d : ℕ) (table : List ℕ) (limit : ℕ) (before after : List ℕ) (p : Progress) : Type 0 where
-  -- the chains looked at are the first of the walk, no more and no fewer than limit, or all
+  -- the chains looked at are the first of the walk, no more and no fewer than limit, or all; none is black
   pub first-of-walk : searchOf n d table limit .looked ≡ take limit (walk (passesIn n d table) d)
+  pub in-book : (x : Name) → x among searchOf n d table limit .looked → TreeInBook n d x
   pub looked-counted : p .looked ≡ length (searchOf n d table limit .looked)
   pub looked-least : p .looked ≡ min limit (length (walk (passesIn n d table) d))
   -- the single days among them that fail stand in the list, ascending; the rest of the list stays
