@@ -1,11 +1,11 @@
 -- Demand 3 for a book written by seal: the calls that it stands for seal the ledger's days, and write its book.
 use mathlib.Core.Path.{_≡_, refl, sym, ap, _∙_}
-use mathlib.Core.List.{List, [], _∷_, _++_, map, flatMap, map-append, append-assoc, append-nil}
+use mathlib.Core.List.{List, [], _∷_, _++_, map, flatMap, map-append, append-nil}
 use Prim.Native.Nat.{ℕ, zero, suc, _+_, _*_, _≤_, _<_}
 use native.Mathlib.Omega.{arith}
 use lib.ListN.{length, drop, length-append, length-drop}
 use borrow.Author.Tests.{le-leb, lt-ltb}
-use Rattle.lists.proofs.Laws.{upFrom-snoc}
+use Rattle.lists.proofs.Laws.{upFrom-snoc, flatMap-append}
 use Rattle.refusals.specs.Refusals.{bookLimit, dayLimit, numberOf, answerOf}
 use Rattle.refusals.specs.declared.Answer.the-variants.{Done}
 use Rattle.refusals.proofs.TestLaws.{all-pass}
@@ -22,11 +22,6 @@ use Rattle.sealing.specs.Contract.{sealRefusal, sealedBook}
 use Rattle.sealing.proofs.SealLaws.{Sealable, sealable}
 use Rattle.daybook.specs.Claim.{sealed, wrote, dayCalls, sealCalls, SealClaim}
 use Rattle.daybook.proofs.Claim.{demand-3}
-
-flat-append : {A B : Type 0} (f : A → List B) (xs ys : List A) → flatMap f (xs ++ ys) ≡ flatMap f xs ++ flatMap f ys
-unfolding flatMap
-flat-append f [] ys = refl
-flat-append f (x ∷ xs) ys = rw (flat-append f xs ys, append-assoc)
 
 journal-append : (s n : ℕ) (xs ys : List Argument) (j : Journal) → journalAfter s n j (xs ++ ys) ≡ journalAfter s n (journalAfter s n j xs) ys
 journal-append s n [] ys j = refl
@@ -92,7 +87,7 @@ module _ (s n f d : ℕ) (ledger ends book : List ℕ) (ok : Sealable s n f d le
   calls-more i =
       let e : 1 + i ≡ suc i = omega arith in
       ap (λ l. map argumentOf (flatMap (dayCalls s n D book) l)) (upFrom-snoc 1 i ∙ ap (λ x. days i ++ (x ∷ [])) e) ∙
-      ap (map argumentOf) (flat-append (dayCalls s n D book) (days i) (suc i ∷ []) ∙ ap (λ l. flatMap (dayCalls s n D book) (days i) ++ l) (append-nil (dayCalls s n D book (suc i)))) ∙
+      ap (map argumentOf) (flatMap-append (dayCalls s n D book) (days i) (suc i ∷ []) ∙ ap (λ l. flatMap (dayCalls s n D book) (days i) ++ l) (append-nil (dayCalls s n D book (suc i)))) ∙
       map-append argumentOf (flatMap (dayCalls s n D book) (days i)) (dayCalls s n D book (suc i))
 
   sealed-to : (i : ℕ) → i ≤ d → journalAfter s n empty (argumentsTo i) ≡ sealedTo i

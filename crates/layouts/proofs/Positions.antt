@@ -2,7 +2,7 @@
 use mathlib.Core.{Path._≡_, Path.refl, Path.sym, Path.ap, Path._∙_, Logic.inl, Logic.inr, Bool.Bool}
 use mathlib.Core.{Bool.true, Bool.false, Bool.cond, List.List, List.[], List._∷_, List._++_, List.map}
 use Prim.Native.Nat.{ℕ, zero, suc, _+_, _-_, _*_, _/_, _%_, _^_, _≤_, _<_}
-use native.Mathlib.{Nat.pow-succ', Nat.div-add-mod', Nat.zero-add, Omega.arith}
+use native.Mathlib.{Nat.pow-succ', Nat.div-add-mod', Nat.zero-add, Decide.decLe, Omega.arith}
 use lib.{Arith.digits-mod, Pow.pow-pos, Seq.getD-append-add}
 use lib.ListN.{length, getD, length-append, length-map, List·getD-append, List·getD-map}
 use borrow.Author.Tests.{eqb-true, eq-eqb}
@@ -34,6 +34,14 @@ divides-half l g e =
     let m : g / 2 ^ suc l * 2 ^ suc l ≡ g / 2 ^ suc l * 2 * 2 ^ l = rw (pow-succ' 2 l) (omega arith) in
     let w : g ≡ g / 2 ^ suc l * 2 * 2 ^ l + 0 = omega arith in
     eq-eqb (g % 2 ^ l) 0 (ap (λ x. x % 2 ^ l) w ∙ digits-mod (g / 2 ^ suc l * 2) (pow-pos l))
+
+-- and so with any lower power
+pub divides-below : (l m g : ℕ) → l ≤ m → divides (2 ^ m) g ≡ true → divides (2 ^ l) g ≡ true
+divides-below l zero g h e = let z : l ≡ 0 = omega arith in rw z e
+divides-below l (suc m) g h e = elim (decLe l m) [
+  | yes k ↦ divides-below l m g k (divides-half m g e)
+  | no k ↦ let z : l ≡ suc m = omega arith in rw z e
+]
 
 -- the levels at a day are 0, 1 and so on
 pub levels-run : (g : ℕ) → levels g ≡ upFrom 0 (length (levels g))

@@ -1,11 +1,11 @@
 -- Laws of lists of numbers: membership, tests, runs, the numbers that pass a test.
 use mathlib.Core.{Path._≡_, Path.refl, Path.sym, Path.ap, Path._∙_, Logic._⊎_, Logic.inl, Logic.inr}
 use mathlib.Core.Bool.{Bool, true, false, _&&_, _||_, and-assoc}
-use mathlib.Core.List.{List, [], _∷_, _++_, map, append-assoc, append-nil, List·Memᴰ·head, List·Memᴰ·tail, List·Memᴰ·cases-cons}
+use mathlib.Core.List.{List, [], _∷_, _++_, map, flatMap, append-assoc, append-nil, List·Memᴰ·head, List·Memᴰ·tail, List·Memᴰ·cases-cons}
 use Prim.Native.Nat.{ℕ, zero, suc, _+_, _≤_, _<_}
-use native.Mathlib.{Nat.add-zero, Nat.eq-or-lt-of-le, Omega.arith}
+use native.Mathlib.{Nat.add-zero, Nat.eq-or-lt-of-le, Decide.decLt, Omega.arith}
 use lib.{Dec.eqb, Dec.leb, ListN.length, ListN.take, Seq.length-take-le, Seq.take-all}
-use borrow.Author.Tests.{eqb-true, eq-eqb, leb-true, leb-false, le-leb}
+use borrow.Author.Tests.{eqb-true, eq-eqb, ne-eqb, leb-true, leb-false, le-leb}
 use Rattle.lists.specs.Lists.{_among_, has, same, every, upFrom, keep, Ascends, joined}
 
 -- ---- Booleans
@@ -109,6 +109,32 @@ keep-ascends p i zero = tt
 keep-ascends p i (suc n) = let a = keep-ascends p (suc i) n in
     elim (split (p i)) [ inl e ↦ rw e (omega arith, a) | inr e ↦ rw e (ascends-later (keep p (upFrom (suc i) n)) i (suc i) (omega arith) a) ]
 
+-- an ascending list is told by its members
+abbrev pub isIn : List ℕ → ℕ → Bool
+isIn S x = has x S
+
+ascends-apart : (i : ℕ) (S : List ℕ) → Ascends (suc i) S → has i S ≡ false
+ascends-apart i [] a = refl
+ascends-apart i (y ∷ ys) a = rw (ne-eqb i y (λ e. absurd (omega (arith, a .0))), ascends-apart i ys (ascends-later ys (suc i) (suc y) (omega (arith, a .0)) (a .1)))
+
+pub ascends-keep : (k i : ℕ) (S : List ℕ) → Ascends i S → ((x : ℕ) → x among S → x < i + k) → keep (isIn S) (upFrom i k) ≡ S
+ascends-keep zero i [] a b = refl
+ascends-keep zero i (y ∷ ys) a b = absurd (omega (arith, a .0, b y (List·Memᴰ·head refl)))
+ascends-keep (suc k) i [] a b = ascends-keep k (suc i) [] tt (λ x m. elim m [ ])
+ascends-keep (suc k) i (y ∷ ys) a b = elim (decLt i y) [
+  | yes h ↦ rw (ascends-apart i (y ∷ ys) (h, a .1)) (ascends-keep k (suc i) (y ∷ ys) (h, a .1) (λ x m. omega (arith, b x m)))
+  | no h ↦ let e : i ≡ y = omega (arith, a .0) in
+      rw (eq-eqb i y e) (ap (λ r. i ∷ r) (keep-congr (isIn (y ∷ ys)) (isIn ys) (upFrom (suc i) k) (λ x m. later x (upFrom-bounds (suc i) k x m .0) e) ∙
+      ascends-keep k (suc i) ys (rw e (a .1)) (λ x m. omega (arith, b x (List·Memᴰ·tail m)))) ∙ ap (λ x. x ∷ ys) e)
+]
+  where
+    later : (x : ℕ) → suc i ≤ x → i ≡ y → eqb x y || has x ys ≡ has x ys
+    later x l e = rw (ne-eqb x y (λ q. absurd (omega arith)))
+
+pub some-there : {x : ℕ} {xs : List ℕ} → x among xs → 1 ≤ length xs
+some-there (List·Memᴰ·head {x = y} {xs = ys} e) = omega arith
+some-there (List·Memᴰ·tail {x = y} {xs = ys} m) = omega arith
+
 -- a list with no member is empty
 pub no-mem : {A : Type 0} (xs : List A) → ((x : A) → x among xs → ⊥) → xs ≡ []
 no-mem [] f = refl
@@ -192,6 +218,15 @@ joined-one x xs = refl
 pub joined-single : (x : List ℕ) → joined (x ∷ []) ≡ x
 unfolding joined
 joined-single x = append-nil x
+
+pub flatMap-append : {A B : Type 0} (f : A → List B) (xs ys : List A) → flatMap f (xs ++ ys) ≡ flatMap f xs ++ flatMap f ys
+unfolding flatMap
+flatMap-append f [] ys = refl
+flatMap-append f (x ∷ xs) ys = ap (λ r. f x ++ r) (flatMap-append f xs ys) ∙ sym (append-assoc (f x) (flatMap f xs) (flatMap f ys))
+
+pub flatMap-one : {A B : Type 0} (f : A → List B) (x : A) → flatMap f (x ∷ []) ≡ f x
+unfolding flatMap
+flatMap-one f x = append-nil (f x)
 
 -- ---- as many as are needed
 

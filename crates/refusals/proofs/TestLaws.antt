@@ -87,6 +87,12 @@ module _ (tests : List Test) (b : Bool) (number : ℕ) {x : ℕ} (k : numbered t
   pub last-passes : b ≡ true → 0 ≡ firstRefusal (tests ++ (b orRefuse number ∷ []))
   last-passes t = rw (refused-after tests (b orRefuse number ∷ []) k (sym e ∙ z), t)
 
+-- a last test that passes says nothing
+pub last-nothing : (x : ℕ) (a : List Test) → firstRefusal (a ++ (true orRefuse x ∷ [])) ≡ firstRefusal a
+last-nothing x [] = refl
+last-nothing x (true orRefuse y ∷ a) = last-nothing x a
+last-nothing x (false orRefuse y ∷ a) = refl
+
 -- tests whose parts find the same find the same
 pub same-refusal : (a b c e : List Test) → numbered a ≡ true → numbered b ≡ true → firstRefusal a ≡ firstRefusal b → firstRefusal c ≡ firstRefusal e → firstRefusal (a ++ c) ≡ firstRefusal (b ++ e)
 same-refusal a b c e k l p q = elim (ℕ-discrete (firstRefusal a) 0) [

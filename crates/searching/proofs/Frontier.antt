@@ -5,14 +5,14 @@ use mathlib.Core.Logic.{inl, inr}
 use mathlib.Core.List.{List, [], _∷_, _++_, flatMap}
 use Prim.Native.Nat.{ℕ, zero, suc, _+_, _-_, _*_, _/_, _%_, _^_, _≤_, _<_}
 use native.Mathlib.Nat.{mod-lt, mod-one, div-add-mod', div-mul-le-self, div-eq-of-lt, suc-mul, pow-succ'}
-use native.Mathlib.{Decide.decLt, Decide.decLe, Omega.arith}
+use native.Mathlib.{Decide.decLt, Omega.arith}
 use lib.{Dec.eqb, Arith.digits-div, Arith.digits-mod, Pow.pow-pos, Pow.pow-mono, Count.trailingZeros}
 use borrow.Author.Tests.{eqb-true, eqb-false, eq-eqb}
 use Rattle.lists.specs.Lists.{upFrom}
 use Rattle.lists.proofs.Laws.{split, true-or-false, upFrom-append}
 use Rattle.layouts.specs.Layouts.{divides, lg, Name, tree}
 use Rattle.layouts.proofs.Counts.{parity, double-divides, odd-divides, lg-bounds}
-use Rattle.layouts.proofs.Positions.{divides-half}
+use Rattle.layouts.proofs.Positions.{divides-half, divides-below}
 use Rattle.acceptance.proofs.Runs.{div-whole, divides-multiple}
 use Rattle.searching.specs.Searching.{maximalBelow, maximal, daysUnder}
 use Rattle.searching.specs.Private.{Fits, Largest, Laid, Due}
@@ -26,13 +26,6 @@ end-whole g l h =
     let s = suc-mul (g / 2 ^ l) (2 ^ l) in
     let e : g + 2 ^ l ≡ suc (g / 2 ^ l) * 2 ^ l = omega arith in
     rw e (divides-multiple (suc (g / 2 ^ l)) (2 ^ l) (pow-pos l))
-
-pub divides-below : (l m g : ℕ) → l ≤ m → divides (2 ^ m) g ≡ true → divides (2 ^ l) g ≡ true
-divides-below l zero g h e = let z : l ≡ 0 = omega arith in rw z e
-divides-below l (suc m) g h e = elim (decLe l m) [
-  | yes k ↦ divides-below l m g k (divides-half m g e)
-  | no k ↦ let z : l ≡ suc m = omega arith in rw z e
-]
 
 fits-below : {d g : ℕ} (l m : ℕ) → l ≤ m → Fits d g m → Fits d g l
 fits-below {d} {g} l m h f =

@@ -12,13 +12,13 @@ use borrow.Author.Tests.{eqb-true}
 use Rattle.lists.specs.Lists.{_among_}
 use Rattle.lists.proofs.Laws.{split}
 use Rattle.layouts.specs.Layouts.{lg, Name, black, tile, tree, coveredDays, namesThrough}
-use Rattle.layouts.proofs.Coverage.{divisor-le}
+use Rattle.layouts.proofs.{Coverage.divisor-le, Positions.divides-below}
 use Rattle.acceptance.proofs.{Runs.div-whole, Runs.lastDays-mem, Runs.lastDays-bounds, Lookup.Block, Lookup.tree-named, Lookup.each-3}
 use Rattle.searching.specs.Searching.{maximalBelow, maximal, dealtWith, fully, looks}
 use Rattle.searching.specs.Private.{Fits, Laid}
 use Rattle.searching.specs.Statements.{TreeInBook, MaximalTold}
 use Rattle.searching.proofs.WalkLaws.{looks-first}
-use Rattle.searching.proofs.Frontier.{divides-below, end-whole, fits-left, fits-right, before, before-one, maximal-laid, laid-days}
+use Rattle.searching.proofs.Frontier.{end-whole, fits-left, fits-right, before, before-one, maximal-laid, laid-days}
 use Rattle.searching.proofs.Bounds.{maximal-ones}
 
 -- ---- in the book

@@ -6,12 +6,12 @@ use mathlib.Core.List.{List, [], _∷_, _++_, flatMap}
 use Prim.Native.Nat.{ℕ, zero, suc, _+_, _-_, _^_, _≤_, _<_}
 use native.Mathlib.{Decide.decLt, Omega.arith}
 use lib.ListN.{length, length-append}
-use Rattle.lists.proofs.Laws.{split}
+use Rattle.lists.proofs.Laws.{split, flatMap-append, flatMap-one}
 use Rattle.layouts.specs.Layouts.{tree}
 use Rattle.reading.specs.Private.{Given}
 use Rattle.searching.specs.Searching.{passesIn, halves, foundAt, maximal, Looks, looks, searchOf, foundIn, foundDays}
 use Rattle.searching.specs.Private.{Fits, Largest, Due, changedTo, Stepped}
-use Rattle.searching.proofs.WalkLaws.{flatMap-append, flatMap-one, looks-more, looks-stop}
+use Rattle.searching.proofs.WalkLaws.{looks-more, looks-stop}
 use Rattle.searching.proofs.Frontier.{level-there, laid-due, maximal-laid}
 use Rattle.searching.proofs.Tables.{step-passed, step-found, step-halves}
 

@@ -1,21 +1,21 @@
 -- What specs/Statements says of a search.
 use mathlib.Core.Path.{_≡_, refl, sym, ap, subst, _∙_}
-use mathlib.Core.Bool.{Bool, true, false, not, _||_}
-use mathlib.Core.List.{List, [], _∷_, _++_, flatMap, List·Memᴰ·head, List·Memᴰ·tail}
-use Prim.Native.Nat.{ℕ, zero, suc, _+_, _-_, _*_, _≤_, _<_}
-use native.Mathlib.{Decide.decLt, Decide.ℕ-discrete, Omega.arith}
+use mathlib.Core.Bool.{true, not}
+use mathlib.Core.List.{List, [], _∷_, _++_, flatMap}
+use Prim.Native.Nat.{ℕ, suc, _+_, _-_, _*_, _≤_}
+use native.Mathlib.{Decide.ℕ-discrete, Omega.arith}
 use lib.{Dec.eqb, ListN.length, ListN.take, ListN.drop, ListN.length-append, ListN.length-take}
 use lib.{Seq.take-append-seam, Seq.drop-at, Count.ones}
 use borrow.Author.Tests.{eq-eqb, ne-eqb}
-use Rattle.lists.specs.Lists.{_among_, has, upFrom, keep, Ascends}
-use Rattle.lists.proofs.Laws.{mem-has, upFrom-bounds, keep-congr, has-keep, keep-ascends, ascends-later, length-upFrom}
+use Rattle.lists.specs.Lists.{upFrom, keep, Ascends}
+use Rattle.lists.proofs.Laws.{mem-has, keep-congr, has-keep, keep-ascends, isIn, ascends-keep, length-upFrom}
 use Rattle.evidence.specs.Evidence.{days, tableOf, cleared, Gives, listing}
 use Rattle.evidence.proofs.TableLaws.{lists-exactly}
 use Rattle.refusals.specs.Refusals.{Test, _orRefuse_, firstRefusal}
-use Rattle.refusals.proofs.TestLaws.{refused-before, refused-after, never-said, last-fails, same-refusal}
+use Rattle.refusals.proofs.TestLaws.{refused-before, refused-after, never-said, last-fails, last-nothing, same-refusal}
 use Rattle.layouts.specs.Layouts.{lg, lastDays, chains, layoutTests}
 use Rattle.layouts.proofs.Coverage.{tree-single}
-use Rattle.acceptance.proofs.{Runs.keep-none, Runs.keep-length}
+use Rattle.acceptance.proofs.{Runs.keep-length}
 use Rattle.reading.specs.Contract.{tableIn, allowedPassed, tableTests, readRefusal, listedIn, Readout, readout}
 use Rattle.reading.specs.Private.{Given}
 use Rattle.reading.proofs.Report.{readout-found}
@@ -49,41 +49,14 @@ says-not-tree s n f d o places = (
     zero-twenty : (x : ℕ) → x ≡ 0 → x ≡ 20 → ⊥
     zero-twenty x p q = omega arith
 
-last-true : (x : ℕ) (a : List Test) → firstRefusal (a ++ (true orRefuse x ∷ [])) ≡ firstRefusal a
-last-true x [] = refl
-last-true x (true orRefuse y ∷ a) = last-true x a
-last-true x (false orRefuse y ∷ a) = refl
-
 pub refuses-as-reading : RefusesAsReading
 unfolding searchRefusal readRefusal
 refuses-as-reading n f d p o places h =
     let L = layoutTests 3 n f d in
     let T = tableTests 3 n d o places in
-    last-true 20 (L ++ T) ∙ sym (ap (λ b. firstRefusal ((L ++ (b orRefuse 19 ∷ [])) ++ T)) h ∙ same-refusal (L ++ (true orRefuse 19 ∷ [])) L T T refl refl (last-true 19 L) refl)
+    last-nothing 20 (L ++ T) ∙ sym (ap (λ b. firstRefusal ((L ++ (b orRefuse 19 ∷ [])) ++ T)) h ∙ same-refusal (L ++ (true orRefuse 19 ∷ [])) L T T refl refl (last-nothing 19 L) refl)
 
--- ---- a set of days, ascending, is told by its members
-
-isIn : List ℕ → ℕ → Bool
-isIn S x = has x S
-
-ascends-apart : (i : ℕ) (S : List ℕ) → Ascends (suc i) S → has i S ≡ false
-ascends-apart i [] a = refl
-ascends-apart i (y ∷ ys) a = rw (ne-eqb i y (λ e. absurd (omega (arith, a .0))), ascends-apart i ys (ascends-later ys (suc i) (suc y) (omega (arith, a .0)) (a .1)))
-
-ascends-keep : (k i : ℕ) (S : List ℕ) → Ascends i S → ((x : ℕ) → x among S → x < i + k) → keep (isIn S) (upFrom i k) ≡ S
-unfolding isIn
-ascends-keep zero i [] a b = refl
-ascends-keep zero i (y ∷ ys) a b = absurd (omega (arith, a .0, b y (List·Memᴰ·head refl)))
-ascends-keep (suc k) i [] a b = keep-none (isIn []) (upFrom i (suc k)) (λ g m. refl)
-ascends-keep (suc k) i (y ∷ ys) a b = elim (decLt i y) [
-  | yes h ↦ rw (ascends-apart i (y ∷ ys) (h, a .1)) (ascends-keep k (suc i) (y ∷ ys) (h, a .1) (λ x m. omega (arith, b x m)))
-  | no h ↦ let e : i ≡ y = omega (arith, a .0) in
-      rw (eq-eqb i y e) (ap (λ r. i ∷ r) (keep-congr (isIn (y ∷ ys)) (isIn ys) (upFrom (suc i) k) (λ x m. later x (upFrom-bounds (suc i) k x m .0) e) ∙
-      ascends-keep k (suc i) ys (rw e (a .1)) (λ x m. omega (arith, b x (List·Memᴰ·tail m)))) ∙ ap (λ x. x ∷ ys) e)
-]
-  where
-    later : (x : ℕ) → suc i ≤ x → i ≡ y → eqb x y || has x ys ≡ has x ys
-    later x l e = rw (ne-eqb x y (λ q. absurd (omega arith)))
+-- ---- the changed days
 
 -- the one set that gives a table of the tree
 only-set : (n d : ℕ) (S t : List ℕ) → Ascends 1 S → Gives (chains 3 n d) d S t → listing (chains 3 n d) d t ≡ S

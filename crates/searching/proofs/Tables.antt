@@ -8,7 +8,7 @@ use native.Mathlib.Omega.{arith}
 use lib.{Dec.eqb, ListN.length, Pow.pow-pos}
 use borrow.Author.Tests.{eqb-true, eq-eqb, not-true, not-false}
 use Rattle.lists.specs.Lists.{_among_, has, upFrom, keep}
-use Rattle.lists.proofs.Laws.{split, true-or-false, and-both, has-mem, mem-has, mem-keep, keep-append, upFrom-append}
+use Rattle.lists.proofs.Laws.{split, true-or-false, and-both, has-mem, mem-has, mem-keep, some-there, keep-append, upFrom-append}
 use Rattle.evidence.specs.Evidence.{days, meets, setOutcome, tableOf, Gives, listing}
 use Rattle.evidence.proofs.TableLaws.{meets-of, meets-day, accepted-gives}
 use Rattle.layouts.specs.Layouts.{Name, black, tile, tree, lastDays, coveredDays, namesThrough, chains}
@@ -61,10 +61,6 @@ changed-split n d t g a b =
 
 pub changed-more : (n d : ℕ) (t : List ℕ) (g k : ℕ) → changedTo n d t g ++ changedIn n d t g k ≡ changedTo n d t (g + k)
 changed-more n d t g k = let z : 0 + g ≡ g = omega arith in sym (rw z at (changed-split n d t 0 g k))
-
-some-there : {x : ℕ} {xs : List ℕ} → x among xs → 1 ≤ length xs
-some-there (List·Memᴰ·head {x = y} {xs = ys} e) = omega arith
-some-there (List·Memᴰ·tail {x = y} {xs = ys} m) = omega arith
 
 -- ---- in a table that is given
 
