@@ -9,7 +9,7 @@ use std::io::Write;
 use std::process::Stdio;
 
 use common::{day, Folder};
-use program::{command, done, ended, fault, run, said, Ran};
+use program::{closed_or_full, command, done, ended, fault, run, said, Ran};
 
 /// The thousand days of the reference under scheme 3, N 8.
 const THOUSAND: &str = "\
@@ -335,14 +335,6 @@ fn standard_output_closed_or_full() {
     let forecast = "forecast --scheme 1 --n 1 --f 1 --lengths lengths";
     let refused = format!("{forecast} --d 3");
     for (line, status) in [(forecast, 0), (refused.as_str(), 2)] {
-        let (reader, writer) = std::io::pipe().unwrap();
-        drop(reader);
-        let output = command(&folder, line).stdout(writer).output().unwrap();
-        let (found, _, messages) = ended(output);
-        assert_eq!(found, status, "{messages}");
-        assert!(messages.contains("standard output was closed early"));
-        let full = File::options().write(true).open("/dev/full").unwrap();
-        let output = command(&folder, line).stdout(full).output().unwrap();
-        assert_eq!(output.status.code(), Some(3));
+        closed_or_full(&folder, line, status);
     }
 }

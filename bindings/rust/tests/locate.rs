@@ -4,11 +4,11 @@ mod common;
 #[path = "common/program.rs"]
 mod program;
 
-use std::fs::{self, File};
+use std::fs;
 
 use common::{chains, Folder};
 use daybook::Layout;
-use program::{command, done, ended, fault, run, said};
+use program::{closed_or_full, done, fault, run, said};
 
 /// A book of 35 values.
 const TREE: &str = "locate --scheme 3 --n 2 --f 1 --d 16";
@@ -352,14 +352,6 @@ fn standard_output_closed_or_full() {
     let found = format!("{TREE} --position 23");
     let beyond = format!("{TREE} --position 35");
     for (line, status) in [(found, 0), (beyond, 2)] {
-        let (reader, writer) = std::io::pipe().unwrap();
-        drop(reader);
-        let output = command(&folder, &line).stdout(writer).output().unwrap();
-        let (ended, _, messages) = ended(output);
-        assert_eq!(ended, status, "{messages}");
-        assert!(messages.contains("standard output was closed early"));
-        let full = File::options().write(true).open("/dev/full").unwrap();
-        let output = command(&folder, &line).stdout(full).output().unwrap();
-        assert_eq!(output.status.code(), Some(3));
+        closed_or_full(&folder, &line, status);
     }
 }

@@ -11,7 +11,7 @@ use std::process::{Child, Command, Stdio};
 
 use common::{searched, table, tree_table, Folder};
 use daybook::Layout;
-use program::{command, done, ended, fault, run, said, Ran};
+use program::{closed_or_full, done, ended, fault, run, said, Ran};
 
 /// Four days, of which day 3 was altered.
 const FOUR: &str = "search --scheme 3 --n 1 --f 1 --d 4 --outcomes table";
@@ -255,15 +255,7 @@ fn standard_output_closed_or_full() {
     let folder = with_table("search-output", Layout::tree(1), 4, &[3]);
     for (words, status) in [("", 1), ("--limit 4", 1), ("--limit 3", 4)] {
         let line = format!("{FOUR} {words}");
-        let (reader, writer) = std::io::pipe().unwrap();
-        drop(reader);
-        let output = command(&folder, &line).stdout(writer).output().unwrap();
-        let (ended, _, messages) = ended(output);
-        assert_eq!(ended, status, "{messages}");
-        assert!(messages.contains("standard output was closed early"));
-        let full = File::options().write(true).open("/dev/full").unwrap();
-        let output = command(&folder, &line).stdout(full).output().unwrap();
-        assert_eq!(output.status.code(), Some(3));
+        closed_or_full(&folder, &line, status);
     }
 }
 

@@ -1,5 +1,9 @@
 //! The program as its tests run it: a line of words in a folder, and what it says.
 
+#![allow(dead_code)] // each test program uses some of it
+
+use std::fs::File;
+use std::io;
 use std::process::{Command, Output, Stdio};
 
 use crate::common::Folder;
@@ -44,4 +48,16 @@ pub fn fault(folder: &Folder, line: &str, text: &str) {
     assert_eq!((status, out.as_str()), (3, ""), "{line}: {messages}");
     assert!(messages.starts_with("daybook: "), "{line}: {messages}");
     assert!(messages.contains(text), "{line}: {messages}");
+}
+
+/// The line keeps this status with its standard output closed, and says so; onto a full disk it is a fault.
+pub fn closed_or_full(folder: &Folder, line: &str, status: i32) {
+    let (reader, writer) = io::pipe().unwrap();
+    drop(reader);
+    let (found, _, messages) = ended(command(folder, line).stdout(writer).output().unwrap());
+    assert_eq!(found, status, "{line}: {messages}");
+    assert!(messages.contains("standard output was closed early"));
+    let full = File::options().write(true).open("/dev/full").unwrap();
+    let output = command(folder, line).stdout(full).output().unwrap();
+    assert_eq!(output.status.code(), Some(3), "{line}");
 }
