@@ -1,21 +1,21 @@
 -- What specs/Statements says of a search.
 use mathlib.Core.Path.{_≡_, refl, sym, ap, subst, _∙_}
 use mathlib.Core.Bool.{true, not}
-use mathlib.Core.List.{List, [], _∷_, _++_, flatMap}
+use mathlib.Core.List.{List, [], _∷_, _++_, flatMap, append-nil}
 use Prim.Native.Nat.{ℕ, suc, _+_, _-_, _*_, _≤_}
 use native.Mathlib.{Decide.ℕ-discrete, Omega.arith}
-use lib.{Dec.eqb, ListN.length, ListN.take, ListN.drop, ListN.length-append, ListN.length-take}
+use lib.{Dec.eqb, Dec.leb, ListN.length, ListN.take, ListN.drop, ListN.length-append, ListN.length-take}
 use lib.{Seq.take-append-seam, Seq.drop-at, Count.ones}
-use borrow.Author.Tests.{eq-eqb, ne-eqb}
+use borrow.Author.Tests.{eq-eqb, ne-eqb, le-leb, lt-leb}
 use Rattle.lists.specs.Lists.{upFrom, keep, Ascends}
-use Rattle.lists.proofs.Laws.{mem-has, keep-congr, has-keep, keep-ascends, isIn, ascends-keep, length-upFrom}
+use Rattle.lists.proofs.Laws.{mem-has, upFrom-bounds, keep-mem, keep-congr, keep-append, has-keep, keep-ascends, isIn, ascends-keep, length-upFrom}
 use Rattle.evidence.specs.Evidence.{days, tableOf, cleared, Gives, listing}
 use Rattle.evidence.proofs.TableLaws.{lists-exactly}
 use Rattle.refusals.specs.Refusals.{Test, _orRefuse_, firstRefusal}
 use Rattle.refusals.proofs.TestLaws.{refused-before, refused-after, never-said, last-fails, last-nothing, same-refusal}
 use Rattle.layouts.specs.Layouts.{lg, lastDays, chains, layoutTests}
 use Rattle.layouts.proofs.Coverage.{tree-single}
-use Rattle.acceptance.proofs.{Runs.keep-length}
+use Rattle.acceptance.proofs.Runs.{keep-all, keep-none, keep-length}
 use Rattle.reading.specs.Contract.{tableIn, allowedPassed, tableTests, readRefusal, listedIn, Readout, readout}
 use Rattle.reading.specs.Private.{Given}
 use Rattle.reading.proofs.Report.{readout-found}
@@ -23,7 +23,7 @@ use Rattle.searching.specs.declared.Progress.{Progress}
 use Rattle.searching.specs.Searching.{maximal, passesIn, walk, looks, searchOf, foundIn, daysUnder, foundDays, progressOf, searchRefusal, searched}
 use Rattle.searching.specs.Private.{isChanged, changedTo}
 use Rattle.searching.specs.Statements.{SaysNotTree, RefusesAsReading, StateOf, SearchOf, SearchTold, NothingLooked, WalkShort}
-use Rattle.searching.proofs.WalkLaws.{looks-first, looks-all}
+use Rattle.searching.proofs.WalkLaws.{looks-first, looks-enough, looks-all}
 use Rattle.searching.proofs.Frontier.{due-days, maximal-laid, laid-days}
 use Rattle.searching.proofs.Tables.{changedIn, changed-more}
 use Rattle.searching.proofs.Reached.{Reached, reached}
@@ -113,8 +113,38 @@ module _ (n d : ℕ) (t : List ℕ) (limit : ℕ) (before : List ℕ) (G : Given
       let l = length-upFrom (suc g) (d - g) in
       (omega (arith, found-is), omega (arith, found-is, undecided-is))
 
+  -- with none undecided
+  all-decided : P .undecided ≡ 0 → g ≡ d
+  all-decided z = omega (arith, undecided-is, R .due .most)
+
+  pub all-looked : P .undecided ≡ 0 → searchOf n d t limit .looked ≡ walk (passesIn n d t) d
+  unfolding walk
+  all-looked z = looks-all (passesIn n d t) limit (maximal d) (R .due .none (all-decided z))
+
+  walk-within : P .undecided ≡ 0 → length (walk (passesIn n d t) d) ≤ limit
+  unfolding walk
+  walk-within z =
+      let e = ap length (sym (all-looked z) ∙ looks-first (passesIn n d t) limit (maximal d)) ∙ length-take limit (walk (passesIn n d t) d) in
+      omega arith
+
+  -- the changed days before the undecided ones
+  found-changed : (S : List ℕ) → Ascends 1 S → Gives (chains 3 n d) d S t → F ≡ keep (λ x. leb x (d - P .undecided)) S
+  found-changed S a h =
+      let e : d - P .undecided ≡ g = omega (arith, undecided-is, R .due .most) in
+      let w : g + (d - g) ≡ d = omega (arith, R .due .most) in
+      let q : S ≡ changedTo n d t g ++ changedIn n d t g (d - g) =
+      sym (changed-more n d t g (d - g) ∙ ap (changedTo n d t) w ∙ changed-listed n d t ∙ only-set n d S t a h) in
+      R .found ∙ sym (rw e (ap (keep (λ x. leb x g)) q ∙ keep-append (λ x. leb x g) (changedTo n d t g) (changedIn n d t g (d - g)) ∙ rw (early, late) (append-nil (changedTo n d t g))))
+    where
+      early : keep (λ x. leb x g) (changedTo n d t g) ≡ changedTo n d t g
+      early = keep-all (λ x. leb x g) (changedTo n d t g) (λ x m. let b = upFrom-bounds 1 g x (keep-mem (isChanged n d t) (days g) x m .0) in le-leb x g (omega arith))
+
+      late : keep (λ x. leb x g) (changedIn n d t g (d - g)) ≡ []
+      late = keep-none (λ x. leb x g) (changedIn n d t g (d - g))
+          (λ x m. let b = upFrom-bounds (suc g) (d - g) x (keep-mem (isChanged n d t) (upFrom (suc g) (d - g)) x m .0) in lt-leb x g (omega arith))
+
   pub state-of : StateOf n d t limit before (F ++ drop (length F) before) P
-  unfolding progressOf walk foundDays
+  unfolding progressOf walk foundDays daysUnder flatMap
   state-of =
       record {
         first-of-walk = looks-first (passesIn n d t) limit (maximal d);
@@ -127,6 +157,8 @@ module _ (n d : ℕ) (t : List ℕ) (limit : ℕ) (before : List ℕ) (G : Given
         rest = drop-at F (drop (length F) before) (length F) refl;
         undecided-few = omega (arith, undecided-is);
         undecided-last = under ∙ last;
+        undecided-none = (λ z. walk-within z, λ h. ap (λ r. length (daysUnder n r)) (looks-enough (passesIn n d t) limit (maximal d) h));
+        changed-found = λ S a h. front ∙ found-changed S a h;
         between = number-between;
       }
     where
@@ -136,21 +168,12 @@ module _ (n d : ℕ) (t : List ℕ) (limit : ℕ) (before : List ℕ) (G : Given
       last : upFrom (suc g) (d - g) ≡ lastDays (P .undecided) d
       last = let e : d - (d - g) ≡ g = omega (arith, R .due .most) in rw (undecided-is, e)
 
-  -- with none undecided
-  module _ (z : P .undecided ≡ 0) where
-    all-decided : g ≡ d
-    all-decided = omega (arith, undecided-is, R .due .most)
+  pub all-found : P .undecided ≡ 0 → F ≡ listing (chains 3 n d) d t
+  all-found z = R .found ∙ ap (changedTo n d t) (all-decided z) ∙ changed-listed n d t
 
-    pub all-looked : searchOf n d t limit .looked ≡ walk (passesIn n d t) d
-    unfolding walk
-    all-looked = looks-all (passesIn n d t) limit (maximal d) (R .due .none all-decided)
-
-    pub all-found : F ≡ listing (chains 3 n d) d t
-    all-found = R .found ∙ ap (changedTo n d t) all-decided ∙ changed-listed n d t
-
-    pub all-bound : (S : List ℕ) → Ascends 1 S → Gives (chains 3 n d) d S t → P .looked ≤ ones d + 2 * length S * lg d
-    unfolding progressOf
-    all-bound S a h = rw (set-size S a h, all-looked) (walk-size n d (length before) t G)
+  pub all-bound : P .undecided ≡ 0 → (S : List ℕ) → Ascends 1 S → Gives (chains 3 n d) d S t → P .looked ≤ ones d + 2 * length S * lg d
+  unfolding progressOf
+  all-bound z S a h = rw (set-size S a h, all-looked z) (walk-size n d (length before) t G)
 
 module _ (n f d : ℕ) (o : List ℕ) (limit : ℕ) (l : List ℕ) (e : searchRefusal 3 n f d o (length l) ≡ 0) where
   G : Given 3 n d (tableIn 3 n d o) (length l)

@@ -49,6 +49,14 @@ module _ (p : ℕ → ℕ → Bool) where
   looks-stop (suc k) (suc m) [] h e = refl
   looks-stop (suc k) (suc m) (y ∷ due) h e = rw (looks-stop k m (halves p y ++ due) (omega arith) e)
 
+  -- none is due once there were looks for the whole walk
+  pub looks-enough : (k : ℕ) (due : List Name) → length (flatMap (fully p) due) ≤ k → looks p k due .due ≡ []
+  unfolding looks
+  looks-enough zero [] h = refl
+  looks-enough zero (x ∷ due) h = let e = ap length (due-is x due) in absurd (omega arith)
+  looks-enough (suc k) [] h = refl
+  looks-enough (suc k) (x ∷ due) h = looks-enough k (halves p x ++ due) (let e = ap length (due-is x due) in omega arith)
+
   -- where none is due any more, the whole walk was looked at
   pub looks-all : (k : ℕ) (due : List Name) → looks p k due .due ≡ [] → looks p k due .looked ≡ flatMap (fully p) due
   unfolding looks flatMap

@@ -3,10 +3,11 @@ use mathlib.Core.Path.{_≡_}
 use mathlib.Core.Logic.{_↔_}
 use mathlib.Core.Bool.{Bool, true}
 use mathlib.Core.List.{List, _++_}
-use Prim.Native.Nat.{ℕ, _+_, _*_, _≤_, min}
+use Prim.Native.Nat.{ℕ, _+_, _-_, _*_, _≤_, min}
 use lib.Count.{ones}
+use lib.Dec.{leb}
 use lib.ListN.{length, take, drop}
-use Rattle.lists.specs.Lists.{_among_, Ascends}
+use Rattle.lists.specs.Lists.{_among_, keep, Ascends}
 use Rattle.evidence.specs.Evidence.{days, Gives}
 use Rattle.refusals.specs.Refusals.{firstRefusal}
 use Rattle.layouts.specs.Layouts.{lg, Name, tree, lastDays, coveredDays, namesThrough, chains, layoutTests}
@@ -63,10 +64,15 @@ pub record StateOf (n d : ℕ) (table : List ℕ) (limit : ℕ) (before after : 
   pub found-days : take (p .found) after ≡ foundIn (passesIn n d table) (searchOf n d table limit .looked)
   pub ascending : Ascends 1 (take (p .found) after)
   pub rest : drop (p .found) after ≡ drop (p .found) before
-  -- the days under chains that are due and not looked at are the last ones up to d
+  -- the days under chains that are due and not looked at are the last ones up to d; none is left exactly if the limit
+  -- is enough for the whole walk
   pub undecided-few : p .undecided ≤ d
   pub undecided-last : daysUnder n (searchOf n d table limit .due) ≡ lastDays (p .undecided) d
-  -- the number of changed days lies between found and found + undecided
+  pub undecided-none : (p .undecided ≡ 0) ↔ (length (walk (passesIn n d table) d) ≤ limit)
+  -- of the changed days, those before the undecided ones are found; their number lies between found and found +
+  -- undecided
+  pub changed-found : (S : List ℕ) → Ascends 1 S → Gives (chains 3 n d) d S table →
+      take (p .found) after ≡ keep (λ g. leb g (d - p .undecided)) S
   pub between : (S : List ℕ) → Ascends 1 S → Gives (chains 3 n d) d S table →
       (p .found ≤ length S) × (length S ≤ p .found + p .undecided)
 
