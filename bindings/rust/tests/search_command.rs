@@ -270,7 +270,9 @@ fn waiting(folder: &Folder, options: &[&str]) -> (Child, File) {
         assert!(made.success());
     }
     let line = format!("search --scheme 3 --n 1 --f 1 --d {DAYS} --outcomes pipe");
+    // a shell ignores SIGINT for what it starts in the background, and so would the search
     let child = Command::new("env")
+        .arg("--default-signal=INT,TERM")
         .args(options)
         .arg(env!("CARGO_BIN_EXE_daybook"))
         .args(line.split_whitespace())

@@ -91,10 +91,10 @@ mod tests {
         let blocked = || told("SigBlk:");
         let before = blocked();
         let held = Held::new();
-        assert_eq!(blocked(), before | STOPS);
+        // a shell ignores SIGINT for what it starts in the background
+        assert_eq!(blocked(), before | (STOPS & !ignored()));
         assert!(!held.arrived());
         drop(held);
         assert_eq!(blocked(), before);
-        assert_eq!(before & STOPS, 0);
     }
 }
