@@ -5,3 +5,4 @@ pub mod Meets
 pub mod Seal
 pub mod Records
 pub mod Sizing
+pub mod Search

@@ -2,3 +2,4 @@ pub mod Claim
 pub mod Detection
 pub mod Records
 pub mod Sizing
+pub mod Search

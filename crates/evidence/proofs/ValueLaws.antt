@@ -7,10 +7,10 @@ use Prim.Native.Nat.{ℕ, _*_, _≤_}
 use native.Mathlib.Omega.{arith}
 use lib.{ListN.length, ListN.length-append, Seq.take-at, Seq.drop-at}
 use borrow.Author.Tests.{not-true}
-use Rattle.lists.specs.Lists.{_among_, same}
+use Rattle.lists.specs.Lists.{_among_, same, Ascends}
 use Rattle.evidence.specs.Evidence.{days, Within, meets, setOutcome, tableOf, listing, dayOf, changed, digest}
 use Rattle.evidence.specs.Evidence.{linkInput, value, values, checkOutcomes, linkInputs, inputs, NoCollision}
-use Rattle.lists.proofs.Laws.{split, true-or-false, same-eq, eq-same, upFrom-mem, upFrom-bounds, keep-mem, mem-keep, map-same}
+use Rattle.lists.proofs.Laws.{split, true-or-false, same-eq, eq-same, upFrom-mem, upFrom-bounds, keep-mem, mem-keep, keep-ascends, map-same}
 use Rattle.evidence.proofs.TableLaws.{meets-of, meets-day, none-met, lists-all, lists-exactly, lists-none}
 
 -- the inputs of the days' digests
@@ -27,6 +27,10 @@ unfolding changed
 changed-within d A B g m =
     let b = upFrom-bounds 1 d g (keep-mem (λ x. not (same (dayOf A x) (dayOf B x))) (days d) g m .0) in
     omega arith
+
+pub changed-ascends : (d : ℕ) (A B : List (List ℕ)) → Ascends 1 (changed d A B)
+unfolding changed
+changed-ascends d A B = keep-ascends (λ g. not (same (dayOf A g) (dayOf B g))) 1 d
 
 -- every changed day is listed
 pub changed-listed : (chains : List (List ℕ)) (d : ℕ) (A B : List (List ℕ)) (g : ℕ) → g among changed d A B →
