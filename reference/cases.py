@@ -1080,7 +1080,9 @@ def every_search(case):
             count = daybook.values(scheme, n, d)
             for bits in range(1 << min(count, 9)):
                 table = bytes(bits >> k & 1 for k in range(count))
-                search(case, settings, table, bits % (2 * d + 1))
+                every = *range(2 * d + 1), TOP
+                for limit in every if count <= 8 else [bits % (2 * d + 1)]:
+                    search(case, settings, table, limit)
 
 
 def longest_search(case):

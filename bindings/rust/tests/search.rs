@@ -133,7 +133,7 @@ fn every_set_and_every_limit() {
     assert!(calls > 20_000, "{calls}");
 }
 
-/// Every table of few days, given by a set or not.
+/// Every table of few days, given by a set or not, with every limit.
 #[test]
 fn every_table() {
     let tree = [(1, 4), (2, 4), (4, 4), (1, 5), (2, 6)].map(|(n, d)| (Layout::tree(n), d));
@@ -148,13 +148,20 @@ fn every_table() {
         let count = chains(layout, d).len();
         for bits in 0..1u32 << count {
             let outcomes: Vec<u8> = (0..count).map(|k| (bits >> k & 1) as u8).collect();
-            let answer = search_to_vec(layout, d, &outcomes, u32::MAX).map(|(_, days)| days);
-            let expected = match listing(layout, d, &outcomes) {
+            let given = match listing(layout, d, &outcomes) {
                 None => Err(Refusal::ImpossibleTable),
                 Some(_) if layout.scheme != Layout::TREE => Err(Refusal::NotTree),
                 Some(days) => Ok(days),
             };
-            assert_eq!(answer, expected, "{layout}, D {d}, {outcomes:?}");
+            for limit in (0..=2 * d).chain([u32::MAX]) {
+                let answer = search_to_vec(layout, d, &outcomes, limit)
+                    .map(|(progress, days)| (numbers(progress), days));
+                let expected = given.clone().map(|changed| searched(d, &changed, limit));
+                assert_eq!(
+                    answer, expected,
+                    "{layout}, D {d}, {outcomes:?}, limit {limit}"
+                );
+            }
         }
     }
 }

@@ -163,6 +163,7 @@ impl State {
 #[cfg(test)]
 mod tests {
     use super::*;
+    use crate::signals::tests::send_to_this_thread;
 
     fn state(looked: u32, days: &[u32], undecided: u32) -> State {
         State {
@@ -265,6 +266,20 @@ mod tests {
         let few = all_altered(16);
         let state = in_steps(|limit| few.state(limit), |_| panic!("asked")).unwrap();
         assert_eq!(state, few.state(31).unwrap());
+    }
+
+    /// Signals that come in the last step have nothing to stop: the state is that of the end, and they are
+    /// gone. Before it the first of them stops the search, and the other does not end the program.
+    #[test]
+    fn signals_in_a_step() {
+        let waiting = Held::new();
+        for (d, stopped) in [(16, 31), (4096, FIRST)] {
+            let sent = send_to_this_thread();
+            let table = all_altered(d);
+            let limit = if sent == 0 { u32::MAX } else { stopped };
+            assert_eq!(table.in_steps(), table.state(limit));
+            assert!(!waiting.arrived());
+        }
     }
 
     /// The steps end where the limit cannot grow, whatever the calls say.

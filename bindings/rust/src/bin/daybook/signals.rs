@@ -39,7 +39,7 @@ mod c {
 }
 
 /// While this lives, the two signals wait; one that the program was started to ignore is still ignored. Then
-/// they are again what they were before.
+/// they are again what they were before, and one that came meanwhile ends nothing: what it was to stop is over.
 pub struct Held {
     stops: Set,
     before: Set,
@@ -64,6 +64,7 @@ impl Held {
 
 impl Drop for Held {
     fn drop(&mut self) {
+        while self.arrived() {}
         // SAFETY: the set is one that the system gave; the one before is not asked for.
         unsafe { c::pthread_sigmask(SIG_SETMASK, &self.before, ptr::null_mut()) };
     }
@@ -83,8 +84,24 @@ fn told(name: &str) -> u64 {
 }
 
 #[cfg(test)]
-mod tests {
+pub mod tests {
     use super::*;
+
+    extern "C" {
+        fn raise(signal: i32) -> i32;
+    }
+
+    /// Sends this thread each of the two that is not ignored; they must wait. Gives their set.
+    pub fn send_to_this_thread() -> u64 {
+        let sent = STOPS & !ignored();
+        for signal in [SIGINT, SIGTERM] {
+            if sent & 1 << (signal - 1) != 0 {
+                // SAFETY: the call takes a number and keeps nothing.
+                assert_eq!(unsafe { raise(signal as i32) }, 0);
+            }
+        }
+        sent
+    }
 
     #[test]
     fn the_two_wait_while_it_lives() {
@@ -96,5 +113,16 @@ mod tests {
         assert!(!held.arrived());
         drop(held);
         assert_eq!(blocked(), before);
+    }
+
+    /// Both come, and the first is asked for; neither ends the program afterwards.
+    #[test]
+    fn what_came_ends_nothing() {
+        let held = Held::new();
+        let sent = send_to_this_thread();
+        assert_eq!(told("SigPnd:"), sent);
+        assert_eq!(held.arrived(), sent != 0);
+        drop(held);
+        assert_eq!(told("SigPnd:"), 0);
     }
 }
