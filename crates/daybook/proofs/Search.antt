@@ -17,7 +17,7 @@ use Rattle.reading.proofs.Statements.{refusal-said}
 use Rattle.searching.specs.Searching.{searchRefusal}
 use Rattle.searching.specs.Statements.{SearchOf}
 use Rattle.searching.proofs.Statements.{refuses-as-reading, search-told}
-use Rattle.daybook.specs.Detection.{Handed, ledgerDays, changedDays, checking, tableOfChanges, Premises, SealedApart, Detected}
+use Rattle.daybook.specs.Detection.{Handed, ledgerDays, changedDays, checking, tableOfChanges, Premises, Detected}
 use Rattle.daybook.specs.Claim.{sealed, wrote}
 use Rattle.daybook.specs.Search.{Sought, SearchClaim}
 use Rattle.daybook.proofs.Claim.{demand-3}
