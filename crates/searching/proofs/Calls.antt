@@ -12,7 +12,6 @@ use Rattle.reading.specs.Contract.{tableIn, tableTests}
 use Rattle.reading.specs.Private.{Layout, Given}
 use Rattle.reading.proofs.RefusalLaws.{layout-facts, layout-table}
 use Rattle.searching.specs.declared.Progress.{Progress}
-use Rattle.searching.specs.declared.Searched.{Searched}
 use Rattle.searching.specs.declared.Searched.the-variants.{State, Refused}
 use Rattle.searching.specs.Searching.{progressOf, foundDays, searchTests, searchRefusal, searchedOf, searched}
 
