@@ -22,8 +22,8 @@ extern "C" {
 #endif
 
 /* The version of this header: 10000 * major + 100 * minor + patch, and as text. */
-#define DAYBOOK_VERSION 600
-#define DAYBOOK_VERSION_TEXT "0.6.0"
+#define DAYBOOK_VERSION 700
+#define DAYBOOK_VERSION_TEXT "0.7.0"
 
 /* The bytes of a record. To be kept on disk as it is: no padding, the same on every machine.
  * Numbers are 32 bits, little-endian:
@@ -72,7 +72,8 @@ enum daybook_refusal {
   DAYBOOK_LONG_DAY = 17,         /* one of the first D lengths is over the day's limit */
   DAYBOOK_NOT_IN_BOOK = 18,      /* a position not below the number of values, or no chain of the book */
   DAYBOOK_BAD_PASSED = 19,       /* the day of the last passed check is not below D, or no multiple of N */
-  DAYBOOK_NOT_TREE = 20          /* a search of a table whose scheme is not 3 */
+  DAYBOOK_NOT_TREE = 20,         /* a search of a table whose scheme is not 3 */
+  DAYBOOK_NOT_COUNTED = 21       /* tile counts of N over 64, or of k that is 0 or over 3 */
 };
 
 /* What a refusal says, in words. */
@@ -100,6 +101,7 @@ static inline const char *daybook_refusal_text(uint32_t number) {
   case DAYBOOK_NOT_IN_BOOK: return "the book has no such position or chain";
   case DAYBOOK_BAD_PASSED: return "the day of the last passed check is not below D, or N does not divide it";
   case DAYBOOK_NOT_TREE: return "the scheme is not 3, and only tables of the tree are searched";
+  case DAYBOOK_NOT_COUNTED: return "N is over 64, or k is not 1, 2 or 3";
   default: return "a number that is no refusal";
   }
 }
@@ -204,6 +206,11 @@ uint32_t daybook_chain_at(uint32_t scheme, uint32_t n, uint32_t f, uint32_t d, u
  * Refusals 1 2 3 7 18. */
 uint32_t daybook_position_of(uint32_t scheme, uint32_t n, uint32_t f, uint32_t d,
                              const uint32_t chain[4], uint32_t position[1]);
+
+/* How vague one tile of N days is under scheme 2: to counts[0] how many sets of k different days it has,
+ * to counts[1] how many days daybook_read lists for them, added up over all these sets. Where N is below
+ * k both are 0. Refusals 2 21. */
+uint32_t daybook_tile_counts(uint32_t n, uint32_t k, uint32_t counts[2]);
 
 /* The version of the archive, as DAYBOOK_VERSION is that of this header. */
 uint32_t daybook_version(void);
