@@ -1,0 +1,3 @@
+pub mod Ambiguity
+pub mod Private
+pub mod Statements

@@ -1,0 +1,1 @@
+-- What private contracts cite. Definitions only.
