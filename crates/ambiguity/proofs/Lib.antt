@@ -1,3 +1,6 @@
 pub mod Sums
 pub mod Tuples
 pub mod ReadLaws
+pub mod Figures
+pub mod SetLaws
+pub mod Calls

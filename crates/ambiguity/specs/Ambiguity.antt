@@ -1,15 +1,17 @@
 -- 02's figures of one tile (C-16, SPEC 21). Definitions only.
-use mathlib.Core.Bool.{Bool, _&&_, cond}
+use mathlib.Core.Path.{_≡_}
+use mathlib.Core.Bool.{Bool, true, _&&_, cond}
 use mathlib.Core.List.{List, [], _∷_, _++_, map}
 use Prim.Native.Nat.{ℕ, zero, suc, _+_}
 use lib.Dec.{eqb, leb}
-use lib.ListN.{length}
+use lib.ListN.{length, drop}
 use Rattle.lists.specs.Lists.{every, upFrom, joined}
 use Rattle.evidence.specs.Evidence.{days, tableOf}
 use Rattle.refusals.specs.Refusals.{Test, _orRefuse_, firstRefusal}
 use Rattle.layouts.specs.Layouts.{allowedN, chains}
 use Rattle.reading.specs.Contract.{Readout, readout}
-use Rattle.number_text.specs.Numbers.{lineFeed, decimal, commaNumbers}
+use Rattle.number_text.specs.Numbers.{decimal}
+use Rattle.table_text.specs.Text.{line}
 use Rattle.ambiguity.specs.declared.Counts.{Counts}
 use Rattle.ambiguity.specs.declared.Counting.{Counting}
 use Rattle.ambiguity.specs.declared.Counting.the-variants.{Counted, Refused}
@@ -76,9 +78,9 @@ countingNumber (Refused number) = number
 
 -- ---- the lines
 
--- 02's line of N and k (SPEC 21.6)
-unfoldable pub line : ℕ → ℕ → List ℕ
-line n k = decimal n ++ (commaNumbers (k ∷ sets n k ∷ listed n k ∷ []) ++ (lineFeed ∷ []))
+-- 02's line of N and k (SPEC 21.6): `N,k,sets,listed` and a line feed
+unfoldable pub lineOf : ℕ → ℕ → List ℕ
+lineOf n k = line (decimal n) (k ∷ sets n k ∷ listed n k ∷ [])
 
 -- an N and a k
 pub record Asked : Type 0 where
@@ -99,4 +101,11 @@ eachOnce order =
 
 -- the lines in an order, end to end
 unfoldable pub textIn : List Asked → List ℕ
-textIn order = joined (map (λ x. line (x .n) (x .k)) order)
+textIn order = joined (map (λ x. lineOf (x .n) (x .k)) order)
+
+-- what writing the lines leaves: their number of bytes, and in the buffer their text, each once, before what stood there
+pub record Printed (before : List ℕ) (r : ℕ) (after : List ℕ) : Type 0 where
+  pub order : List Asked
+  pub once : eachOnce order ≡ true
+  pub size : r ≡ length (textIn order)
+  pub text : after ≡ textIn order ++ drop r before
