@@ -9,16 +9,19 @@ checked with the lowest bit altered in the first byte of day 10, and read with
 P 0, which is D - F*N, with P 16, and with P 12, which is refused, and its
 outcomes are searched with limit 7, which is refused too.  Then a table of
 scheme 3, N 2, F 1, D 6, with the days 2 and 6 changed and four outcomes of 170
-behind, is searched with limit 5.  Last the version.
+behind, is searched with limit 5.  The sets of 2 offsets in a tile of 4 days
+are counted, and those of 4 in a tile of 2, which is refused.  Last the
+version.
 
 A line is the call, what it returned and what it wrote: of a record the lowest
 bytes of its five numbers, the blocks of an add, of a close the number of
 values, the blocks and the first 32 bytes of a part of 200, the three sizes,
 the four numbers of a chain, a position, of a book of 500 bytes and of a work
 buffer of 800 the first 32, all 20 outcomes, the five numbers and all 30 places
-of a list, the three numbers of a search and all places of its list, 30 and 9.
-A byte not written is 170 (aa), a number 99, one of the five 98, of blocks 97,
-a size 96, one of the four 95, one of the three 94.
+of a list, the three numbers of a search and all places of its list, 30 and 9,
+the two counts.  A byte not written is 170 (aa), a number 99, one of the five
+98, of blocks 97, a size 96, one of the four 95, one of the three 94, a count
+93.
 """
 
 import daybook
@@ -95,8 +98,14 @@ def tree_line():
     return search_line((3, 2, 1, 6), table + [170] * 4, 5, 9)
 
 
+def counts_line(n, k):
+    refusal, *found = daybook.tile_counts(n, k)
+    return line("tile_counts", refusal, *([93] * 2 if refusal else found))
+
+
 def lines():
     return [*record_lines(), *ledger_lines(), tree_line(),
+            counts_line(4, 2), counts_line(2, 4),
             line("version", daybook.VERSION)]
 
 

@@ -8,6 +8,7 @@ import hashlib
 import struct
 from array import array
 from itertools import accumulate
+from math import comb
 
 import daybook
 import record
@@ -782,6 +783,41 @@ def positions(case):
         position_of(case, bad, rng.choice((four, random_words(rng, 4))))
 
 
+# -------------------------------------------------------- how vague a tile is
+
+TILE_SIZES = (1, 2, 4, 8, 16, 32, 64)
+FAR = (5, 6, 63, 64, 254, 255, 256, 257, 258, 259, 512, 65535, 65536, 65537,
+       65538, 65539, 2 ** 31, 2 ** 31 + 1, 2 ** 31 + 3, TOP - 1, TOP)
+
+
+def tile_counts(case, n, k):
+    """The counts of a tile, against what is said of all sets together."""
+    answer, after = case.call("tile_counts", n, k, random_words(case.rng, 2))
+    if n in TILE_SIZES and k in (1, 2, 3):
+        sets, listed = after[-1]
+        case.claim(answer == 0 and sets == comb(n, k), "the number of sets")
+        case.claim(k * sets <= listed <= n * sets,
+                   "not between the days of the sets and whole tiles")
+        case.claim(k > 1 or listed == 3 ** daybook.lg(n),
+                   "k 1 is not 3 to the power lg N")
+    else:
+        known = n in (*TILE_SIZES, 128, 256)
+        case.claim(answer == (21 if known else 2), "2 or 21 is not said")
+
+
+def tiles(case):
+    """Sets of up to three offsets and refused ones, of all kinds of N."""
+    rng = case.rng
+    n = rng.choice((*TILE_SIZES, 128, 256))
+    high = [1 << weight for weight in (8, 16, 24, 31)]
+    for k in (0, 1, 2, 3, 4, rng.choice(FAR), rng.getrandbits(32),
+              *(x + rng.randint(1, 3) for x in high)):
+        tile_counts(case, n, k)
+    for n in (rng.choice(BAD_SIZES), rng.randrange(300), rng.getrandbits(32),
+              *(x + rng.choice(TILE_SIZES) for x in high)):
+        tile_counts(case, n, rng.choice((0, 1, 2, 3, 4, rng.choice(FAR))))
+
+
 # ----------------------------------------------------- cases run once a layout
 
 def whole_book(case):
@@ -1112,6 +1148,18 @@ def longest_search(case):
                    "13 is not said")
 
 
+def every_tile(case):
+    """Every N up to 520 and powers of two, with every k up to 5 and far ones.
+    """
+    powers = [1 << weight for weight in range(32)]
+    for n in (*range(521), *BAD_SIZES, *powers, *(TOP - n for n in powers)):
+        for k in (*range(6), *case.rng.sample(FAR, 4), TOP):
+            tile_counts(case, n, k)
+    for n in (*TILE_SIZES, 128, 256):
+        for k in FAR:
+            tile_counts(case, n, k)
+
+
 def long_table(scheme, n, days):
     """The table of 65,536 days that these changed days, ascending, give."""
     before = [0] * (DAYS + 1)
@@ -1131,9 +1179,10 @@ def long_table(scheme, n, days):
 
 ONCE = (whole_book, whole_service, big_day, big_ledger, high_bytes,
         settings_grid, record_grid, wide_arrays, longest_season,
-        every_position, longest_positions, every_search, longest_search)
+        every_position, longest_positions, every_search, longest_search,
+        every_tile)
 KINDS = ((round_trip, 26), (read_table, 24), (refused, 14), (history, 12),
          (made_up_calls, 14), (empty_arrays, 5), (number_of_values, 5),
          (values_of_record, 4), (sizes, 6), (positions, 6), (skipped, 4),
-         (searches, 4))
+         (searches, 4), (tiles, 4))
 CHOICES = [kind for kind, weight in KINDS for _ in range(weight)]

@@ -12,14 +12,16 @@ import re
 from array import array
 from dataclasses import dataclass, replace
 from functools import lru_cache
-from itertools import accumulate, islice
+from itertools import accumulate, combinations, islice
 
 DAY_LIMIT = 16_777_216      # bytes in a day
 DAYS_LIMIT = 65_536         # days in a book
 SLOTS = 17                  # running tile or tree chains in a record
 SUBSETS_LIMIT = 12          # up to this D, reading tries every set of days
 MASKS_LIMIT = 512           # up to this D, it has the chains as masks
-VERSION = 600               # 10000 major + 100 minor + patch: 0.6.0
+TILE_LIMIT = 64             # days of a tile whose sets are counted
+SET_LIMIT = 3               # offsets in such a set
+VERSION = 700               # 10000 major + 100 minor + patch: 0.7.0
 
 BLACK, TILE, TREE = "black", "tile", "tree"
 
@@ -781,6 +783,55 @@ def search(scheme, n, f, d, outcomes, limit, list_buffer, lister=list_of):
     for k, day in enumerate(found):
         list_buffer[k] = day
     return 0, len(looked), len(found), len(undecided)
+
+
+# ------------------------------------------------------- how vague a tile is
+
+def tile_refusal(n, k):
+    """Refusals 2 21."""
+    if settings_refusal(2, n, 1) == 2:
+        return 2
+    return 0 if n <= TILE_LIMIT and 1 <= k <= SET_LIMIT else 21
+
+
+@lru_cache(maxsize=None)
+def read_tile(n, table):
+    """Reading's answer to a table of one tile of n days; F 1 and D = N."""
+    return read(2, n, 1, n, 0, table, [0] * n)
+
+
+@lru_cache(maxsize=None)
+def count_sets(n, k):
+    """(sets, listed) of a tile of n days: every set of k offsets is read.
+
+    Sets that give the same table share its reading.
+    """
+    chain_masks = masks(2, n, n)
+    sets = listed = 0
+    for offsets in combinations(range(n), k):
+        chosen = mask([offset + 1 for offset in offsets])
+        result = read_tile(n, tuple(int(m & chosen == 0)
+                                    for m in chain_masks))
+        assert result.kind == "changed"
+        sets += 1
+        listed += result.listed
+    return sets, listed
+
+
+def tile_counts(n, k):
+    """(refusal, sets, listed): refusals 2 21."""
+    refusal = tile_refusal(n, k)
+    return (refusal, 0, 0) if refusal else (0, *count_sets(n, k))
+
+
+def ambiguity_lines():
+    """What the program ambiguity_lines prints: N ascending, then k."""
+    out = ""
+    for n in (1, 2, 4, 8, 16, 32, 64):
+        for k in (1, 2, 3):
+            _, sets, listed = tile_counts(n, k)
+            out += f"{n},{k},{sets},{listed}\n"
+    return out
 
 
 # ------------------------------------------------------------------- program

@@ -13,7 +13,8 @@ from wanted import WANT
 FORMS = {"open": "nnnB", "add": "BbW", "close": "BbWW", "seal": "nnnnbwb",
          "check": "nnnnbwbbb", "read": "nnnnnbwW", "search": "nnnnbnwW",
          "values": "nnnnW", "record_values": "BW", "forecast": "nnnnwQ",
-         "chain_at": "nnnnnW", "position_of": "nnnnWW", "version": ""}
+         "chain_at": "nnnnnW", "position_of": "nnnnWW", "tile_counts": "nnW",
+         "version": ""}
 LABELS = {
     "open": ("scheme", "n", "f", "record"),
     "add": ("record", "piece", "blocks"),
@@ -30,9 +31,10 @@ LABELS = {
     "forecast": ("scheme", "n", "f", "d", "lengths", "sizes"),
     "chain_at": ("scheme", "n", "f", "d", "position", "chain"),
     "position_of": ("scheme", "n", "f", "d", "chain", "position"),
+    "tile_counts": ("n", "k", "counts"),
     "version": ()}
 WRITTEN = {"record", "part", "values", "blocks", "work", "list", "numbers",
-           "progress", "sizes"}
+           "progress", "sizes", "counts"}
 ANSWERS = {"open": (0, 1, 2, 3), "add": (0, 6, 5, 4), "close": (0, 6, 5, 8),
            "seal": (0, 1, 2, 3, 7, 9, 10, 8),
            "check": (0, 1, 2, 3, 7, 9, 10, 11, 8),
@@ -41,7 +43,7 @@ ANSWERS = {"open": (0, 1, 2, 3), "add": (0, 6, 5, 4), "close": (0, 6, 5, 8),
            "values": (0, 1, 2, 3, 7), "record_values": (0, 6),
            "forecast": (0, 1, 2, 3, 7, 16, 17),
            "chain_at": (0, 1, 2, 3, 7, 18),
-           "position_of": (0, 1, 2, 3, 7, 18),
+           "position_of": (0, 1, 2, 3, 7, 18), "tile_counts": (0, 2, 21),
            "version": (daybook.VERSION,)}
 
 

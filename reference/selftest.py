@@ -9,7 +9,10 @@ import random
 import sys
 from collections import Counter
 from dataclasses import replace
-from itertools import product
+from functools import lru_cache
+from itertools import (combinations, combinations_with_replacement,
+                       permutations, product)
+from math import comb
 
 import compare
 import daybook as db
@@ -782,6 +785,105 @@ def search_refusals():
                                    places=3), 8)
 
 
+# -------------------------------------------------------- how vague a tile is
+
+TILES = [1, 2, 4, 8, 16, 32, 64]
+
+
+def closed_form(n, k):
+    """(sets, listed) by docs/SPEC.md, 21.4."""
+    m = db.lg(n)
+    return comb(n, k), [3 ** m, (7 ** m - 3 ** m) // 2,
+                        (15 ** m - 3 * 7 ** m + 2 * 3 ** m) // 6][k - 1]
+
+
+def tile_examples():
+    """By hand, by docs/SPEC.md, 21.4 and 21.8, and the lines.
+
+    N 2: c(1) covers offset 0.  Set 0: it fails, both days are listed.  Set 1:
+    it passes, day 2 is listed.  Set 0 1: both.
+    N 4: c(1) covers the offsets 0 1, c(2) covers 0 2.  Set 0: both fail, 4
+    days.  Set 1: c(2) clears 1 and 3, days 2 and 4.  Set 2: c(1) clears 1 and
+    2, days 3 and 4.  Set 3: both pass, day 4.  That is 9.  Sets 0 1, 0 2, 0 3
+    and 1 2 fail both, 4 days each; 1 3 fails c(1) alone and 2 3 c(2) alone, 2
+    days each.  That is 20.  Each set of three offsets fails both: 16.
+    """
+    for n, days in [(2, {(0,): [1, 2], (1,): [2], (0, 1): [1, 2]}),
+                    (4, {(0,): [1, 2, 3, 4], (1,): [2, 4], (2,): [3, 4],
+                         (3,): [4], (1, 2): [1, 2, 3, 4], (1, 3): [2, 4],
+                         (2, 3): [3, 4]})]:
+        for offsets, want in days.items():
+            table = table_of(2, n, n, [o + 1 for o in offsets])
+            expect(f"days of {n} {offsets}", read_list(2, n, 1, n, table)[1],
+                   want)
+    for n, k, *want in [(1, 1, 1, 1), (1, 2, 0, 0), (1, 3, 0, 0),
+                        (2, 1, 2, 3), (2, 2, 1, 2), (2, 3, 0, 0),
+                        (4, 1, 4, 9), (4, 2, 6, 20), (4, 3, 4, 16),
+                        (64, 3, 41_664, 1_839_856)]:
+        expect(f"by hand {n} {k}", db.tile_counts(n, k), (0, *want))
+    for n, k in product(TILES, (1, 2, 3)):
+        expect(f"closed form {n} {k}", db.tile_counts(n, k),
+               (0, *closed_form(n, k)))
+    text = db.ambiguity_lines()
+    expect("lines", text.splitlines(keepends=True), [
+        "{},{},{},{}\n".format(n, k, *closed_form(n, k))
+        for n in TILES for k in (1, 2, 3)])
+    expect("21 of them", (text.count("\n"), text[-1]), (21, "\n"))
+    for line in ("4,1,4,9", "4,2,6,20", "1,2,0,0", "64,3,41664,1839856"):
+        expect(f"line {line}", text.splitlines().count(line), 1)
+
+
+def tiles():
+    """The counts against each set read by itself, and all sets of days."""
+    tile_examples()
+    for n, k in product(TILES, (1, 2, 3)):
+        if n == 64 and k == 3:
+            continue
+        sets = listed = 0
+        for offsets in combinations(range(n), k):
+            table = table_of(2, n, n, [o + 1 for o in offsets])
+            result, days = read_list(2, n, 1, n, table)
+            failing = table[1:-1].count(0)
+            expect("2^z days", (table[0], len(days)), (0, 2 ** failing))
+            expect("the set is listed", {o + 1 for o in offsets} <= set(days),
+                   True)
+            sets += 1
+            listed += result.listed
+        expect(f"set by set {n} {k}", db.tile_counts(n, k), (0, sets, listed))
+    for n in (1, 2, 4, 8, 16):      # each list by all sets that give the table
+        masks, unions = db.masks(2, n, n), given_tables(2, n, n)
+        for k in (1, 2, 3):
+            lists = [unions[tuple(0 if m & s else 1 for m in masks)]
+                     for s in range(1 << n) if bin(s).count("1") == k]
+            expect(f"by all sets of days {n} {k}", db.tile_counts(n, k),
+                   (0, len(lists), sum(bin(x).count("1") for x in lists)))
+    for n, d in [(n, d) for n in (1, 2, 4, 8) for d in range(n, 11, n)]:
+        for table, union in given_tables(2, n, d).items():
+            for t in range(d // n):         # 21.5, in each tile of a book
+                chains = table[t * (2 + db.lg(n)):][:1 + db.lg(n)]
+                listed = bin(union >> t * n & (1 << n) - 1).count("1")
+                expect("days of a tile", listed,
+                       0 if chains[0] else 2 ** chains[1:].count(0))
+
+
+def tile_refusals():
+    top = 2 ** 32 - 1
+    for n in (*range(600), 1024, 65_536, 65_540, 2 ** 31, top):
+        for k in (0, 1, 2, 3, 4, 5, 64, 257, 65_537, 2 ** 31 + 1, top):
+            allowed = n in SIZES
+            want = 2 if not allowed else 21 if n > 64 or k not in (1, 2, 3) \
+                else 0
+            got = db.tile_counts(n, k)
+            expect(f"tile counts {n} {k}", got[0], want)
+            expect("none if refused", want == 0 or got[1:] == (0, 0), True)
+            if allowed and want == 0 and n < k:
+                expect("N below k", got, (0, 0, 0))
+    for n, k, want in [(0, 1, 2), (3, 0, 2), (512, 4, 2), (128, 1, 21),
+                       (256, 3, 21), (1, 0, 21), (1, 4, 21), (64, 0, 21),
+                       (64, 4, 21), (128, 0, 21), (1, 3, 0)]:
+        expect("21.8", db.tile_counts(n, k)[0], want)
+
+
 def whole_chain():
     """Seal, change, check, read: the days listed are those the set allows."""
     for scheme, n, d in layouts(8):
@@ -1387,6 +1489,130 @@ def comparison():
         few = answer == 8 and length < db.values(scheme, n, d)
         return 12 if few else answer
 
+    def other_counts(sets_of=combinations, refuses=db.tile_refusal,
+                     days_of=lambda n, offsets, table:
+                     2 ** table[1:-1].count(0),
+                     counts_of=lambda sets, listed: (sets, listed)):
+        """Counts by failing chains, in which one thing is another."""
+        @lru_cache(maxsize=None)
+        def count(n, k):
+            masks = db.masks(2, n, n)
+            sets = listed = 0
+            for offsets in sets_of(range(n), k):
+                chosen = db.mask({o + 1 for o in offsets})
+                table = [int(m & chosen == 0) for m in masks]
+                sets += 1
+                listed += days_of(n, offsets, table)
+            return counts_of(sets, listed)
+
+        def fault(good, n, k, counts):
+            refusal = refuses(n, k)
+            if refusal == 0:
+                stand_in.put_words(counts, count(n, k))
+            return refusal
+        return fault
+
+    def alone(n, offsets, table):
+        """The days of each offset of the set read by itself, added up."""
+        return sum(2 ** (db.lg(n) - bin(o).count("1")) for o in offsets)
+
+    def limits(days=64, least=1, most=3):
+        """2 and 21 by other limits of N and k."""
+        def refuses(n, k):
+            if n not in SIZES:
+                return 2
+            return 0 if n <= days and least <= k <= most else 21
+        return refuses
+
+    def far_first(n, k):
+        """21 before 2."""
+        return 21 if n > 64 or not 1 <= k <= 3 else db.tile_refusal(n, k)
+
+    def far_is_2(n, k):
+        """2 for N over 64."""
+        return 2 if n > 64 else db.tile_refusal(n, k)
+
+    def none_is_refused(n, k):
+        """21 where N is below k."""
+        return db.tile_refusal(n, k) or (21 if n < k else 0)
+
+    def any_size(n, k):
+        """N need not be a power of two."""
+        return 0 if 1 <= n <= 64 and 1 <= k <= 3 else db.tile_refusal(n, k)
+
+    def low_bits(width, of_n):
+        """N or k is looked at in its low bits alone."""
+        low = (1 << width) - 1
+        return lambda good, n, k, counts: good(
+            n & low if of_n else n, k if of_n else k & low, counts)
+
+    def other_order(good, n, k, counts):
+        return good(k, n, counts)
+
+    def second_of_refused(good, n, k, counts):
+        """A refusal writes the second count."""
+        answer = good(n, k, counts)
+        if answer:
+            stand_in.put_words(counts + 4, [0])
+        return answer
+
+    def third_count(good, n, k, counts):
+        stand_in.put_words(counts + 8, [0])
+        return good(n, k, counts)
+
+    def none_is_left(good, n, k, counts):
+        """Nothing is written where N is below k."""
+        before = stand_in.get_words(counts, 2)
+        answer = good(n, k, counts)
+        if n < k:
+            stand_in.put_words(counts, before)
+        return answer
+
+    # the first is no fault: the same counts by failing chains
+    expect("counts by failing chains are equal",
+           differs(faulty("tile_counts", other_counts()), 2, first,
+                   first + 600), False)
+    for number, fault in enumerate([
+            number_of_refused, second_of_refused, third_count, none_is_left,
+            other_order, low_bits(8, True), low_bits(16, True),
+            low_bits(31, True), low_bits(8, False), low_bits(16, False),
+            low_bits(31, False),
+            other_counts(sets_of=combinations_with_replacement),
+            other_counts(sets_of=permutations),
+            other_counts(sets_of=lambda offsets, k: [
+                s for size in range(1, k + 1)
+                for s in combinations(offsets, size)]),
+            other_counts(sets_of=lambda offsets, k: combinations(
+                offsets[1:], k)),
+            other_counts(days_of=alone),
+            other_counts(days_of=lambda n, offsets, table: n),
+            other_counts(days_of=lambda n, offsets, table: len(offsets)),
+            other_counts(days_of=lambda n, offsets, table:
+                         2 ** table[:-1].count(0)),
+            other_counts(days_of=lambda n, offsets, table:
+                         2 ** table[1:].count(0)),
+            other_counts(days_of=lambda n, offsets, table:
+                         2 ** table[1:-1].count(1)),
+            other_counts(days_of=lambda n, offsets, table:
+                         2 * table[1:-1].count(0)),
+            other_counts(counts_of=lambda sets, listed: (listed, sets)),
+            other_counts(counts_of=lambda sets, listed: (
+                sets, listed % 2 ** 16)),
+            other_counts(counts_of=lambda sets, listed: (
+                sets, listed // max(sets, 1))),
+            other_counts(refuses=limits(days=128)),
+            other_counts(refuses=limits(days=32)),
+            other_counts(refuses=limits(least=0)),
+            other_counts(refuses=limits(most=4)),
+            other_counts(refuses=limits(most=2)),
+            other_counts(refuses=far_first), other_counts(refuses=far_is_2),
+            other_counts(refuses=none_is_refused),
+            other_counts(refuses=any_size)]):
+        for scheme in (1, 2, 3):
+            expect(f"fault {number} in tile_counts is found",
+                   differs(faulty("tile_counts", fault), scheme, first,
+                           first + 600), True)
+
     # the first is no fault: the same search by what is due
     expect("search by what is due is equal",
            differs(faulty("search", other_search()), 3, first, first + 200),
@@ -1612,7 +1838,8 @@ def main():
                  call_lists, pieces, service_bounds, made_up_records,
                  last_days, check_tests, check_refusals, reading_tests,
                  reading_large, reading_refusals, skipped_validations,
-                 searches, search_refusals, whole_chain, values_calls,
+                 searches, search_refusals, tiles, tile_refusals,
+                 whole_chain, values_calls,
                  record_values_calls, sizing, positions, compression,
                  record_layout, record_histories, record_made_up, comparison,
                  program, text_faults, expected_outputs):

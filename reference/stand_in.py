@@ -130,6 +130,13 @@ def position_of(scheme, n, f, d, chain, position):
     return refusal
 
 
+def tile_counts(n, k, counts):
+    refusal, *found = daybook.tile_counts(n, k)
+    if refusal == 0:
+        put_words(counts, found)
+    return refusal
+
+
 def version():
     return daybook.VERSION
 
@@ -140,4 +147,4 @@ def calls():
             "check": check, "read": read, "search": search, "values": values,
             "record_values": record_values, "forecast": forecast,
             "chain_at": chain_at, "position_of": position_of,
-            "version": version}
+            "tile_counts": tile_counts, "version": version}

@@ -102,6 +102,11 @@ def want_position_of(scheme, n, f, d, chain, position):
     return refusal, (scheme, n, f, d, chain, position if refusal else (place,))
 
 
+def want_tile_counts(n, k, counts):
+    refusal, *found = daybook.tile_counts(n, k)
+    return refusal, (n, k, counts if refusal else found)
+
+
 def want_version():
     return daybook.VERSION, ()
 
@@ -111,7 +116,8 @@ WANT = {"open": want_open, "add": want_add, "close": want_close,
         "search": want_search, "values": want_values,
         "record_values": want_record_values,
         "forecast": want_forecast, "chain_at": want_chain_at,
-        "position_of": want_position_of, "version": want_version}
+        "position_of": want_position_of, "tile_counts": want_tile_counts,
+        "version": want_version}
 
 
 def day_digests(d, ledger, ends):
