@@ -4,3 +4,5 @@ pub mod ReadLaws
 pub mod Figures
 pub mod SetLaws
 pub mod Calls
+pub mod LineLaws
+pub mod Statements

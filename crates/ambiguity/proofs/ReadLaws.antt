@@ -69,7 +69,7 @@ module _ (n f p : ℕ) (X l : List ℕ) (ok : layoutRefusal 2 n f n ≡ 0) (pass
 abbrev pub allBit : List ℕ → ℕ → Bool
 allBit S j = every (λ o. bitOf o j) S
 
-days-within : (n : ℕ) (S : List ℕ) → Inside n S → Within n (map suc S)
+pub days-within : (n : ℕ) (S : List ℕ) → Inside n S → Within n (map suc S)
 days-within n S f g m = let r = Memᴰ·of-map suc S m in let h = f (r .0) (r .1) in omega (arith, r .2)
 
 module _ (n : ℕ) (S : List ℕ) (ok : allowedN n ≡ true) (f : Inside n S) where
@@ -102,16 +102,18 @@ module _ (n : ℕ) (S : List ℕ) (ok : allowedN n ≡ true) (f : Inside n S) wh
       meets-of (map suc S) (coveredDays n (tile 0 n)) (suc x)
       (mem-keep (λ day. true) (lastDays n n) (suc x) (lastDays-mem n n (suc x) (omega arith) (omega arith) (f x m)) refl) (Memᴰ·map suc m)
 
-  pub listed-by-bits : (x : ℕ) → x among S → daysListed n S ≡ 2 ^ zeros (allBit S) (lg n)
+  -- the days that the definition's own call lists
+  pub own-listed : daysListed n S ≡ length (listing (chains 2 n n) n (tableOf (chains 2 n n) (map suc S)))
   unfolding daysListed tileRead tileTable
-  listed-by-bits x m =
-      let w = allowed-n-is n ok in
-      let in-days = days-within n S f in
-      let lay = one-tile n ok in
+  own-listed =
       let room : n ≤ length (days n) = rw (length-upFrom 1 n) (omega arith) in
-      let pass : allowedPassed n n 0 ≡ true = and-of (ltb 0 n) (divides n 0) (le-leb 1 n (w .some)) (eq-eqb (0 % n) 0 (zero-mod n)) in
-      read-listed n 1 0 (map suc S) (days n) lay pass room in-days ∙
+      let pass : allowedPassed n n 0 ≡ true = and-of (ltb 0 n) (divides n 0) (le-leb 1 n (allowed-n-is n ok .some)) (eq-eqb (0 % n) 0 (zero-mod n)) in
+      read-listed n 1 0 (map suc S) (days n) (one-tile n ok) pass room (days-within n S f)
+
+  pub listed-by-bits : (x : ℕ) → x among S → daysListed n S ≡ 2 ^ zeros (allBit S) (lg n)
+  listed-by-bits x m =
+      own-listed ∙
       ap length (sym (keep-all (isIn (lastDays n n)) (listing (chains 2 n n) n (tableOf (chains 2 n n) (map suc S)))
       (λ g i. let b = listing-within (chains 2 n n) n (tableOf (chains 2 n n) (map suc S)) g i in mem-has (lastDays-mem n n g (omega arith) (omega (arith, b .0)) (b .1))))) ∙
-      tile-listed n 1 n (map suc S) lay in-days n (w .some) (omega arith) (eq-eqb (n % n) 0 (mod-self n)) (first-fails x m) ∙
+      tile-listed n 1 n (map suc S) (one-tile n ok) (days-within n S f) n (allowed-n-is n ok .some) (omega arith) (eq-eqb (n % n) 0 (mod-self n)) (first-fails x m) ∙
       ap (λ z. 2 ^ z) (zeros-congr (λ j. not (meets (map suc S) (coveredDays n (tile (lg n - j) n)))) (allBit S) (lg n) chain-bit)
