@@ -24,6 +24,7 @@ mod signals;
 mod state;
 mod stop;
 mod summary;
+mod svg;
 
 use std::env;
 use std::io::{self, Write};
