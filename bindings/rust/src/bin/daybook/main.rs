@@ -2,8 +2,10 @@
 
 #![deny(unsafe_code)]
 
+mod ambiguity;
 mod arguments;
 mod chains;
+mod chart;
 mod commands;
 mod days;
 mod evidence;
