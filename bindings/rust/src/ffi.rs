@@ -101,6 +101,7 @@ mod c {
             chain: *const u32,
             position: *mut u32,
         ) -> u32;
+        pub fn daybook_tile_counts(n: u32, k: u32, counts: *mut u32) -> u32;
         pub fn daybook_version() -> u32;
     }
 }
@@ -281,6 +282,11 @@ pub fn position_of(
     unsafe { c::daybook_position_of(scheme, n, f, d, chain.as_ptr(), position.as_mut_ptr()) }
 }
 
+pub fn tile_counts(n: u32, k: u32, counts: &mut [u32; 2]) -> u32 {
+    // SAFETY: see above; counts has two places.
+    unsafe { c::daybook_tile_counts(n, k, counts.as_mut_ptr()) }
+}
+
 pub fn version() -> u32 {
     // SAFETY: it takes no pointer.
     unsafe { c::daybook_version() }
@@ -375,6 +381,36 @@ mod tests {
         let answer = search((3, 1, 1), 3, &table, 4, &mut list, &mut progress);
         assert_eq!(answer, 0);
         assert_eq!((list, progress), ([2, 66, 66, 66], [4, 1, 0]));
+    }
+
+    #[test]
+    fn refused_tile_counts_leave_the_counts() {
+        for (number, n, k) in [
+            (2, 0, 0),
+            (2, 0, 1),
+            (2, 3, 1),
+            (2, 3, 4),
+            (2, 512, 1),
+            (2, 512, 0),
+            (2, u32::MAX, u32::MAX),
+            (21, 128, 1),
+            (21, 256, 3),
+            (21, 256, 0),
+            (21, 1, 0),
+            (21, 4, 0),
+            (21, 4, 4),
+            (21, 64, u32::MAX),
+        ] {
+            let mut counts = [77, 78];
+            assert_eq!(tile_counts(n, k, &mut counts), number, "N {n}, k {k}");
+            assert_eq!(counts, [77, 78], "N {n}, k {k}");
+        }
+        // the two places and none beside them
+        for (n, k, counted) in [(4, 1, [4, 9]), (64, 3, [41_664, 1_839_856]), (2, 3, [0, 0])] {
+            let mut places = [[76, 77], [78, 79], [80, 81]];
+            assert_eq!(tile_counts(n, k, &mut places[1]), 0);
+            assert_eq!(places, [[76, 77], counted, [80, 81]]);
+        }
     }
 
     /// Settings and D that are refused, and those of a book of 35 values.

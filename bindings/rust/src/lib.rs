@@ -6,7 +6,8 @@
 //! hashes the ledger again and compares it with the book; [`read`] lists the days that the outcomes
 //! tell of, and [`search`] does so chain by chain, up to a limit. [`forecast`] says from the lengths of
 //! the days what sealing them will take; [`chain_at`] and [`position_of`] lead from a position of a
-//! book to its chain, and back. A call that is refused gives its [`Refusal`] and changes nothing.
+//! book to its chain, and back. [`tile_counts`] says how vague a tile is, for those who choose N. A
+//! call that is refused gives its [`Refusal`] and changes nothing.
 //!
 //! ```
 //! use daybook::{check_to_vecs, read_to_vec, Layout, Refusal, Service};
@@ -34,6 +35,7 @@
 #![warn(missing_docs)]
 #![warn(clippy::missing_errors_doc, clippy::must_use_candidate)]
 
+mod ambiguity;
 mod book;
 #[allow(unsafe_code)]
 mod ffi;
@@ -44,6 +46,7 @@ mod search;
 mod service;
 mod sizing;
 
+pub use ambiguity::{tile_counts, TileCounts};
 pub use book::{
     check, check_to_vecs, read, read_to_vec, seal, seal_to_vec, validation_before, values, Checked,
     Reading,

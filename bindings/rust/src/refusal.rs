@@ -53,11 +53,13 @@ pub enum Refusal {
     BadPassed = 19,
     /// A search of a table whose scheme is not 3.
     NotTree = 20,
+    /// Tile counts of N over 64, or of k that is 0 or over 3.
+    NotCounted = 21,
 }
 
 impl Refusal {
     /// Every refusal, by number. 15 is one of the program `readtable` and of no call.
-    pub const ALL: [Refusal; 19] = [
+    pub const ALL: [Refusal; 20] = [
         Refusal::BadScheme,
         Refusal::BadN,
         Refusal::BadF,
@@ -77,9 +79,10 @@ impl Refusal {
         Refusal::NotInBook,
         Refusal::BadPassed,
         Refusal::NotTree,
+        Refusal::NotCounted,
     ];
 
-    /// The number of the cause: 1 to 14, or 16 to 20.
+    /// The number of the cause: 1 to 14, or 16 to 21.
     #[must_use]
     pub const fn number(self) -> u32 {
         self as u32
@@ -141,6 +144,7 @@ impl Refusal {
                 "the day of the last passed check is not below D, or N does not divide it"
             }
             Refusal::NotTree => "the scheme is not 3, and only tables of the tree are searched",
+            Refusal::NotCounted => "N is over 64, or k is not 1, 2 or 3",
         }
     }
 }
@@ -158,9 +162,9 @@ mod tests {
     use super::*;
 
     #[test]
-    fn numbers_are_1_to_20_without_15() {
+    fn numbers_are_1_to_21_without_15() {
         let numbers: Vec<u32> = Refusal::ALL.into_iter().map(Refusal::number).collect();
-        assert_eq!(numbers, (1..=14).chain(16..=20).collect::<Vec<u32>>());
+        assert_eq!(numbers, (1..=14).chain(16..=21).collect::<Vec<u32>>());
     }
 
     #[test]
@@ -170,7 +174,7 @@ mod tests {
             assert_eq!(Refusal::answer(refusal.number()), Err(refusal));
         }
         assert_eq!(Refusal::answer(0), Ok(()));
-        for number in [0, 15, 21, u32::MAX] {
+        for number in [0, 15, 22, u32::MAX] {
             assert_eq!(Refusal::from_number(number), None);
         }
     }

@@ -477,7 +477,18 @@ fn version_and_help() {
     let all = run(&folder, "--help").1;
     said(&folder, "help", (0, &all), &[]);
     for command in [
-        "open", "add", "close", "status", "seal", "check", "read", "verify", "forecast", "locate",
+        "open",
+        "add",
+        "close",
+        "status",
+        "seal",
+        "check",
+        "read",
+        "search",
+        "verify",
+        "forecast",
+        "locate",
+        "ambiguity",
     ] {
         assert!(all.contains(&format!("daybook {command} ")), "{command}");
         let text = run(&folder, &format!("{command} --help")).1;

@@ -344,6 +344,7 @@ fn help() {
         ("verify -h", "daybook verify --scheme"),
         ("forecast --help", "daybook forecast --scheme"),
         ("locate --help", "daybook locate --scheme"),
+        ("ambiguity --help", "daybook ambiguity [--line]"),
     ] {
         let (status, out, messages) = run(&folder, line);
         assert_eq!((status, messages.as_str()), (0, ""));

@@ -1,12 +1,15 @@
 //! The picture that `daybook verify --figure` draws.
 
 mod common;
+#[path = "common/picture.rs"]
+mod picture;
 
 use std::fs;
 use std::path::Path;
 use std::process::{Command, Stdio};
 
 use common::{ledger, Folder};
+use picture::{has, well_formed};
 
 const PROGRAM: &str = env!("CARGO_BIN_EXE_daybook");
 
@@ -54,34 +57,6 @@ fn drawn(folder: &Folder, layout: &str, status: i32) -> (String, String) {
     let picture = fs::read_to_string(folder.file("out.svg")).unwrap();
     well_formed(&picture);
     (picture, ran.2)
-}
-
-/// Every element that starts ends, in order; nothing is taken from elsewhere and nothing runs.
-fn well_formed(picture: &str) {
-    let mut open = Vec::new();
-    let mut rest = picture;
-    while let Some((_, behind)) = rest.split_once('<') {
-        let (tag, after) = behind.split_once('>').unwrap();
-        let name = |tag: &str| tag.split_whitespace().next().unwrap().to_string();
-        match tag.strip_prefix('/') {
-            Some(ended) => assert_eq!(open.pop(), Some(name(ended))),
-            None if tag.ends_with('/') => {}
-            None => open.push(name(tag)),
-        }
-        rest = after;
-    }
-    assert_eq!(open, Vec::<String>::new());
-    assert!(picture.starts_with("<svg xmlns=\"http://www.w3.org/2000/svg\""));
-    for foreign in ["script", "href", "@import", "&"] {
-        assert!(!picture.contains(foreign), "{foreign}");
-    }
-}
-
-fn has(picture: &str, line: &str) {
-    assert!(
-        picture.lines().any(|found| found == line),
-        "{line}\n{picture}"
-    );
 }
 
 #[test]

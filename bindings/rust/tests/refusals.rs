@@ -5,8 +5,8 @@ mod common;
 use common::{day, ledger};
 use daybook::{
     chain_at, check, check_to_vecs, forecast, position_of, read, read_to_vec, seal, seal_to_vec,
-    search, search_to_vec, validation_before, values, Chain, Kind, Layout, Refusal, Service,
-    RECORD,
+    search, search_to_vec, tile_counts, validation_before, values, Chain, Kind, Layout, Refusal,
+    Service, RECORD,
 };
 
 /// Settings that are not allowed, with their refusal. Where two causes meet, the first test tells.
@@ -69,6 +69,9 @@ fn settings_by_every_call() {
         assert_eq!(forecast(layout, 0, &[]), Err(refusal));
         assert_eq!(chain_at(layout, 0, u32::MAX), Err(refusal));
         assert_eq!(position_of(layout, 0, NOWHERE), Err(refusal));
+        if refusal == Refusal::BadN {
+            assert_eq!(tile_counts(n, 0), Err(refusal), "{layout}");
+        }
     }
 }
 

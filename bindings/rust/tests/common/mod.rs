@@ -130,8 +130,12 @@ pub fn book(layout: Layout, days: &[Vec<u8>]) -> Vec<u8> {
 
 /// The table that a set of changed days gives.
 pub fn table(layout: Layout, d: u32, changed: &[u32]) -> Vec<u8> {
+    outcomes(&chains(layout, d), changed)
+}
+
+/// The outcomes of chains, each as the days that it covers.
+pub fn outcomes(chains: &[Vec<u32>], changed: &[u32]) -> Vec<u8> {
     let fails = |chain: &Vec<u32>| chain.iter().any(|day| changed.contains(day));
-    let chains = chains(layout, d);
     chains.iter().map(|chain| u8::from(!fails(chain))).collect()
 }
 

@@ -208,6 +208,22 @@ fn outcomes_with_their_digests() {
     explore_all(&bench, sealed, &[step]);
 }
 
+/// A figure over another one: it is the old one or the new one, whatever stops the run.
+#[test]
+#[ignore = "run by .ci/crash"]
+fn a_figure() {
+    let bench = bench("daybook-figure", PROGRAM);
+    let mut start = Tree::new();
+    file(&mut start, "chart.svg", "<svg>old</svg>\n");
+    let whole = |tree: &Tree| match tree.get("chart.svg") {
+        Some(Some(text)) => text.ends_with(b"</svg>\n"),
+        _ => false,
+    };
+    assert!(whole(&start));
+    let step = Step::new("ambiguity --figure chart.svg", "status none");
+    explore_all(&bench, start, &[step.holding(whole)]);
+}
+
 /// The shim sees every call: strace, where there is one, counts as many.
 #[test]
 #[ignore = "run by .ci/crash"]

@@ -87,6 +87,11 @@ pub enum Command {
         /// Whether position and chain are one line for programs.
         line: bool,
     },
+    Ambiguity {
+        /// Whether the counts are lines for programs.
+        line: bool,
+        figure: Option<PathBuf>,
+    },
 }
 
 /// The last day at which a check passed, 0 for none.
@@ -127,7 +132,7 @@ type Form = (
     fn(&mut Options) -> Result<Command, Stop>,
 );
 
-const FORMS: [Form; 11] = [
+const FORMS: [Form; 12] = [
     (
         "open",
         help::OPEN,
@@ -241,6 +246,17 @@ const FORMS: [Form; 11] = [
             "--line",
         ],
         locate,
+    ),
+    (
+        "ambiguity",
+        help::AMBIGUITY,
+        &["--line", "--figure"],
+        |options| {
+            Ok(Command::Ambiguity {
+                line: options.flag("--line"),
+                figure: options.path("--figure"),
+            })
+        },
     ),
 ];
 
@@ -955,6 +971,31 @@ mod tests {
     }
 
     #[test]
+    fn ambiguities() {
+        let ambiguity = |line, figure: Option<&str>| {
+            let figure = figure.map(PathBuf::from);
+            Ok(Request::Run(Command::Ambiguity { line, figure }))
+        };
+        assert_eq!(parsed("ambiguity"), ambiguity(false, None));
+        assert_eq!(parsed("ambiguity --line"), ambiguity(true, None));
+        let both = ambiguity(true, Some("f"));
+        assert_eq!(parsed("ambiguity --line --figure f"), both);
+        assert_eq!(parsed("ambiguity --figure=f --line"), both);
+        for (words, said) in [
+            ("4", "ambiguity has no option 4"),
+            ("--n 4", "ambiguity has no option --n"),
+            ("--lines", "ambiguity has no option --lines"),
+            ("--line=yes", "--line takes no value"),
+            ("--line --line", "--line is given twice"),
+            ("--figure", "--figure has no value"),
+            ("--figure --line", "--figure has no value"),
+            ("--figure f --figure f", "--figure is given twice"),
+        ] {
+            assert_eq!(message(&format!("ambiguity {words}")), said);
+        }
+    }
+
+    #[test]
     fn services() {
         let service = |folder: &str, service| {
             Ok(Request::Run(Command::Service {
@@ -1023,6 +1064,7 @@ mod tests {
         assert_eq!(parsed("verify --help"), Ok(Request::Help(help::VERIFY)));
         assert_eq!(parsed("forecast -h"), Ok(Request::Help(help::FORECAST)));
         assert_eq!(parsed("locate -h"), Ok(Request::Help(help::LOCATE)));
+        assert_eq!(parsed("ambiguity -h"), Ok(Request::Help(help::AMBIGUITY)));
         assert_eq!(parsed("help"), Ok(Request::Help(help::ALL)));
         assert_eq!(parsed("help read"), Ok(Request::Help(help::READ)));
         assert_eq!(parsed("--version"), Ok(Request::Help(help::VERSION)));

@@ -9,6 +9,7 @@ use std::path::{Path, PathBuf};
 use daybook::{check_to_vecs, read_to_vec, seal_to_vec, validation_before, values};
 use daybook::{Checked, Layout, Reading, Refusal, Service, VALUE};
 
+use crate::ambiguity::ambiguity;
 use crate::arguments::{Command, Passed, Source};
 use crate::days::{add_file, Days, Halt, Ledger};
 use crate::evidence::{test_book, Book};
@@ -144,6 +145,7 @@ pub fn run(command: &Command) -> Result<Done, Stop> {
             sought,
             line,
         } => locate(*layout, *d, *sought, *line),
+        Command::Ambiguity { line, figure } => ambiguity(*line, figure.as_deref()),
     }
 }
 

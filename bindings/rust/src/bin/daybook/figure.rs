@@ -6,6 +6,7 @@ use daybook::{Layout, Reading};
 
 use crate::chains::{chains, scheme_name, Chain, Kind};
 use crate::summary::{runs_of, when};
+use crate::svg::{short, Svg};
 
 /// Days drawn at most; of more, as many of them around the listed days.
 const MOST_DAYS: u32 = 2048;
@@ -92,7 +93,8 @@ impl Verified<'_> {
         let window = self.window();
         let rows = self.rows();
         let mut picture = Picture::new(window, rows.len());
-        picture.heading(&self.title(window), &self.found(), &self.time());
+        let (found, time) = (self.found(), self.time());
+        picture.svg.heading(&self.title(window), [&found, &time]);
         picture.bands(self.days);
         picture.intervals(self.layout.n);
         for (place, row) in rows.iter().enumerate() {
@@ -173,7 +175,7 @@ fn black_rows(blacks: &[(Chain, u8)]) -> Vec<Row> {
 
 /// The text of the picture, and where its days stand.
 struct Picture {
-    text: String,
+    svg: Svg,
     first: u32,
     last: u32,
     /// Width of the days together, and of one.
@@ -188,7 +190,7 @@ impl Picture {
         let days = f64::from(last - first + 1);
         let width = WIDTH.max(days);
         Picture {
-            text: String::new(),
+            svg: Svg::default(),
             first,
             last,
             width,
@@ -208,33 +210,6 @@ impl Picture {
         self.start(day + 1)
     }
 
-    fn put(&mut self, line: &str) {
-        self.text.push_str(line);
-        self.text.push('\n');
-    }
-
-    fn label(&mut self, class: &str, x: f64, y: f64, text: &str) {
-        let (x, y) = (short(x), short(y));
-        self.put(&format!(
-            "<text class=\"{class}\" x=\"{x}\" y=\"{y}\">{text}</text>"
-        ));
-    }
-
-    fn line(&mut self, class: &str, (x1, y1): (f64, f64), (x2, y2): (f64, f64)) {
-        let (x1, y1, x2, y2) = (short(x1), short(y1), short(x2), short(y2));
-        self.put(&format!(
-            "<path class=\"{class}\" d=\"M{x1} {y1}L{x2} {y2}\"/>"
-        ));
-    }
-
-    fn heading(&mut self, title: &str, found: &str, time: &str) {
-        self.put(&format!("<title>{title}</title>"));
-        self.put(&format!("<desc>{found} {time}</desc>"));
-        self.label("title", 16.0, 26.0, title);
-        self.label("note", 16.0, 47.0, found);
-        self.label("note", 16.0, 65.0, time);
-    }
-
     /// A shade behind the listed days.
     fn bands(&mut self, days: &[u32]) {
         let mut path = String::new();
@@ -244,7 +219,7 @@ impl Picture {
                 path += &bar(x, TOP, (end - x).max(MARK), self.bottom - TOP + ROW);
             }
         }
-        self.paths("band", &path);
+        self.svg.paths("band", &path);
     }
 
     /// A line where an interval ends, if these do not stand too close.
@@ -255,13 +230,13 @@ impl Picture {
         let first = self.first.next_multiple_of(n);
         for day in (first..self.last).step_by(n as usize) {
             let x = self.close(day);
-            self.line("interval", (x, TOP), (x, self.bottom));
+            self.svg.line("interval", (x, TOP), (x, self.bottom));
         }
     }
 
     fn row(&mut self, place: usize, row: &Row) {
         let middle = TOP + ROW * (place as f64 + 0.5);
-        self.label("row", LEFT - 10.0, middle + 4.0, &row.label);
+        self.svg.label("row", LEFT - 10.0, middle + 4.0, &row.label);
         let [mut pass, mut fail, mut links] = [const { String::new() }; 3];
         let mut fine = false;
         for (chain, outcome) in &row.bars {
@@ -286,11 +261,11 @@ impl Picture {
                 let _ = write!(links, "M{x} {y}H{end}");
             }
         }
-        self.paths("link", &links);
-        self.paths(if fine { "fine" } else { "pass" }, &pass);
-        self.paths("fail", &fail);
+        self.svg.paths("link", &links);
+        self.svg.paths(if fine { "fine" } else { "pass" }, &pass);
+        self.svg.paths("fail", &fail);
         if !fine {
-            self.paths("hatch", &fail);
+            self.svg.paths("hatch", &fail);
         }
     }
 
@@ -323,12 +298,6 @@ impl Picture {
         bar(self.start(first), top, width.max(MARK), FAIL)
     }
 
-    fn paths(&mut self, class: &str, path: &str) {
-        if !path.is_empty() {
-            self.put(&format!("<path class=\"{class}\" d=\"{path}\"/>"));
-        }
-    }
-
     /// The rows of what was read.
     fn reading(&mut self, rows: usize, verified: &Verified) {
         let middle = |row: usize| TOP + ROW * (row as f64 + 0.5);
@@ -337,15 +306,16 @@ impl Picture {
             self.span("last good", last_good, (0, last_good), middle(rows));
             return;
         }
-        self.label("row", LEFT - 10.0, middle(rows) + 4.0, "listed days");
+        self.svg
+            .label("row", LEFT - 10.0, middle(rows) + 4.0, "listed days");
         let mut path = String::new();
         for run in self.marks(verified.days) {
             path += &self.mark(run, middle(rows));
         }
-        self.paths("listed", &path);
+        self.svg.paths("listed", &path);
         self.span("last good", last_good, (0, last_good), middle(rows + 1));
         let y = middle(rows + 2);
-        self.label(
+        self.svg.label(
             "row",
             LEFT - 10.0,
             y + 4.0,
@@ -367,7 +337,8 @@ impl Picture {
     }
 
     fn span(&mut self, name: &str, day: u32, days: (u32, u32), y: f64) {
-        self.label("row", LEFT - 10.0, y + 4.0, &format!("{name} {day}"));
+        self.svg
+            .label("row", LEFT - 10.0, y + 4.0, &format!("{name} {day}"));
         self.bracket(days, y);
     }
 
@@ -381,13 +352,13 @@ impl Picture {
             _ => None,
         };
         if let Some(text) = missed {
-            return self.label("key", LEFT, y + 4.0, text);
+            return self.svg.label("key", LEFT, y + 4.0, text);
         }
         let (top, bottom) = (y - 5.0, y + 5.0);
-        self.line("bracket", (x, y), (end, y));
+        self.svg.line("bracket", (x, y), (end, y));
         for (day, x) in [(from, x), (to, end)] {
             if day + 1 >= self.first && day <= self.last {
-                self.line("bracket", (x, top), (x, bottom));
+                self.svg.line("bracket", (x, top), (x, bottom));
             }
         }
     }
@@ -396,13 +367,13 @@ impl Picture {
     fn bound(&mut self, class: &str, day: u32, bottom: f64) {
         if day + 1 > self.first && day <= self.last {
             let x = self.close(day);
-            self.line(class, (x, TOP - 6.0), (x, bottom));
+            self.svg.line(class, (x, TOP - 6.0), (x, bottom));
         }
     }
 
     fn axis(&mut self, rows: usize) {
         let y = TOP + ROW * rows as f64 + 4.0;
-        self.line("axis", (LEFT, y), (LEFT + self.width, y));
+        self.svg.line("axis", (LEFT, y), (LEFT + self.width, y));
         let mut step = 1;
         while self.day * f64::from(step) < 44.0 && step < self.last {
             step *= 2;
@@ -413,12 +384,13 @@ impl Picture {
             }
             let x = (self.start(day) + self.close(day)) / 2.0;
             let near = day != self.first && self.start(day) - LEFT < 26.0;
-            self.line("axis", (x, y), (x, y + 5.0));
+            self.svg.line("axis", (x, y), (x, y + 5.0));
             if !near {
-                self.label("tick", x, y + 18.0, &day.to_string());
+                self.svg.label("tick", x, y + 18.0, &day.to_string());
             }
         }
-        self.label("tick", LEFT + self.width / 2.0, y + 36.0, "day");
+        self.svg
+            .label("tick", LEFT + self.width / 2.0, y + 36.0, "day");
     }
 
     fn legend(&mut self, rows: usize, scheme: u32) {
@@ -431,19 +403,19 @@ impl Picture {
         let mut x = LEFT;
         for (class, height, text) in bars {
             let path = bar(x, y - height / 2.0, 30.0, height);
-            self.paths(class, &path);
+            self.svg.paths(class, &path);
             if class == "fail" {
-                self.paths("hatch", &path);
+                self.svg.paths("hatch", &path);
             }
-            self.label("key", x + 38.0, y + 4.0, text);
+            self.svg.label("key", x + 38.0, y + 4.0, text);
             x += 170.0;
         }
         for (class, text) in [
             ("good", "close of the last good day"),
             ("bound", "low and high"),
         ] {
-            self.line(class, (x, y), (x + 30.0, y));
-            self.label("key", x + 38.0, y + 4.0, text);
+            self.svg.line(class, (x, y), (x + 30.0, y));
+            self.svg.label("key", x + 38.0, y + 4.0, text);
             x += 220.0;
         }
         let text = match scheme {
@@ -453,29 +425,18 @@ impl Picture {
             }
             _ => "A value stands over the days that it covers.",
         };
-        self.label("key", LEFT, y + 26.0, text);
+        self.svg.label("key", LEFT, y + 26.0, text);
         self.bottom = y + 42.0;
     }
 
-    /// The whole text: head, styles and what was put.
     fn end(self) -> String {
-        let (width, height) = (short(LEFT + self.width + RIGHT), short(self.bottom));
-        format!(
-            "<svg xmlns=\"http://www.w3.org/2000/svg\" width=\"{width}\" height=\"{height}\" \
-             viewBox=\"0 0 {width} {height}\" role=\"img\">\n{STYLE}\
-             <rect width=\"{width}\" height=\"{height}\" fill=\"#fff\"/>\n{}</svg>\n",
-            self.text
-        )
+        let size = (LEFT + self.width + RIGHT, self.bottom);
+        self.svg.whole(size, STYLE, DEFS)
     }
 }
 
 /// Dark and light tell failing from passing without colour, and so do height and hatching.
 const STYLE: &str = "\
-<style>
-text { font-family: sans-serif; font-size: 12px; fill: #222 }
-.title { font-size: 16px; font-weight: bold }
-.row { text-anchor: end }
-.tick { text-anchor: middle; font-size: 11px }
 .band { fill: #f3e3b5 }
 .interval { stroke: #d5d5d5; stroke-width: 1 }
 .link { stroke: #8a97a3; stroke-width: 1; fill: none }
@@ -488,7 +449,9 @@ text { font-family: sans-serif; font-size: 12px; fill: #222 }
 .bound { stroke: #222; stroke-width: 1.5; stroke-dasharray: 6 4 }
 .good { stroke: #222; stroke-width: 1.5; stroke-dasharray: 1.5 3 }
 .axis { stroke: #222; stroke-width: 1 }
-</style>
+";
+
+const DEFS: &str = "\
 <defs>
 <pattern id=\"lines\" width=\"6\" height=\"6\" patternUnits=\"userSpaceOnUse\" patternTransform=\"rotate(45)\">
 <rect width=\"1.2\" height=\"6\" fill=\"#fff\"/>
@@ -500,12 +463,6 @@ text { font-family: sans-serif; font-size: 12px; fill: #222 }
 fn bar(x: f64, y: f64, width: f64, height: f64) -> String {
     let (x, y, width, height) = (short(x), short(y), short(width), short(height));
     format!("M{x} {y}h{width}v{height}h-{width}z")
-}
-
-/// A number with at most two places behind the point.
-fn short(number: f64) -> String {
-    let text = format!("{number:.2}");
-    text.trim_end_matches('0').trim_end_matches('.').to_string()
 }
 
 #[cfg(test)]

@@ -24,6 +24,9 @@ A season before it is sealed:
 A value that a letter quotes:
   daybook locate    say which days the value at a position of the book is about, or the other way
 
+A layout before it is chosen:
+  daybook ambiguity  say how many days a tile of N days lists where 1, 2 or 3 of them were altered
+
 daybook help COMMAND, or daybook COMMAND --help, says more of each; daybook --version the version.
 An option is written --option value or --option=value.
 
@@ -33,7 +36,8 @@ A command that reads prints the lines
 on standard output (clean: REF,scheme,0,0,0,0,D). A refusal prints NO,number there.
 search prints SEARCH,looked,found,undecided in place of REF, and a DAY line for each day found.
 forecast prints the sizes there, with --line as SIZE,scheme,values,bytes,blocks; locate the chain or
-its position, with --line as CHAIN,position,kind,index,first,last.
+its position, with --line as CHAIN,position,kind,index,first,last; ambiguity a table, with --line as
+N,k,sets,listed for each N and k.
 Messages go to standard error.
 
 Exit status:
@@ -251,4 +255,19 @@ and the days. With a chain in place of a position it says the position. The book
 
 A position beyond the values, or a chain that is not in the book, is refusal 18. All four of a chain
 must agree. A value that scheme 3 stores once, for black and for the tree, is in the book as tree.
+";
+
+pub const AMBIGUITY: &str = "\
+daybook ambiguity [--line] [--figure FILE]
+
+Says how vague a tile is, for those who choose N: one tile of N days by itself, under scheme 2 (tile),
+k of which were altered. For N 1, 2, 4 up to 64 and k 1, 2, 3 a table has
+  sets      the sets of k different days that the tile has; none where N is below k
+  listed    the days that read lists, added up over all these sets
+  a set     the days that it lists for one of them, on average
+No file is read.
+
+  --line          print lines for programs: N,k,sets,listed. Each of the 21 stands once; their order may
+                  change
+  --figure FILE   a picture to write, as SVG: the days listed by N and by k, over all sets and a set
 ";

@@ -2,8 +2,10 @@
 
 #![deny(unsafe_code)]
 
+mod ambiguity;
 mod arguments;
 mod chains;
+mod chart;
 mod commands;
 mod days;
 mod evidence;
@@ -24,6 +26,7 @@ mod signals;
 mod state;
 mod stop;
 mod summary;
+mod svg;
 
 use std::env;
 use std::io::{self, Write};
