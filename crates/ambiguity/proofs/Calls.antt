@@ -92,13 +92,16 @@ pub says-not-counted : SaysNotCounted
 says-not-counted n k = (
   λ e. let r : countRefusal n k ≡ 21 = sym (number-is n k) ∙ e in elim (split (allowedN n)) [
     | inr q ↦ absurd (omega (arith, refused-2 n k q))
-    | inl q ↦ (q, elim (decLe n 64) [
+    | inl q ↦ (
+      q,
+      elim (decLe n 64) [
         | no h ↦ inl (omega arith)
         | yes h ↦ inr (elim (decLe 1 k) [
-            | no l ↦ inl (omega arith)
-            | yes l ↦ inr (elim (decLe k 3) [ no m ↦ omega arith | yes m ↦ absurd (omega (arith, not-refused n k q h (λ z. absurd (omega arith)) m)) ])
-          ])
-      ])
+          | no l ↦ inl (omega arith)
+          | yes l ↦ inr (elim (decLe k 3) [ no m ↦ omega arith | yes m ↦ absurd (omega (arith, not-refused n k q h (λ z. absurd (omega arith)) m)) ])
+        ])
+      ],
+    )
   ],
   λ p. number-is n k ∙ sym (elim (p .1) [
     | inl l ↦ large-refused n k (p .0) l

@@ -4,7 +4,7 @@ use mathlib.Core.Bool.{Bool, true, _&&_}
 use mathlib.Core.List.{List, [], _∷_, _++_, map, flatMap, map-append, append-nil}
 use Prim.Native.Nat.{ℕ, zero, suc, _+_, _*_, _^_, _≤_, _<_}
 use native.Mathlib.{Numerals.add-one, Omega.arith}
-use lib.{Dec.leb, ListN.length, ListN.set, ListN.drop, ListN.length-append}
+use lib.{Dec.leb, ListN.length, ListN.set, ListN.take, ListN.drop, ListN.length-append, Seq.length-take-le}
 use Rattle.lists.specs.Lists.{every, upFrom, joined}
 use borrow.Author.Tests.{leb-true}
 use Rattle.lists.proofs.Laws.{and-both, every-at, upFrom-mem, upFrom-snoc, flatMap-append, flatMap-one, joined-append, joined-one, joined-single}
@@ -131,3 +131,10 @@ pub printed-once : {r : ℕ} {l m : List ℕ} → Wrote 0 (textIn (ascending 7))
 unfolding flatMap
 printed-once {r} w = let e : r ≡ length (textIn (ascending 7)) = omega (arith, w .count) in
     record { order = ascending 7; once = refl; size = e; text = wrote-front r w (sym e) }
+
+-- what was written lies in the buffer
+pub printed-fits : {r : ℕ} {l m : List ℕ} → Printed l r m → r ≤ length m
+printed-fits {r} {l} p = omega (arith, p .size, ap length (p .text), length-append (textIn (p .order)) (drop r l))
+
+pub printed-part : {r : ℕ} {l m : List ℕ} → Printed l r m → r ≡ length (take r m)
+printed-part {r} {l} {m} p = sym (length-take-le r m (printed-fits p))

@@ -34,10 +34,21 @@ unfolding layoutRefusal
 one-tile n ok =
     let w = allowed-n-is n ok in
     let e : 1 * n ≡ n = omega arith in
-    all-pass (layoutTests 2 n 1 n)
-    (refl, (ok, (refl, (and-of (leb 1 n && leb n 65536) (divides (1 * n) n)
-    (and-of (leb 1 n) (leb n 65536) (le-leb 1 n (w .some)) (le-leb n 65536 (let m = w .most in omega arith)))
-    (eq-eqb (n % (1 * n)) 0 (rw (e, mod-self n))), tt))))
+    all-pass (layoutTests 2 n 1 n) (
+      refl,
+      (
+        ok,
+        (
+          refl,
+          (
+            and-of (leb 1 n && leb n 65536) (divides (1 * n) n)
+                (and-of (leb 1 n) (leb n 65536) (le-leb 1 n (w .some)) (le-leb n 65536 (let m = w .most in omega arith)))
+                (eq-eqb (n % (1 * n)) 0 (rw (e, mod-self n))),
+            tt,
+          ),
+        ),
+      ),
+    )
 
 -- a set's table of one tile: read says so many days, whatever P, F and list it takes
 module _ (n f p : ℕ) (X l : List ℕ) (ok : layoutRefusal 2 n f n ≡ 0) (pass : allowedPassed n n p ≡ true) (room : n ≤ length l) (w : Within n X) where

@@ -39,9 +39,10 @@ set-there (suc k) i (suc n) (x ∷ S) a e f = elim (eq-or-lt-of-le (a .0)) [
 
 different-append : {A : Type 0} (xs ys : List A) → Different xs → Different ys → ((x : A) → x among xs → x among ys → ⊥) → Different (xs ++ ys)
 different-append [] ys d e f = e
-different-append (x ∷ xs) ys d e f =
-    (λ m. elim (List·Memᴰ·append-cases xs m) [ inl h ↦ d .0 h | inr h ↦ f x (List·Memᴰ·head refl) h ],
-    different-append xs ys (d .1) e (λ y m h. f y (List·Memᴰ·tail m) h))
+different-append (x ∷ xs) ys d e f = (
+  λ m. elim (List·Memᴰ·append-cases xs m) [ inl h ↦ d .0 h | inr h ↦ f x (List·Memᴰ·head refl) h ],
+  different-append xs ys (d .1) e (λ y m h. f y (List·Memᴰ·tail m) h),
+)
 
 different-more : (i : ℕ) (xs : List (List ℕ)) → Different xs → Different (map (λ R. i ∷ R) xs)
 different-more i [] d = tt

@@ -31,7 +31,11 @@ use Rattle.searching.specs.declared.Progress.{Progress}
 use Rattle.searching.specs.declared.Searched.{Searched}
 use Rattle.searching.specs.declared.Searched.the-variants as case-of-searched
 use Rattle.searching.specs.Searching.{searchedNumber}
-use Rattle.daybook_c.specs.Contract.{addedBytes, closedBytes, numbersAfter, valuesAfter, recordValuesAfter, sizesAfter, chainAfter, positionAfter, progressAfter}
+use Rattle.ambiguity.specs.declared.Counts.{Counts}
+use Rattle.ambiguity.specs.declared.Counting.{Counting}
+use Rattle.ambiguity.specs.declared.Counting.the-variants as case-of-counting
+use Rattle.ambiguity.specs.Ambiguity.{countingNumber}
+use Rattle.daybook_c.specs.Contract.{addedBytes, closedBytes, numbersAfter, valuesAfter, recordValuesAfter, sizesAfter, chainAfter, positionAfter, progressAfter, countsAfter}
 
 -- ---- add
 
@@ -192,3 +196,14 @@ module _ (answer : Searched) (old : List ℕ) where
   pub search-kept : (x : ℕ) → case-of-searched.Refused x ≡ answer → (x ≡ searchedNumber answer) × (old ≡ progressAfter answer old)
   unfolding progressAfter
   search-kept x e = (rw (← e), rw (← e))
+
+-- ---- tile_counts
+
+module _ (answer : Counting) (old : List ℕ) where
+  pub counts-given : (c : Counts) → case-of-counting.Counted c ≡ answer → (0 ≡ countingNumber answer) × (c .sets ∷ c .listed ∷ [] ≡ countsAfter answer old)
+  unfolding countsAfter
+  counts-given c e = (rw (← e), rw (← e))
+
+  pub counts-kept : (x : ℕ) → case-of-counting.Refused x ≡ answer → (x ≡ countingNumber answer) × (old ≡ countsAfter answer old)
+  unfolding countsAfter
+  counts-kept x e = (rw (← e), rw (← e))

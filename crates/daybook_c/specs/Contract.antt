@@ -15,6 +15,8 @@ use Rattle.positions.specs.declared.Place.the-variants as case-of-place
 use Rattle.positions.specs.Positions.{numbersOf}
 use Rattle.searching.specs.declared.Searched.{Searched}
 use Rattle.searching.specs.declared.Searched.the-variants as case-of-searched
+use Rattle.ambiguity.specs.declared.Counting.{Counting}
+use Rattle.ambiguity.specs.declared.Counting.the-variants as case-of-counting
 use Rattle.service.specs.Contract.{writingNumber, countOf, added, closing, writtenSoFar}
 
 -- add, on a record's bytes; blocks is what the number of blocks was before
@@ -86,6 +88,11 @@ unfoldable pub progressAfter : Searched → List ℕ → List ℕ
 progressAfter (case-of-searched.State p) progress = p .looked ∷ p .found ∷ p .undecided ∷ []
 progressAfter (case-of-searched.Refused number) progress = progress
 
+-- the two numbers after tile_counts: sets, listed (SPEC 21.2)
+unfoldable pub countsAfter : Counting → List ℕ → List ℕ
+countsAfter (case-of-counting.Counted c) counts = c .sets ∷ c .listed ∷ []
+countsAfter (case-of-counting.Refused number) counts = counts
+
 -- the version of the calls: 10000 · major + 100 · minor + patch
 abbrev pub version : ℕ
-version = 600
+version = 700

@@ -1,5 +1,6 @@
 // The calls for C and other languages, thin over the Rattle calls. Each returns 0, or the refusal's number.
 // include/daybook.h says what a caller must keep.
+use ambiguity::Counting;
 use positions::Located;
 use positions::Place;
 use record_bytes::RECORD_BYTES;
@@ -18,7 +19,8 @@ ghost use Rattle.reading.specs.Contract.{readout};
 ghost use Rattle.searching.specs.Searching.{searched, searchedNumber};
 ghost use Rattle.daybook_c.specs.Contract.{addedBytes, closedBytes, numbersAfter, valuesAfter};
 ghost use Rattle.daybook_c.specs.Contract.{recordValuesAfter, sizesAfter, chainAfter, positionAfter};
-ghost use Rattle.daybook_c.specs.Contract.{progressAfter, version};
+ghost use Rattle.ambiguity.specs.Ambiguity.{counted, countingNumber};
+ghost use Rattle.daybook_c.specs.Contract.{progressAfter, countsAfter, version};
 
 #[no_mangle]
 pub extern "C" fn daybook_open(scheme: u32, n: u32, f: u32, state: &mut [u8; RECORD_BYTES]) -> u32
@@ -280,8 +282,23 @@ pub extern "C" fn daybook_search(
 }
 
 #[no_mangle]
+pub extern "C" fn daybook_tile_counts(n: u32, k: u32, counts: &mut [u32; 2]) -> u32
+    ensures { λ r. ⌜ r ≡ countingNumber (counted n k) ⌝ }
+    ensures { λ r. ⌜ now (counts .exit) ≡ countsAfter (counted n k) (now (counts .entry)) ⌝ }
+{
+    let a = ambiguity::tile_counts(n, k);
+    match a {
+        Counting::Counted(c) => {
+            *counts = [c.sets, c.listed];
+            0
+        }
+        Counting::Refused(x) => x,
+    }
+}
+
+#[no_mangle]
 pub extern "C" fn daybook_version() -> u32
     ensures { λ r. ⌜ r ≡ version ⌝ }
 {
-    600
+    700
 }

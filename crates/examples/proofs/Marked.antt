@@ -7,8 +7,10 @@ use Rattle.lists.proofs.Laws.{true-or-false}
 use Rattle.evidence.proofs.TableLaws.{listing-ascends, given-iff-accepted, listed-iff}
 use Rattle.layouts.specs.Layouts.{lg, namesThrough, chains}
 use Rattle.reading.specs.Numbers.{lastGood}
+use Rattle.reading.specs.Contract.{readRefusal, readout, found, listedIn}
+use Rattle.ambiguity.specs.Ambiguity.{tileTable, tileRead, daysListed, offsetSets, sets, listed}
 use Rattle.searching.specs.Searching.{maximal, looks, foundIn, foundDays, daysUnder, progressOf}
-use Rattle.examples.specs.Examples.{Lists, NotGiven, Examples, LastGoods, Skipped, Searched}
+use Rattle.examples.specs.Examples.{Lists, NotGiven, Examples, LastGoods, Skipped, Searched, Figures}
 
 lists : (s n d : ℕ) (table list : List ℕ) → accepted (chains s n d) d table ≡ true → listing (chains s n d) d table ≡ list → Lists s n d table list
 lists s n d table list a e =
@@ -66,4 +68,13 @@ searched =
       clean = record { looked-at = refl; days-found = refl; undecided-is = refl };
       two-maximal = record { looked-at = refl; days-found = refl; undecided-is = refl };
       allowed = refl;
+    }
+
+pub figures : Figures
+unfolding tableOf lg namesThrough flatMap chains listing accepted readRefusal readout found listedIn lastGood tileTable tileRead daysListed offsetSets sets listed
+figures =
+    record {
+      one-of-4 = record { sets-are = refl; listed-are = refl };
+      two-of-4 = record { sets-are = refl; listed-are = refl };
+      two-of-1 = record { sets-are = refl; listed-are = refl };
     }

@@ -11,6 +11,7 @@ use Rattle.evidence.specs.Evidence.{tableOf, Gives}
 use Rattle.layouts.specs.Layouts.{lg, Name, tree, chains, valueCount}
 use Rattle.reading.specs.Numbers.{lowOf, validationBefore, lastGood}
 use Rattle.reading.specs.Contract.{allowedPassed}
+use Rattle.ambiguity.specs.Ambiguity.{sets, listed}
 use Rattle.searching.specs.Searching.{searchOf, foundDays, progressOf}
 
 -- some set gives the table, and the list is that of the days of such sets (SPEC 8.5), ascending, each once
@@ -95,3 +96,13 @@ pub record Searched : Type 0 where
   pub clean : Searches 4 [] 9 (tree 2 4 ∷ []) [] 0
   pub two-maximal : Searches 6 (2 ∷ 6 ∷ []) 9 walkOf6 (2 ∷ 6 ∷ []) 0
   pub allowed : ones 4 + 2 * 1 * lg 4 ≡ length walkOf4
+
+-- 02's figures (SPEC 21.8), by their definition: the table of each set is read
+pub record Counted (n k setCount listedCount : ℕ) : Type 0 where
+  pub sets-are : sets n k ≡ setCount
+  pub listed-are : listed n k ≡ listedCount
+
+pub record Figures : Type 0 where
+  pub one-of-4 : Counted 4 1 4 9
+  pub two-of-4 : Counted 4 2 6 20
+  pub two-of-1 : Counted 1 2 0 0

@@ -1,7 +1,7 @@
 // The calls on a ledger of 24 days: its values are counted, days of 130 bytes are sized, a chain and a position of its
 // book are found, it is sealed, checked with day 10 altered, read with P 0, with P 16, and with P 12, which is refused,
 // and searched, which is refused too. Then a table of the tree is searched: scheme 3, N 2, D 6, the days 2 and 6
-// changed.
+// changed; and the sets of two days of a tile of four are counted, and of four of two, which is refused.
 use crate::lines;
 use test_samples::days;
 use test_samples::lent;
@@ -112,6 +112,16 @@ fn search_tree() {
     print_search(returned, progress, &list);
 }
 
+fn tile_counts(n: u32, k: u32) {
+    let mut counts = [93u32; 2];
+    lines::head(
+        b"tile_counts",
+        daybook_c::daybook_tile_counts(n, k, &mut counts),
+    );
+    lines::numbers(&[counts[0], counts[1]]);
+    lines::end();
+}
+
 // The book has room for more than its 15 values, the outcomes for more than 15.
 fn seal_check_read(ledger: &mut [u8], ends: &[u32]) {
     let mut book = [170u8; 500];
@@ -135,4 +145,6 @@ pub fn run() {
     position_of();
     seal_check_read(&mut ledger, &ends);
     search_tree();
+    tile_counts(4, 2);
+    tile_counts(2, 4);
 }
