@@ -16,6 +16,10 @@ use Rattle.ambiguity.specs.declared.Counts.{Counts}
 use Rattle.ambiguity.specs.declared.Counting.{Counting}
 use Rattle.ambiguity.specs.declared.Counting.the-variants.{Counted, Refused}
 
+abbrev pub sumOver : {A : Type 0} → (A → ℕ) → List A → ℕ  -- the sum of a number of each
+sumOver f [] = 0
+sumOver f (x ∷ xs) = f x + sumOver f xs
+
 -- ---- the sets
 
 -- the sets of k of some numbers, each as a list in their order: those with the first number, then those without it
@@ -43,10 +47,6 @@ unfoldable pub daysListed : ℕ → List ℕ → ℕ
 daysListed n S = tileRead n S .report .listed
 
 -- ---- 02's two numbers (SPEC 21.2)
-
-abbrev pub sumOver : {A : Type 0} → (A → ℕ) → List A → ℕ  -- the sum of a number of each
-sumOver f [] = 0
-sumOver f (x ∷ xs) = f x + sumOver f xs
 
 unfoldable pub sets : ℕ → ℕ → ℕ
 sets n k = length (offsetSets n k)

@@ -87,9 +87,9 @@ fn listed_count(n: u32, k: u32) -> u32
 pub fn tile_counts(n: u32, k: u32) -> Counting
     ensures { λ r. ⌜ r ≡ counted n k ⌝ }
 {
-    let x = refusal(n, k);
-    if x != 0 {
-        return Counting::Refused(x);
+    let number = refusal(n, k);
+    if number != 0 {
+        return Counting::Refused(number);
     }
     Counting::Counted(Counts {
         sets: set_count(n, k),
