@@ -103,7 +103,8 @@ eachOnce order =
 unfoldable pub textIn : List Asked → List ℕ
 textIn order = joined (map (λ x. lineOf (x .n) (x .k)) order)
 
--- what writing the lines leaves: their number of bytes, and in the buffer their text, each once, before what stood there
+-- what writing the lines leaves: the number of their bytes; in the buffer their text, each once, before what stood
+-- there
 pub record Printed (before : List ℕ) (r : ℕ) (after : List ℕ) : Type 0 where
   pub order : List Asked
   pub once : eachOnce order ≡ true

@@ -1,4 +1,5 @@
--- What is proved of the figures (SPEC 21.1 to 21.4). Statements only; proofs/Figures.antt and proofs/Calls.antt prove each.
+-- What is proved of the figures (SPEC 21.1 to 21.4). Statements only; proofs/SetLaws, Statements, Figures and Calls
+-- prove each.
 use mathlib.Core.Path.{_≡_}
 use mathlib.Core.Logic.{_↔_, _⊎_}
 use mathlib.Core.Bool.{true}

@@ -1,6 +1,7 @@
 -- `ambiguity::put_lines` meets its contract.
 use mathlib.Core.Path.{_≡_, refl}
 use Prim.Native.Nat.{_-_, _≤_, _<_}
+use native.Mathlib.Omega.{arith}
 use lib.ListN.{length}
 use borrow.Author.Needs.{needs}
 use Rattle.buffers.specs.Private.{Wrote}
@@ -21,7 +22,7 @@ started : (c : tie.In-loop Inv-loop μ-loop) → 1024 ≤ length (c .before .bef
 started c = c .before .before .before .pre
 
 turn : (c : tie.In-loop Inv-loop μ-loop) → c .before .loop .i < 7
-turn c = c .loop-test .taken
+turn c = omega arith
 
 pub put-lines-spec : {M : Type 1} → statement M
 put-lines-spec = tie.close (tie.spec Inv-loop μ-loop

@@ -9,9 +9,9 @@ use Rattle.ambiguity.proofs.put_tile.Tie as tie
 pub put-tile-spec : {M : Type 1} → statement M
 put-tile-spec = tie.close (tie.spec (λ c κs. search needs)
     (λ c κs. let p = c .before .before .before in let s = p .before .before .before in
-    (countable-more (s .args .n) 2 (s .pre .0) (omega arith) (omega arith), second-room _ (s .args .n) _ (s .args .out .now) _ (s .pre .1) (p .put-line .ensures) (p .put-line .kept .0)))
+    (countable-more (s .args .n) _ (s .pre .0) (omega arith) (omega arith), second-room _ (s .args .n) _ (s .args .out .now) _ (s .pre .1) (p .put-line .ensures) (p .put-line .kept .0)))
     (λ c κs. let q = c .before .before .before in let p = q .before .before .before .before in let s = p .before .before .before in (
-      countable-more (s .args .n) 3 (s .pre .0) (omega arith) (omega arith),
+      countable-more (s .args .n) _ (s .pre .0) (omega arith) (omega arith),
       third-room _ (s .args .n) _ (s .args .out .now) _ (s .pre .1) (p .put-line .ensures) _ _ (q .put-line2 .ensures) (q .put-line2 .kept .0 ∙ p .put-line .kept .0),
     ))
     (λ c. search needs)
