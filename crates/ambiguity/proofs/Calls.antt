@@ -1,17 +1,14 @@
 -- From the code to the figures: refusals, powers, sums over sets; a tile read by any call.
-use mathlib.Core.{Path._≡_, Path.refl, Path.sym, Path.ap, Path._∙_, Logic._↔_, Logic._⊎_, Logic.inl, Logic.inr}
-use mathlib.Core.Bool.{Bool, true, false, _&&_, cond, and-false}
-use mathlib.Core.List.{List, map}
+use mathlib.Core.{Path._≡_, Path.refl, Path.sym, Path.ap, Path._∙_, Logic.inl, Logic.inr}
+use mathlib.Core.Bool.{true, false, _&&_, cond, and-false}
 use Prim.Native.Nat.{ℕ, zero, suc, _+_, _-_, _*_, _/_, _^_, _≤_, _<_}
 use native.Mathlib.{Nat.pow-zero, Nat.pow-succ', Nat.pow-le-pow-left, Nat.pow-le-pow-right, Nat.mul-le-mul, Decide.decLe, Numerals.add-one, Omega.arith}
-use lib.{Dec.leb, ListN.length, Pow.pow-lt}
-use borrow.Author.Tests.{le-leb, lt-leb, leb-true, leb-false}
-use Rattle.lists.proofs.Laws.{split, true-or-false, and-both, and-of}
+use lib.{Dec.leb, Pow.pow-lt}
+use borrow.Author.Tests.{le-leb, lt-leb, leb-true}
+use Rattle.lists.proofs.Laws.{split, and-both}
 use Rattle.refusals.proofs.TestLaws.{none-fails}
 use Rattle.layouts.specs.Layouts.{allowedN, lg, setupRefusal}
 use Rattle.layouts.proofs.AllowedLaws.{allowed-n-is}
-use Rattle.ambiguity.specs.declared.Counts.{Counts}
-use Rattle.ambiguity.specs.declared.Counting.{Counting}
 use Rattle.ambiguity.specs.declared.Counting.the-variants.{Counted, Refused}
 use Rattle.ambiguity.specs.Ambiguity.{sets, listed, countTests, countRefusal, countingOf, countingNumber, counted}
 use Rattle.ambiguity.specs.Statements.{SaysNotCounted}

@@ -1,20 +1,20 @@
 -- The two numbers in closed form, for every N.
 use mathlib.Core.{Path._≡_, Path.refl, Path.sym, Path.ap, Path._∙_, Logic.inl, Logic.inr}
-use mathlib.Core.Bool.{Bool, true, false, not, _&&_}
-use mathlib.Core.List.{List, [], _∷_, _++_, map, List·Memᴰ·head, List·Memᴰ·tail, List·Memᴰ·cases-cons, List·Memᴰ·append-cases, Memᴰ·of-map}
-use Prim.Native.Nat.{ℕ, zero, suc, _+_, _-_, _*_, _/_, _%_, _^_, _≤_, _<_}
+use mathlib.Core.Bool.{true, not}
+use mathlib.Core.List.{List, [], _∷_, map, List·Memᴰ·head, List·Memᴰ·tail, List·Memᴰ·cases-cons, List·Memᴰ·append-cases, Memᴰ·of-map}
+use Prim.Native.Nat.{ℕ, zero, suc, _+_, _-_, _*_, _^_}
 use native.Mathlib.{Nat.mul-one, Nat.mul-assoc, Omega.arith}
 use lib.{ListN.length}
-use Rattle.lists.specs.Lists.{_among_, has, every, upFrom}
+use Rattle.lists.specs.Lists.{_among_, every, upFrom}
 use Rattle.lists.proofs.Laws.{bool-ext, has-mem, mem-has, every-at, every-of, upFrom-bounds, length-upFrom}
 use Rattle.layouts.specs.Layouts.{allowedN, lg}
 use Rattle.layouts.proofs.AllowedLaws.{allowed-n-is}
 use Rattle.listing.specs.Private.{bitOf}
 use Rattle.tile_laws.proofs.TileLaws.{zeros, zeros-congr}
 use Rattle.ambiguity.specs.Ambiguity.{setsOf, offsetSets, daysListed, sumOver, sets, listed}
-use Rattle.ambiguity.specs.Statements.{Figures, FiguresTold}
+use Rattle.ambiguity.specs.Statements.{FiguresTold}
 use Rattle.ambiguity.proofs.Sums.{sum-congr, sum-same, sets-one, ByMembers, pairsOver, triplesOver, pairs, triples}
-use Rattle.ambiguity.proofs.Tuples.{tuples, tuples-power}
+use Rattle.ambiguity.proofs.Tuples.{tuples-power}
 use Rattle.ambiguity.proofs.ReadLaws.{Inside, allBit, listed-by-bits}
 
 -- ---- the members of a set

@@ -1,7 +1,7 @@
 -- The lines: their length, a line's three numbers, lines one after the other, each once.
 use mathlib.Core.Path.{_≡_, refl, sym, ap, _∙_}
 use mathlib.Core.Bool.{Bool, true, _&&_}
-use mathlib.Core.List.{List, [], _∷_, _++_, map, flatMap, map-append, append-nil}
+use mathlib.Core.List.{List, [], _∷_, _++_, map, flatMap, map-append}
 use Prim.Native.Nat.{ℕ, zero, suc, _+_, _*_, _^_, _≤_, _<_}
 use native.Mathlib.{Numerals.add-one, Omega.arith}
 use lib.{Dec.leb, ListN.length, ListN.set, ListN.take, ListN.drop, ListN.length-append, Seq.length-take-le}
@@ -15,7 +15,7 @@ use Rattle.number_text.specs.Numbers.{decimalIn, decimal, commaNumbers}
 use Rattle.number_text.proofs.DecimalLaws.{decimal-most}
 use Rattle.table_text.specs.Text.{line}
 use Rattle.table_text.proofs.LineLaws.{line-most, line-room, line-put}
-use Rattle.ambiguity.specs.Ambiguity.{sets, listed, lineOf, Asked, eachOnce, textIn, Printed}
+use Rattle.ambiguity.specs.Ambiguity.{sets, listed, lineOf, Asked, textIn, Printed}
 use Rattle.ambiguity.specs.Private.{Countable, askedOf, ascending}
 
 -- ---- a line

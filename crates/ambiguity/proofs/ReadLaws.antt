@@ -1,25 +1,25 @@
 -- Reading one tile: the table that the days at some offsets give is not refused, and the days listed are doubled by each bit
 -- that is not 1 in all these offsets.
-use mathlib.Core.{Path._≡_, Path.refl, Path.sym, Path.ap, Path._∙_, Logic.inl, Logic.inr}
+use mathlib.Core.{Path._≡_, Path.refl, Path.sym, Path.ap, Path._∙_}
 use mathlib.Core.Bool.{Bool, true, false, not, _&&_}
-use mathlib.Core.List.{List, [], _∷_, _++_, map, List·Memᴰ·head, List·Memᴰ·tail, List·Memᴰ·cases-cons, Memᴰ·map, Memᴰ·of-map}
-use Prim.Native.Nat.{ℕ, zero, suc, pred, _+_, _-_, _*_, _/_, _%_, _^_, _≤_, _<_}
+use mathlib.Core.List.{List, [], _∷_, map, List·Memᴰ·head, List·Memᴰ·tail, Memᴰ·map, Memᴰ·of-map}
+use Prim.Native.Nat.{ℕ, suc, _-_, _*_, _/_, _%_, _^_, _≤_, _<_}
 use native.Mathlib.{Nat.mod-eq-of-lt, Nat.mod-self, Nat.zero-mod, Omega.arith}
-use lib.{Dec.eqb, Dec.leb, Dec.ltb, ListN.length, ListN.take, ListN.length-map, Seq.take-all}
+use lib.{Dec.leb, Dec.ltb, ListN.length, ListN.length-map, Seq.take-all}
 use borrow.Author.Tests.{eq-eqb, le-leb}
-use Rattle.lists.specs.Lists.{_among_, has, every, keep, upFrom}
+use Rattle.lists.specs.Lists.{_among_, has, every}
 use Rattle.lists.proofs.Laws.{mem-has, and-of, mem-keep, isIn, length-upFrom}
-use Rattle.evidence.specs.Evidence.{days, Within, meets, setOutcome, tableOf, Gives, listing}
+use Rattle.evidence.specs.Evidence.{days, Within, meets, setOutcome, tableOf, listing}
 use Rattle.evidence.proofs.TableLaws.{meets-of, listing-within}
 use Rattle.refusals.proofs.TestLaws.{all-pass}
 use Rattle.layouts.specs.Layouts.{divides, allowedN, lg, tile, lastDays, offset, coveredDays, chains, layoutTests, layoutRefusal}
-use Rattle.layouts.proofs.{AllowedLaws.Power, AllowedLaws.allowed-n-is, Coverage.weight-is}
-use Rattle.acceptance.proofs.Runs.{keep-all, lastDays-days, lastDays-mem}
+use Rattle.layouts.proofs.{AllowedLaws.allowed-n-is, Coverage.weight-is}
+use Rattle.acceptance.proofs.Runs.{keep-all, lastDays-mem}
 use Rattle.listing.specs.Private.{bitOf}
-use Rattle.reading.specs.Contract.{Report, tableIn, readRefusal, allowedPassed, listedIn, found, readout}
+use Rattle.reading.specs.Contract.{tableIn, readRefusal, allowedPassed, listedIn, readout}
 use Rattle.reading.specs.Numbers.{lastGood}
 use Rattle.reading.proofs.{RefusalLaws.passed-none, RefusalLaws.set-read, Report.readout-found, Statements.count-found, Statements.refusal-said}
-use Rattle.tile_laws.specs.Tiles.{inTile, offsetsIn, bitIs1, passesByBits}
+use Rattle.tile_laws.specs.Tiles.{offsetsIn, bitIs1, passesByBits}
 use Rattle.tile_laws.proofs.TileLaws.{met-by-bits, zeros, zeros-congr, tile-listed}
 use Rattle.ambiguity.specs.Ambiguity.{tileTable, tileRead, daysListed}
 

@@ -1,12 +1,10 @@
 -- Each tile's table is read, by every call that the layout allows.
-use mathlib.Core.Path.{_≡_, refl, sym, _∙_}
-use mathlib.Core.List.{List, map}
+use mathlib.Core.Path.{sym, _∙_}
+use mathlib.Core.List.{map}
 use Prim.Native.Nat.{suc}
 use native.Mathlib.Omega.{arith}
-use lib.ListN.{length}
-use Rattle.lists.specs.Lists.{_among_, upFrom}
+use Rattle.lists.specs.Lists.{upFrom}
 use Rattle.lists.proofs.Laws.{upFrom-bounds}
-use Rattle.layouts.specs.Layouts.{layoutRefusal}
 use Rattle.layouts.proofs.AllowedLaws.{layout-is}
 use Rattle.ambiguity.specs.Ambiguity.{offsetSets, tileTable}
 use Rattle.ambiguity.specs.Statements.{TilesAreRead}

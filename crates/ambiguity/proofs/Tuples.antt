@@ -1,11 +1,10 @@
 -- The days listed for k numbers below 2^m, repetition allowed, added up over all of them: bit by bit each sum is a power.
 use mathlib.Core.{Path._≡_, Path.refl, Path.sym, Path.ap, Path.ap₂, Path._∙_, Logic.inl, Logic.inr}
 use mathlib.Core.Bool.{Bool, true, false, _&&_, cond}
-use mathlib.Core.List.{List, [], _∷_, _++_}
 use Prim.Native.Nat.{ℕ, zero, suc, _+_, _*_, _/_, _%_, _^_, _<_}
 use native.Mathlib.{Nat.pow-succ', Nat.pow-zero, Nat.div-eq-of-lt, Omega.arith}
 use lib.{Arith.digits-div, Arith.digits-mod, Dec.eqb}
-use Rattle.lists.specs.Lists.{_among_, upFrom, every}
+use Rattle.lists.specs.Lists.{upFrom}
 use Rattle.lists.proofs.Laws.{split, upFrom-append, upFrom-bounds}
 use Rattle.acceptance.proofs.Runs.{bit-low}
 use Rattle.listing.specs.Private.{bitOf}

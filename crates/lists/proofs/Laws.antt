@@ -100,9 +100,21 @@ pub keep-append : (p : ℕ → Bool) (xs ys : List ℕ) → keep p (xs ++ ys) �
 keep-append p [] ys = refl
 keep-append p (x ∷ xs) ys = elim (split (p x)) [ inl e ↦ rw (e, keep-append p xs ys) | inr e ↦ rw (e, keep-append p xs ys) ]
 
+-- two tests, in either order
+pub keep-keep : (p q : ℕ → Bool) (xs : List ℕ) → keep p (keep q xs) ≡ keep q (keep p xs)
+keep-keep p q [] = refl
+keep-keep p q (x ∷ xs) = let h = keep-keep p q xs in elim (split (p x)) [
+  | inl a ↦ elim (split (q x)) [ inl b ↦ simp (a, b, h) | inr b ↦ simp (a, b, h) ]
+  | inr a ↦ elim (split (q x)) [ inl b ↦ simp (a, b, h) | inr b ↦ simp (a, b, h) ]
+]
+
 pub ascends-later : (xs : List ℕ) (i j : ℕ) → i ≤ j → Ascends j xs → Ascends i xs
 ascends-later [] i j l a = tt
 ascends-later (x ∷ xs) i j l a = (omega (arith, a .0), a .1)
+
+pub upFrom-ascends : (i k : ℕ) → Ascends i (upFrom i k)
+upFrom-ascends i zero = tt
+upFrom-ascends i (suc k) = (omega arith, upFrom-ascends (suc i) k)
 
 pub keep-ascends : (p : ℕ → Bool) (i n : ℕ) → Ascends i (keep p (upFrom i n))
 keep-ascends p i zero = tt
@@ -199,6 +211,14 @@ every-fails p xs g m e = elim (split (every p xs)) [ inl h ↦ absurd (true-or-f
 pub every-append : (p : ℕ → Bool) (xs ys : List ℕ) → every p (xs ++ ys) ≡ every p xs && every p ys
 every-append p [] ys = refl
 every-append p (x ∷ xs) ys = rw (every-append p xs ys) (sym (and-assoc (p x) (every p xs) (every p ys)))
+
+pub every-congr : (p q : ℕ → Bool) (xs : List ℕ) → ((x : ℕ) → p x ≡ q x) → every p xs ≡ every q xs
+every-congr p q [] f = refl
+every-congr p q (x ∷ xs) f = rw (f x, every-congr p q xs f)
+
+pub every-map : (p : ℕ → Bool) (f : ℕ → ℕ) (xs : List ℕ) → every p (map f xs) ≡ every (λ x. p (f x)) xs
+every-map p f [] = refl
+every-map p f (x ∷ xs) = rw (every-map p f xs)
 
 -- one more in a loop
 pub every-more : (p : ℕ → Bool) (i k : ℕ) → every p (upFrom i k) ≡ true → p (i + k) ≡ true → every p (upFrom i (suc k)) ≡ true

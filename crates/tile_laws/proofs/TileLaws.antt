@@ -1,26 +1,26 @@
 -- A tile by bits: a chain passes exactly if its bit is 1 in each offset of the set, and each bit that is not doubles the
 -- days listed.
-use mathlib.Core.{Path._≡_, Path.refl, Path.sym, Path.ap, Path._∙_, Logic._⊎_, Logic.inl, Logic.inr}
-use mathlib.Core.Bool.{Bool, true, false, not, _&&_, _||_, cond}
-use mathlib.Core.List.{List, [], _∷_, _++_, map, List·Memᴰ·head, List·Memᴰ·tail}
+use mathlib.Core.{Path._≡_, Path.refl, Path.sym, Path.ap, Path._∙_, Logic.inl, Logic.inr}
+use mathlib.Core.Bool.{Bool, true, false, not, cond}
+use mathlib.Core.List.{List, [], _∷_, map}
 use Prim.Native.Nat.{ℕ, zero, suc, pred, _+_, _-_, _*_, _/_, _%_, _^_, _≤_, _<_}
 use native.Mathlib.{Nat.pow-succ', Omega.arith}
-use lib.{Dec.eqb, ListN.length, ListN.getD, ListN.length-append, ListN.length-map}
+use lib.{Dec.eqb, ListN.length, ListN.length-append, ListN.length-map}
 use borrow.Author.Tests.{ne-eqb, not-true, not-false}
-use Rattle.lists.specs.Lists.{has, every, keep, upFrom, Ascends}
-use Rattle.lists.proofs.Laws.{split, true-or-false, bool-ext, has-mem, mem-has, keep-mem, mem-keep, keep-congr, every-not, every-fails}
-use Rattle.lists.proofs.Laws.{isIn, ascends-keep, ascends-later}
+use Rattle.lists.specs.Lists.{every, keep, upFrom}
+use Rattle.lists.proofs.Laws.{split, bool-ext, has-mem, mem-has, keep-mem, mem-keep, keep-congr, every-not, every-fails}
+use Rattle.lists.proofs.Laws.{isIn, ascends-keep, ascends-later, upFrom-ascends, keep-keep, every-congr, every-map}
 use Rattle.evidence.specs.Evidence.{days, Within, meets, setOutcome, tableOf, Gives, listing}
 use Rattle.evidence.proofs.TableLaws.{meets-of, meets-day}
 use Rattle.layouts.specs.Layouts.{divides, lg, tile, lastDays, offset, covers, coveredDays, chains, layoutRefusal}
 use Rattle.layouts.proofs.Coverage.{divisor-le}
-use Rattle.layouts.proofs.AllowedLaws.{Power, Days, allowed-n-is, allowed-d-is, divides-factor, layout-is}
-use Rattle.acceptance.specs.Private.{Table, Bits, passes, rules, tileBit, isListed}
+use Rattle.layouts.proofs.AllowedLaws.{Power, allowed-n-is, allowed-d-is, divides-factor, layout-is}
+use Rattle.acceptance.specs.Private.{Table, Bits, passes, tileBit, isListed}
 use Rattle.acceptance.proofs.{Runs.lastDays-bounds, Lookup.Block, Lookup.gives-passes, Lookup.tile-named, Given.given-rules}
 use Rattle.acceptance.proofs.{Listed.block-number, Accepted.listing-isListed}
 use Rattle.listing.specs.Private.{tileDays}
 use Rattle.listing.proofs.Walks.{tile-days}
-use Rattle.tile_laws.specs.Tiles.{inTile, offsetsIn, bitIs1, passesByBits, ChainsByBits, failing, FailedTileLists}
+use Rattle.tile_laws.specs.Tiles.{inTile, offsetsIn, bitIs1, passesByBits, ChainsByBits, FailedTileLists}
 
 -- ---- which chains pass
 
@@ -43,10 +43,6 @@ tested n i x = covers n i (offset n x)
 abbrev missed : ℕ → ℕ → ℕ → Bool
 missed n i x = not (tested n i x)
 
-every-congr : (p q : ℕ → Bool) (xs : List ℕ) → ((x : ℕ) → p x ≡ q x) → every p xs ≡ every q xs
-every-congr p q [] f = refl
-every-congr p q (x ∷ xs) f = rw (f x, every-congr p q xs f)
-
 meets-tile : (n i g : ℕ) (S : List ℕ) → meets S (coveredDays n (tile i g)) ≡ not (every (missed n i) (inTile n g S))
 meets-tile n i g S = bool-ext (meets S c) (not (every (missed n i) (inTile n g S)))
     (λ e.
@@ -60,10 +56,6 @@ meets-tile n i g S = bool-ext (meets S c) (not (every (missed n i) (inTile n g S
   where
     c : List ℕ
     c = coveredDays n (tile i g)
-
-every-map : (p : ℕ → Bool) (f : ℕ → ℕ) (xs : List ℕ) → every p (map f xs) ≡ every (λ x. p (f x)) xs
-every-map p f [] = refl
-every-map p f (x ∷ xs) = rw (every-map p f xs)
 
 -- c(0) covers every day of the tile
 none-missed : (xs : List ℕ) → every (λ x. false) xs ≡ eqb (length xs) 0
@@ -113,14 +105,6 @@ tile-size p (suc l) day =
           (let q : 2 ^ (1 + zeros p l) ≡ 2 * 2 ^ zeros p l = ap (λ k. 2 ^ k) (omega arith) ∙ pow-succ' 2 (zeros p l) in omega arith))
     ]
 
--- two tests, in either order
-keep-keep : (p q : ℕ → Bool) (xs : List ℕ) → keep p (keep q xs) ≡ keep q (keep p xs)
-keep-keep p q [] = refl
-keep-keep p q (x ∷ xs) = let h = keep-keep p q xs in elim (split (p x)) [
-  | inl a ↦ elim (split (q x)) [ inl b ↦ simp (a, b, h) | inr b ↦ simp (a, b, h) ]
-  | inr a ↦ elim (split (q x)) [ inl b ↦ simp (a, b, h) | inr b ↦ simp (a, b, h) ]
-]
-
 -- outcomes are 0 or 1
 outcome-bits : (S : List ℕ) (cs : List (List ℕ)) → Bits (map (setOutcome S) cs)
 outcome-bits S [] p = inl refl
@@ -130,12 +114,8 @@ outcome-bits S (c ∷ cs) (suc p) = outcome-bits S cs p
 -- the days 1 to d in the tile
 days-in-tile : (n d g : ℕ) → n ≤ g → g ≤ d → keep (isIn (lastDays n g)) (days d) ≡ lastDays n g
 days-in-tile n d g a b =
-    ascends-keep d 1 (lastDays n g) (ascends-later (lastDays n g) 1 (suc (g - n)) (omega arith) (run-ascends (suc (g - n)) n))
+    ascends-keep d 1 (lastDays n g) (ascends-later (lastDays n g) 1 (suc (g - n)) (omega arith) (upFrom-ascends (suc (g - n)) n))
     (λ x m. let q = lastDays-bounds n g x a m in omega arith)
-  where
-    run-ascends : (i k : ℕ) → Ascends i (upFrom i k)
-    run-ascends i zero = tt
-    run-ascends i (suc k) = (omega arith, run-ascends (suc i) k)
 
 module _ (n f d : ℕ) (S : List ℕ) (ok : layoutRefusal 2 n f d ≡ 0) (w : Within d S) where
   abbrev t : List ℕ

@@ -1,7 +1,7 @@
 -- What is proved of a tile, for every N, F and D that 01 allows, every set of days and every tile (SPEC 21.5).
 -- Definitions and statements; proofs/TileLaws.antt proves each.
 use mathlib.Core.Path.{_≡_}
-use mathlib.Core.Bool.{Bool, true, not, cond}
+use mathlib.Core.Bool.{Bool, true, cond}
 use mathlib.Core.List.{List, map}
 use Prim.Native.Nat.{ℕ, zero, suc, _/_, _%_, _^_, _≤_}
 use lib.Dec.{eqb}

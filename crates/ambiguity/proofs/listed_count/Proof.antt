@@ -1,6 +1,4 @@
 -- `ambiguity::listed_count` meets its contract.
-use native.Mathlib.Omega.{arith}
-use Prim.Native.Nat.{_≤_}
 use borrow.Author.Needs.{needs}
 use Rattle.ambiguity.proofs.Calls.{n-some, exponent-small, listed-tuples, listed-of}
 use Rattle.ambiguity.proofs.listed_count.Statement.{statement}
