@@ -6,3 +6,4 @@ pub mod SetLaws
 pub mod Calls
 pub mod LineLaws
 pub mod Statements
+pub mod OrderLaws

@@ -92,12 +92,23 @@ abbrev pub times : ℕ → ℕ → List Asked → ℕ
 times n k [] = 0
 times n k (x ∷ xs) = cond (eqb (x .n) n && eqb (x .k) k) 1 0 + times n k xs
 
--- 02's "21 lines", each once (SPEC 21.6): 21 in all, and each N with each k once
+-- 02's N and k of the lines (SPEC 21.6), and their number
+abbrev pub lineSizes : List ℕ
+lineSizes = 1 ∷ 2 ∷ 4 ∷ 8 ∷ 16 ∷ 32 ∷ 64 ∷ []
+
+abbrev pub lineSets : List ℕ
+lineSets = 1 ∷ 2 ∷ 3 ∷ []
+
+abbrev pub lineCount : ℕ
+lineCount = 21
+
+-- each line once: as many in all, and each N with each k once; the law `lines-told`: and so no other
+abbrev pub standsOnce : List Asked → ℕ → ℕ → Bool
+standsOnce order n k = eqb (times n k order) 1
+
 abbrev pub eachOnce : List Asked → Bool
 eachOnce order =
-    eqb (length order) 21 &&
-    every (λ n. every (λ k. eqb (times n k order) 1) (1 ∷ 2 ∷ 3 ∷ []))
-    (1 ∷ 2 ∷ 4 ∷ 8 ∷ 16 ∷ 32 ∷ 64 ∷ [])
+    eqb (length order) lineCount && every (λ n. every (standsOnce order n) lineSets) lineSizes
 
 -- the lines in an order, end to end
 unfoldable pub textIn : List Asked → List ℕ

@@ -1,15 +1,17 @@
--- What is proved of the figures (SPEC 21.1 to 21.4). Statements only; proofs/SetLaws, Statements, Figures and Calls
--- prove each.
+-- What is proved of the figures and the lines (SPEC 21.1 to 21.4, 21.6). Statements only; proofs/SetLaws, Statements,
+-- Figures, Calls and OrderLaws prove each.
 use mathlib.Core.Path.{_≡_}
 use mathlib.Core.Logic.{_↔_, _⊎_}
-use mathlib.Core.Bool.{true}
+use mathlib.Core.Bool.{true, cond}
 use mathlib.Core.List.{List, [], _∷_}
 use Prim.Native.Nat.{ℕ, _+_, _-_, _*_, _/_, _^_, _≤_, _<_}
+use lib.Dec.{eqb}
 use lib.ListN.{length}
 use Rattle.lists.specs.Lists.{_among_, Ascends}
 use Rattle.layouts.specs.Layouts.{allowedN, lg, layoutRefusal}
 use Rattle.reading.specs.Contract.{allowedPassed, readout}
-use Rattle.ambiguity.specs.Ambiguity.{offsetSets, tileTable, daysListed, sets, listed, countingNumber, counted}
+use Rattle.ambiguity.specs.Ambiguity.{offsetSets, tileTable, daysListed, sets, listed, countRefusal}
+use Rattle.ambiguity.specs.Ambiguity.{countingNumber, counted, Asked, times, eachOnce}
 
 -- ---- the sets (SPEC 21.1)
 
@@ -62,3 +64,10 @@ abbrev pub SaysNotCounted : Type 0
 SaysNotCounted =
     (n k : ℕ) → (countingNumber (counted n k) ≡ 21) ↔
     ((allowedN n ≡ true) × ((64 < n) ⊎ ((k ≡ 0) ⊎ (3 < k))))
+
+-- ---- the lines (SPEC 21.6)
+
+-- in an order that has each of the 21 once, each N and k that is counted stands once, and no other does
+abbrev pub LinesTold : Type 0
+LinesTold =
+    (order : List Asked) → eachOnce order ≡ true → (n k : ℕ) → times n k order ≡ cond (eqb (countRefusal n k) 0) 1 0

@@ -125,7 +125,7 @@ keep-ascends p i (suc n) = let a = keep-ascends p (suc i) n in
 abbrev pub isIn : List ℕ → ℕ → Bool
 isIn S x = has x S
 
-ascends-apart : (i : ℕ) (S : List ℕ) → Ascends (suc i) S → has i S ≡ false
+pub ascends-apart : (i : ℕ) (S : List ℕ) → Ascends (suc i) S → has i S ≡ false
 ascends-apart i [] a = refl
 ascends-apart i (y ∷ ys) a = rw (ne-eqb i y (λ e. absurd (omega (arith, a .0))), ascends-apart i ys (ascends-later ys (suc i) (suc y) (omega (arith, a .0)) (a .1)))
 
