@@ -10,9 +10,9 @@ pub struct TileCounts {
     pub listed: u32,
 }
 
-/// Counts how vague one tile of `n` days is under scheme 2, if `k` of its days were altered: it goes over
-/// all sets of `k` different days. The tile stands by itself: F is 1 and D is N. Where `n` is below `k`
-/// there is no such set, and both counts are 0.
+/// Counts how vague one tile of `n` days is under scheme 2, if `k` of its days were altered, over all sets
+/// of `k` different days. The tile stands by itself: F is 1 and D is N. Where `n` is below `k` there is no
+/// such set, and both counts are 0.
 ///
 /// # Errors
 ///
