@@ -15,9 +15,9 @@ pub record Countable (n k : ℕ) : Type 0 where
   pub some : 1 ≤ k
   pub most : k ≤ 3
 
--- sums over single numbers, pairs and triples of something that goes by the members alone, in terms of the sums over the
--- sets of two and of three: among the pairs stand each set of two twice and each single once; among the triples each set
--- of three six times, each of two six times, each single once
+-- sums over single numbers, pairs and triples of something that goes by the members alone, in terms of the sums over
+-- the sets of two and of three: among the pairs stand each set of two twice and each single once; among the triples
+-- each set of three six times, each of two six times, each single once
 pub record Tuples (one two three : ℕ) : Type 0 where
   pub pairs : ℕ
   pub triples : ℕ
