@@ -1,8 +1,8 @@
 -- The two numbers in closed form, for every N.
-use mathlib.Core.{Path._≡_, Path.refl, Path.sym, Path.ap, Path._∙_, Logic.inl, Logic.inr}
+use mathlib.Core.{Path._≡_, Path.refl, Path.sym, Path.ap, Path._∙_}
 use mathlib.Core.Bool.{true, not}
-use mathlib.Core.List.{List, [], _∷_, map, List·Memᴰ·head, List·Memᴰ·tail, List·Memᴰ·cases-cons, List·Memᴰ·append-cases, Memᴰ·of-map}
-use Prim.Native.Nat.{ℕ, zero, suc, _+_, _-_, _*_, _^_}
+use mathlib.Core.List.{List, [], _∷_, List·Memᴰ·head}
+use Prim.Native.Nat.{ℕ, suc, _+_, _-_, _*_, _^_}
 use native.Mathlib.{Nat.mul-one, Nat.mul-assoc, Omega.arith}
 use lib.{ListN.length}
 use Rattle.lists.specs.Lists.{_among_, every, upFrom}
@@ -13,31 +13,10 @@ use Rattle.listing.specs.Private.{bitOf}
 use Rattle.tile_laws.proofs.TileLaws.{zeros, zeros-congr}
 use Rattle.ambiguity.specs.Ambiguity.{setsOf, offsetSets, daysListed, sumOver, sets, listed}
 use Rattle.ambiguity.specs.Statements.{FiguresTold}
+use Rattle.ambiguity.proofs.SetLaws.{set-size, set-within}
 use Rattle.ambiguity.proofs.Sums.{sum-congr, sum-same, sets-one, ByMembers, pairsOver, triplesOver, pairs, triples}
 use Rattle.ambiguity.proofs.Tuples.{tuples-power}
 use Rattle.ambiguity.proofs.ReadLaws.{Inside, allBit, listed-by-bits}
-
--- ---- the members of a set
-
-pub set-size : (k : ℕ) (xs S : List ℕ) → S among setsOf k xs → length S ≡ k
-set-size zero xs S (List·Memᴰ·head e) = ap length e
-set-size zero xs S (List·Memᴰ·tail m) = elim m [ ]
-set-size (suc k) [] S m = elim m [ ]
-set-size (suc k) (x ∷ xs) S m = elim (List·Memᴰ·append-cases (map (λ R. x ∷ R) (setsOf k xs)) m) [
-  | inl h ↦ let r = Memᴰ·of-map (λ R. x ∷ R) (setsOf k xs) h in sym (ap length (r .2)) ∙ ap suc (set-size k xs (r .0) (r .1))
-  | inr h ↦ set-size (suc k) xs S h
-]
-
-pub set-within : (k : ℕ) (xs S : List ℕ) → S among setsOf k xs → (y : ℕ) → y among S → y among xs
-set-within zero xs S (List·Memᴰ·head e) y i = let z : y among [] = rw e at i in elim z [ ]
-set-within zero xs S (List·Memᴰ·tail m) y i = elim m [ ]
-set-within (suc k) [] S m y i = elim m [ ]
-set-within (suc k) (x ∷ xs) S m y i = elim (List·Memᴰ·append-cases (map (λ R. x ∷ R) (setsOf k xs)) m) [
-  | inl h ↦ let r = Memᴰ·of-map (λ R. x ∷ R) (setsOf k xs) h in
-      let z : y among (x ∷ r .0) = rw (r .2) i in
-      elim (List·Memᴰ·cases-cons z) [ inl e ↦ List·Memᴰ·head e | inr j ↦ List·Memᴰ·tail (set-within k xs (r .0) (r .1) y j) ]
-  | inr h ↦ List·Memᴰ·tail (set-within (suc k) xs S h y i)
-]
 
 -- ---- the days listed
 

@@ -20,7 +20,7 @@ use Rattle.ambiguity.specs.Private.{Countable, askedOf, ascending}
 
 -- ---- a line
 
-pub line-fits : (n k : ℕ) → length (lineOf n k) ≤ 44
+line-fits : (n k : ℕ) → length (lineOf n k) ≤ 44
 unfolding lineOf decimal
 line-fits n k = let a = line-most (decimal n) (k ∷ sets n k ∷ listed n k ∷ []) in let b = decimal-most 10 n in omega arith
 
@@ -42,13 +42,13 @@ module _ (at n x y z a b : ℕ) (l m k : List ℕ) (h : at + 44 ≤ length l) (v
 
 -- ---- lines one after the other
 
-pub tile-text : (n : ℕ) → textIn (askedOf n) ≡ lineOf n 1 ++ (lineOf n 2 ++ lineOf n 3)
+tile-text : (n : ℕ) → textIn (askedOf n) ≡ lineOf n 1 ++ (lineOf n 2 ++ lineOf n 3)
 unfolding textIn
 tile-text n =
     joined-one (lineOf n 1) (lineOf n 2 ∷ lineOf n 3 ∷ []) ∙ ap (λ r. lineOf n 1 ++ r) (joined-one (lineOf n 2) (lineOf n 3 ∷ []) ∙
     ap (λ r. lineOf n 2 ++ r) (joined-single (lineOf n 3)))
 
-pub tile-fits : (n : ℕ) → length (textIn (askedOf n)) ≤ 132
+tile-fits : (n : ℕ) → length (textIn (askedOf n)) ≤ 132
 tile-fits n =
     let a = line-fits n 1 in
     let b = line-fits n 2 in
@@ -80,18 +80,18 @@ text-append : (xs ys : List Asked) → textIn (xs ++ ys) ≡ textIn xs ++ textIn
 unfolding textIn
 text-append xs ys = ap joined (map-append (λ x. lineOf (x .n) (x .k)) xs ys) ∙ joined-append (map (λ x. lineOf (x .n) (x .k)) xs) (map (λ x. lineOf (x .n) (x .k)) ys)
 
-pub text-next : (i : ℕ) → textIn (ascending (i + 1)) ≡ textIn (ascending i) ++ textIn (askedOf (2 ^ i))
+text-next : (i : ℕ) → textIn (ascending (i + 1)) ≡ textIn (ascending i) ++ textIn (askedOf (2 ^ i))
 text-next i =
     let z : 0 + i ≡ i = omega arith in
     ap (λ j. textIn (ascending j)) (add-one i) ∙
     ap textIn (ap (flatMap (λ e. askedOf (2 ^ e))) (upFrom-snoc 0 i) ∙ flatMap-append (λ e. askedOf (2 ^ e)) (upFrom 0 i) ((0 + i) ∷ []) ∙
     ap (λ r. ascending i ++ r) (flatMap-one (λ e. askedOf (2 ^ e)) (0 + i) ∙ rw z)) ∙ text-append (ascending i) (askedOf (2 ^ i))
 
-pub text-none : textIn (ascending 0) ≡ []
+text-none : textIn (ascending 0) ≡ []
 unfolding flatMap textIn joined
 text-none = refl
 
-pub text-fits : (i : ℕ) → length (textIn (ascending i)) ≤ 132 * i
+text-fits : (i : ℕ) → length (textIn (ascending i)) ≤ 132 * i
 text-fits zero = rw text-none (omega arith)
 text-fits (suc i) =
     let h = text-fits i in

@@ -1,6 +1,6 @@
 -- An order that has each of the 21 lines once has no other: 21 places are taken by 21 pairs.
 use mathlib.Core.{Path._≡_, Path.refl, Path.sym, Path.ap, Path._∙_, Logic.inl, Logic.inr}
-use mathlib.Core.Bool.{Bool, true, false, not, _&&_, _||_, cond}
+use mathlib.Core.Bool.{Bool, true, false, not, _&&_, _||_}
 use mathlib.Core.List.{List, [], _∷_}
 use Prim.Native.Nat.{ℕ, suc, _+_, _*_, _≤_}
 use native.Mathlib.Omega.{arith}
@@ -9,13 +9,11 @@ use borrow.Author.Tests.{eqb-true, eq-eqb, leb-true}
 use Rattle.lists.specs.Lists.{_among_, has, every, upFrom, Ascends}
 use Rattle.lists.proofs.Laws.{split, and-both, and-of, bool-ext, has-mem, mem-has, every-at, upFrom-mem, upFrom-bounds, ascends-apart}
 use Rattle.layouts.specs.Layouts.{allowedN}
+use Rattle.acceptance.specs.Private.{one}
 use Rattle.ambiguity.specs.Ambiguity.{sumOver, countRefusal, Asked, times, lineSizes, lineSets, lineCount, standsOnce, eachOnce}
 use Rattle.ambiguity.specs.Statements.{LinesTold}
 use Rattle.ambiguity.proofs.Sums.{sum-congr, sum-both, sum-scale}
 use Rattle.ambiguity.proofs.Calls.{countable, not-refused}
-
-abbrev one : Bool → ℕ
-one b = cond b 1 0
 
 -- ---- which N and k are counted
 

@@ -29,7 +29,7 @@ Inside n S = (x : ℕ) → x among S → x < n
 
 -- ---- the call
 
-pub one-tile : (n : ℕ) → allowedN n ≡ true → layoutRefusal 2 n 1 n ≡ 0
+one-tile : (n : ℕ) → allowedN n ≡ true → layoutRefusal 2 n 1 n ≡ 0
 unfolding layoutRefusal
 one-tile n ok =
     let w = allowed-n-is n ok in

@@ -1,6 +1,6 @@
 -- The sets of k offsets: each once, and no other.
-use mathlib.Core.{Path._≡_, Path.refl, Logic.inl, Logic.inr}
-use mathlib.Core.List.{List, [], _∷_, _++_, map, List·Memᴰ·head, List·Memᴰ·tail, List·Memᴰ·append-cases}
+use mathlib.Core.{Path._≡_, Path.refl, Path.sym, Path.ap, Path._∙_, Logic.inl, Logic.inr}
+use mathlib.Core.List.{List, [], _∷_, _++_, map, List·Memᴰ·head, List·Memᴰ·tail, List·Memᴰ·cases-cons, List·Memᴰ·append-cases}
 use mathlib.Core.List.{Memᴰ·append-left, Memᴰ·append-right, Memᴰ·map, Memᴰ·of-map}
 use Prim.Native.Nat.{ℕ, zero, suc, _+_, _<_}
 use native.Mathlib.{Nat.eq-or-lt-of-le, Omega.arith}
@@ -9,7 +9,28 @@ use Rattle.lists.specs.Lists.{_among_, upFrom, Ascends}
 use Rattle.lists.proofs.Laws.{ascends-later, upFrom-bounds, length-upFrom}
 use Rattle.ambiguity.specs.Ambiguity.{setsOf, offsetSets, sets, listed}
 use Rattle.ambiguity.specs.Statements.{Different, EverySetOnce, NoSets}
-use Rattle.ambiguity.proofs.Figures.{set-size, set-within}
+
+-- ---- the members of a set
+
+pub set-size : (k : ℕ) (xs S : List ℕ) → S among setsOf k xs → length S ≡ k
+set-size zero xs S (List·Memᴰ·head e) = ap length e
+set-size zero xs S (List·Memᴰ·tail m) = elim m [ ]
+set-size (suc k) [] S m = elim m [ ]
+set-size (suc k) (x ∷ xs) S m = elim (List·Memᴰ·append-cases (map (λ R. x ∷ R) (setsOf k xs)) m) [
+  | inl h ↦ let r = Memᴰ·of-map (λ R. x ∷ R) (setsOf k xs) h in sym (ap length (r .2)) ∙ ap suc (set-size k xs (r .0) (r .1))
+  | inr h ↦ set-size (suc k) xs S h
+]
+
+pub set-within : (k : ℕ) (xs S : List ℕ) → S among setsOf k xs → (y : ℕ) → y among S → y among xs
+set-within zero xs S (List·Memᴰ·head e) y i = let z : y among [] = rw e at i in elim z [ ]
+set-within zero xs S (List·Memᴰ·tail m) y i = elim m [ ]
+set-within (suc k) [] S m y i = elim m [ ]
+set-within (suc k) (x ∷ xs) S m y i = elim (List·Memᴰ·append-cases (map (λ R. x ∷ R) (setsOf k xs)) m) [
+  | inl h ↦ let r = Memᴰ·of-map (λ R. x ∷ R) (setsOf k xs) h in
+      let z : y among (x ∷ r .0) = rw (r .2) i in
+      elim (List·Memᴰ·cases-cons z) [ inl e ↦ List·Memᴰ·head e | inr j ↦ List·Memᴰ·tail (set-within k xs (r .0) (r .1) y j) ]
+  | inr h ↦ List·Memᴰ·tail (set-within (suc k) xs S h y i)
+]
 
 -- ---- which sets there are
 

@@ -8,7 +8,7 @@ use Rattle.lists.proofs.Laws.{upFrom-bounds}
 use Rattle.layouts.proofs.AllowedLaws.{layout-is}
 use Rattle.ambiguity.specs.Ambiguity.{offsetSets, tileTable}
 use Rattle.ambiguity.specs.Statements.{TilesAreRead}
-use Rattle.ambiguity.proofs.Figures.{set-within}
+use Rattle.ambiguity.proofs.SetLaws.{set-within}
 use Rattle.ambiguity.proofs.ReadLaws.{Inside, days-within, read-done, read-listed, own-listed}
 
 pub tiles-are-read : TilesAreRead

@@ -14,7 +14,7 @@ pub sum-append : {A : Type 0} (f : A → ℕ) (xs ys : List A) → sumOver f (xs
 sum-append f [] ys = omega arith
 sum-append f (x ∷ xs) ys = let e = sum-append f xs ys in omega arith
 
-pub sum-map : {A B : Type 0} (f : B → ℕ) (g : A → B) (xs : List A) → sumOver f (map g xs) ≡ sumOver (λ x. f (g x)) xs
+sum-map : {A B : Type 0} (f : B → ℕ) (g : A → B) (xs : List A) → sumOver f (map g xs) ≡ sumOver (λ x. f (g x)) xs
 sum-map f g [] = refl
 sum-map f g (x ∷ xs) = ap (λ r. f (g x) + r) (sum-map f g xs)
 
@@ -41,7 +41,7 @@ sum-later f b i (suc k) = let e : b + suc i ≡ suc (b + i) = omega arith in ap 
 
 -- ---- over the sets of k
 
-pub sets-cons : (W : List ℕ → ℕ) (k x : ℕ) (xs : List ℕ) → sumOver W (setsOf (suc k) (x ∷ xs)) ≡ sumOver (λ S. W (x ∷ S)) (setsOf k xs) + sumOver W (setsOf (suc k) xs)
+sets-cons : (W : List ℕ → ℕ) (k x : ℕ) (xs : List ℕ) → sumOver W (setsOf (suc k) (x ∷ xs)) ≡ sumOver (λ S. W (x ∷ S)) (setsOf k xs) + sumOver W (setsOf (suc k) xs)
 sets-cons W k x xs =
     sum-append W (map (λ S. x ∷ S) (setsOf k xs)) (setsOf (suc k) xs) ∙ ap (λ r. r + sumOver W (setsOf (suc k) xs)) (sum-map W (λ S. x ∷ S) (setsOf k xs))
 

@@ -31,11 +31,11 @@ low-same m j x h l =
 -- ---- tuples
 
 -- bit j is 1 in x too
-abbrev pub both : (ℕ → Bool) → ℕ → ℕ → Bool
+abbrev both : (ℕ → Bool) → ℕ → ℕ → Bool
 both p x j = bitOf x j && p j
 
 -- over k numbers below 2^m, p being the bits that are 1 in all those before them
-abbrev pub tuples : ℕ → ℕ → (ℕ → Bool) → ℕ
+abbrev tuples : ℕ → ℕ → (ℕ → Bool) → ℕ
 tuples m zero p = 2 ^ zeros p m
 tuples m (suc k) p = sumOver (λ x. tuples m k (both p x)) (upFrom 0 (2 ^ m))
 
@@ -46,7 +46,7 @@ tuples-congr m (suc k) p q f =
     (λ x i. tuples-congr m k (both p x) (both q x) (λ j h. ap (λ b. bitOf x j && b) (f j h)))
 
 -- what one bit more multiplies by, by whether it is 1 in those before: 2 for each choice of the k bits but all 1
-abbrev pub factor : ℕ → Bool → ℕ
+abbrev factor : ℕ → Bool → ℕ
 factor zero b = cond b 1 2
 factor (suc k) b = factor k false + factor k b
 
