@@ -22,8 +22,8 @@ extern "C" {
 #endif
 
 /* The version of this header: 10000 * major + 100 * minor + patch, and as text. */
-#define DAYBOOK_VERSION 700
-#define DAYBOOK_VERSION_TEXT "0.7.0"
+#define DAYBOOK_VERSION 800
+#define DAYBOOK_VERSION_TEXT "0.8.0"
 
 /* The bytes of a record. To be kept on disk as it is: no padding, the same on every machine.
  * Numbers are 32 bits, little-endian:
@@ -36,8 +36,10 @@ extern "C" {
  *           52  8 words: the black chain
  *           84  17 times 8 words: tile chains c(0) .. c(8), or tree levels 0 .. 16
  *          628  64 bytes: block of the open day
+ *          692  8 words: the start of a chain, worked out by daybook_open
+ * A record of an earlier version has no start and other bytes: its days are sealed again.
  */
-#define DAYBOOK_RECORD 692
+#define DAYBOOK_RECORD 724
 
 #define DAYBOOK_VALUE 32            /* bytes of a value, and of a day's digest */
 #define DAYBOOK_PART 544            /* bytes that are enough for any daybook_close: 17 values */
