@@ -1,6 +1,6 @@
 -- Laws of the book: one more day, its front, its length, and what a check against it finds.
 use mathlib.Core.Path.{_≡_, refl, ap, _∙_}
-use mathlib.Core.List.{List, [], _∷_, _++_}
+use mathlib.Core.List.{List, [], _∷_, _++_, List·Memᴰ·tail}
 use Prim.Native.Nat.{ℕ, suc, pred, _+_, _*_, _≤_}
 use native.Mathlib.Omega.{arith}
 use lib.ListN.{length, length-append, List·getD-append}
@@ -55,7 +55,9 @@ book-front s n d E h =
 pub check-finds : (s n d : ℕ) (E ledger : List (List ℕ)) (rest : List ℕ) → NoCollision sha256 (inputsOf s n d E) (inputsOf s n d ledger) →
     checkOutcomes sha256 (start s n) ledger (chains s n d) (values sha256 (start s n) E (chains s n d) ++ rest) ≡ tableOf (chains s n d) (changed d E ledger)
 unfolding inputsOf
-check-finds s n d E ledger rest nc = check-table sha256 sha256-length (start s n) (start-length s n) (chains s n d) d (chains-within s n d) E ledger nc rest
+check-finds s n d E ledger rest nc =
+    check-table sha256 sha256-length (start s n) (start-length s n) (chains s n d) d (chains-within s n d) E ledger
+    (λ x y a b. nc x y (List·Memᴰ·tail a) (List·Memᴰ·tail b)) rest
 
 -- and with no premise, where no day of 1 to d differs, that each value passes
 pub check-passes : (s n d : ℕ) (E ledger : List (List ℕ)) (rest : List ℕ) → ((g : ℕ) → g among days d → dayOf E g ≡ dayOf ledger g) →

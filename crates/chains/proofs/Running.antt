@@ -16,26 +16,31 @@ use Rattle.lists.specs.Lists.{_among_, upFrom, keep}
 use Rattle.evidence.specs.Evidence.{days, Within, dayOf, digest, value, values}
 use Rattle.lists.proofs.Laws.{true-or-false, and-both, upFrom-bounds, keep-mem, keep-append, upFrom-snoc}
 use Rattle.evidence.proofs.ValueLaws.{value-append, value-same}
-use Rattle.layouts.specs.Layouts.{divides, allowedN, lg, Name, black, tile, tree, lastDays, offset, covers, coveredDays, levels, storesBlackOfTree, namesOfDay, chainsOfDay}
-use Rattle.layouts.proofs.AllowedLaws.{allowed-n-is}
+use Rattle.layouts.specs.Layouts.{divides, allowedScheme, allowedN, lg, Name, black, tile, tree, lastDays, offset, covers, coveredDays, levels, storesBlackOfTree, namesOfDay, chainsOfDay}
+use Rattle.layouts.proofs.AllowedLaws.{allowed-n-is, allowed-scheme-is}
 use Rattle.layouts.proofs.Counts.{div-step}
 use Rattle.layouts.proofs.Coverage.{cond-mem}
 use Rattle.sha256.specs.Sha256.{sha256, hashed}
+use Rattle.sha256.proofs.Laws.{sha256-length}
 use Rattle.sha256_words.specs.Words.{bytesOf}
 use Rattle.chains.specs.declared.Value.{Value}
-use Rattle.chains.specs.Book.{start}
+use Rattle.chains.specs.Book.{startInput, start}
 use Rattle.chains.specs.Step.{startValue, linked, linksSlot, storesSlot, linkSlot, restartSlot, each, linkedSlots, restarted, current, dayValues, valueBytes}
 use Rattle.chains.proofs.Values.{level-small}
 
 -- ---- the start
 
 pub start-bytes : (s n : ℕ) → bytesOf (startValue s n .words) ≡ start s n
-unfolding start startValue bytesOf
+unfolding start startValue sha256
 start-bytes s n = refl
 
 pub start-length : (s n : ℕ) → length (start s n) ≡ 32
 unfolding start
-start-length s n = length-replicate {A = ℕ} 32 0
+start-length s n = sha256-length (startInput s n)
+
+-- what the code asks for: 01's schemes are bytes
+pub start-asks : (s n : ℕ) → allowedScheme s ≡ true → allowedN n ≡ true → (s < 256) × (allowedN n ≡ true)
+start-asks s n a b = (omega (arith, allowed-scheme-is s a .1), b)
 
 -- ---- the days since the last multiple of w
 

@@ -4,15 +4,16 @@ use mathlib.Core.Bool.{Bool, true, false, _&&_, cond}
 use mathlib.Core.List.{List, [], _∷_, _++_, map}
 use Prim.Native.Nat.{ℕ, zero, suc, _+_, _^_}
 use lib.Dec.{leb}
-use lib.ListN.{getD, replicate}
+use lib.ListN.{getD}
 use Rattle.layouts.specs.Layouts.{divides, lg, Name, black, tile, tree, offset, covers, storesBlackOfTree, namesOfDay}
 use Rattle.sha256.specs.Sha256.{hashed, hashedBlocks}
 use Rattle.sha256_words.specs.Words.{bytesOf}
 use Rattle.chains.specs.declared.Value.{Value}
+use Rattle.chains.specs.Book.{startInput}
 
--- 01's start of a chain (SPEC 3.4), as words
+-- 02's start of a chain (SPEC 3.4), as words
 unfoldable pub startValue : ℕ → ℕ → Value
-startValue scheme n = record { words = replicate 8 0 }
+startValue scheme n = record { words = hashed (startInput scheme n) }
 
 -- 01's link of a value and a digest (SPEC 3.5), as words; and the blocks compressed for it
 abbrev pub linkBytes : Value → List ℕ → List ℕ

@@ -22,11 +22,15 @@ pub struct DayStep {
     pub count: u32,
 }
 
-// The start of a chain.
+// The start of a chain: the digest of the byte 2, the scheme and lg n, a byte each.
 pub fn start(scheme: u32, n: u32) -> Value
+    requires { ⌜ (scheme < 256) × (allowedN n ≡ true) ⌝ }
     ensures { λ r. ⌜ r ≡ startValue scheme n ⌝ }
 {
-    Value { words: [0u32; 8] }
+    let layout = [scheme as u8, layouts::lg(n) as u8];
+    Value {
+        words: hasher::digest(2, &layout),
+    }
 }
 
 fn link_value(v: Value, h: [u32; 8]) -> Value

@@ -45,7 +45,7 @@ module _ (r : Record) (d : DayStep) (s : StepOf r d) where
   step-bytes = rw (s .values-are, add-one (r .days))
 
   pub step-next : {h : Hasher} → h ≡ begun (0 ∷ []) →
-      record { scheme = r .scheme; n = r .n; f = r .f; days = r .days + 1; bytes = 0; hash = h .words; block = h .block; black = d .black; running = d .slots } ≡ nextDay r
+      record { scheme = r .scheme; n = r .n; f = r .f; days = r .days + 1; bytes = 0; hash = h .words; block = h .block; black = d .black; running = d .slots; start = r .start } ≡ nextDay r
   unfolding nextDay
   step-next e = rw (e, s .black-is, s .slots-are, add-one (r .days))
 

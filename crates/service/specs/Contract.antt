@@ -1,4 +1,4 @@
--- What open, add and close answer, give back and write, for every record, whatever its words and block bytes
+-- What open, add and close answer, give back and write, for every record, whatever its words, block bytes and start
 -- (SPEC 5.1). Definitions only.
 use mathlib.Core.Bool.{Bool, _&&_}
 use mathlib.Core.List.{List, [], _∷_, _++_}
@@ -22,7 +22,8 @@ use Rattle.service.specs.declared.Closed.{Closed}
 
 -- ---- open (SPEC 5.2): 01's tests 1 2 3 (SPEC 11.1)
 
--- 01's fresh service (SPEC 5.2): scheme, n and f, no day closed, no byte in the open day, each chain at its start
+-- 01's fresh service (SPEC 5.2): scheme, n and f, no day closed, no byte in the open day, each chain at its start; 02:
+-- the start, worked out here and kept (SPEC 22.2)
 unfoldable pub fresh : ℕ → ℕ → ℕ → Record
 fresh scheme n f =
     record {
@@ -35,6 +36,7 @@ fresh scheme n f =
       block = begun (0 ∷ []) .block;
       black = startValue scheme n;
       running = replicate 17 (startValue scheme n);
+      start = startValue scheme n;
     }
 
 -- 01's record of zeros, of a refused open (SPEC 5.2)
@@ -53,6 +55,7 @@ zeros =
       block = replicate 64 0;
       black = noValue;
       running = replicate 17 noValue;
+      start = noValue;
     }
 
 -- what open gives
@@ -97,6 +100,7 @@ grown r piece =
       block = absorbed (openDay r) (r .bytes + 1) piece .block;
       black = r .black;
       running = r .running;
+      start = r .start;
     }
 
 -- 02's blocks that the piece fills (SPEC 17.3): those that its end of the open day compresses
@@ -151,7 +155,8 @@ nextDay r =
       hash = begun (0 ∷ []) .words;
       block = begun (0 ∷ []) .block;
       black = linked (r .black) (digestOf r);
-      running = restarted (r .scheme) (r .n) (suc (r .days)) (startValue (r .scheme) (r .n)) (linkedOf r);
+      running = restarted (r .scheme) (r .n) (suc (r .days)) (r .start) (linkedOf r);
+      start = r .start;
     }
 
 -- 02's blocks of a close (SPEC 17.3): those that the day's end, its link to black and its links to slots compress

@@ -24,6 +24,7 @@ pub fn grow(state: Record, piece: &[u8]) -> Record
     let block = day.block;
     let black = state.black;
     let running = state.running;
+    let start = state.start;
     Record {
         scheme: state.scheme,
         n: state.n,
@@ -34,6 +35,7 @@ pub fn grow(state: Record, piece: &[u8]) -> Record
         block,
         black,
         running,
+        start,
     }
 }
 
@@ -52,7 +54,7 @@ pub fn step(state: Record) -> DayStep
     ensures { λ r. ⌜ StepOf state r ⌝ }
 {
     let h = digest(state);
-    let start = chains::start(state.scheme, state.n);
+    let start = state.start;
     let black = state.black;
     let running = state.running;
     chains::step(
@@ -91,6 +93,7 @@ pub fn next(state: Record, step: DayStep) -> Record
     let block = day.block;
     let black = step.black;
     let running = step.slots;
+    let start = state.start;
     Record {
         scheme: state.scheme,
         n: state.n,
@@ -101,5 +104,6 @@ pub fn next(state: Record, step: DayStep) -> Record
         block,
         black,
         running,
+        start,
     }
 }

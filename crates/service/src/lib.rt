@@ -10,7 +10,7 @@ ghost use mathlib.Core.Path.{_≡_};
 ghost use Rattle.service.specs.Contract.{opened, addRefusal, added, closeRefusal, closing, writingNumber};
 ghost use Rattle.service.specs.Contract.{countOf, writtenSoFar};
 
-// 01's five numbers, and the running hashes: of the open day (hash, block) and of the chains.
+// 01's five numbers, the running hashes, of the open day (hash, block) and of the chains, and the start of a chain.
 pub struct Record {
     pub scheme: u32,
     pub n: u32,
@@ -21,6 +21,7 @@ pub struct Record {
     pub block: [u8; 64],
     pub black: Value,
     pub running: [Value; 17],
+    pub start: Value,
 }
 
 // The number of values written, by a close or so far; or the refusal.

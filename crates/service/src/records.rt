@@ -2,11 +2,13 @@
 use crate::Record;
 use chains::Value;
 ghost use mathlib.Core.Path.{_≡_};
+ghost use Rattle.layouts.specs.Layouts.{setupRefusal};
 ghost use Rattle.service.specs.Contract as spec;
 ghost use Rattle.service.specs.Contract.{allowedRecord};
 ghost use Rattle.service.specs.Private.{recordRefusal};
 
 pub fn fresh(scheme: u32, n: u32, f: u32) -> Record
+    requires { ⌜ setupRefusal scheme n f ≡ 0 ⌝ }
     ensures { λ r. ⌜ r ≡ spec.fresh scheme n f ⌝ }
 {
     let day = hasher::begin(0);
@@ -23,6 +25,7 @@ pub fn fresh(scheme: u32, n: u32, f: u32) -> Record
         block,
         black: start,
         running: [start; 17],
+        start,
     }
 }
 
@@ -40,6 +43,7 @@ pub fn zeros() -> Record
         block: [0u8; 64],
         black: v,
         running: [v; 17],
+        start: v,
     }
 }
 

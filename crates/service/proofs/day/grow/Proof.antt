@@ -6,7 +6,7 @@ use Rattle.service.proofs.day.grow.Tie as tie
 
 returns : tie.Need-returns
 unfolding grown
-returns c = rw (c .before .before .before .before .before .absorb .ensures)
+returns c = rw (c .before .before .before .before .before .before .absorb .ensures)
 
 pub grow-spec : {M : Type 1} → statement M
 grow-spec = tie.close (tie.spec (λ c. search needs) (λ c. search needs) (λ c κs. search needs) (λ c. search needs)

@@ -14,8 +14,8 @@ step-requires : tie.Need-step-requires
 step-requires c κs = day-asks (c .before .before .before .before .before .args .state) refl (c .before .before .before .before .before .pre)
 
 returns : tie.Need-returns
-returns c = rw (← (c .before .before .before .before .before .digest .ensures), ← (c .before .before .before .before .start .ensures)) (c .step .ensures)
+returns c = rw (← (c .before .before .before .before .before .digest .ensures)) (c .step .ensures)
 
 pub step-spec : {M : Type 1} → statement M
-step-spec = tie.close (tie.spec (λ c κs. record-passes (c .args .state) refl (c .pre) .0 .bytes-most)
-    (λ c κs. search needs) add-step step-requires returns)
+step-spec = tie.close (tie.spec (λ c κs. record-passes (c .args .state) refl (c .pre) .0 .bytes-most) add-step step-requires
+    returns)
