@@ -2,15 +2,15 @@
 -- Assumes nothing.
 use Prim.Native.Nat.{ℕ, zero, suc, _+_, _*_, _/_, _%_, _^_, _≤_, _<_}
 use mathlib.Core.Path.{_≡_, refl, sym, ap, ap₂, _∙_}
-use mathlib.Core.List.{List, [], _∷_, _++_, append-assoc}
+use mathlib.Core.List.{List, [], _∷_, _++_, append-assoc, append-nil}
 use native.Mathlib.Omega.{arith}
 use native.Mathlib.Numerals.{towards-suc}
 use lib.ListN.{length, getD, take, drop, length-append, length-drop, take-append-drop, replicate}
-use lib.Seq.{take-all, drop-at, drop-drop, drop-cons, take-add, getD-append-seam, getD-append-add}
+use lib.Seq.{take-all, take-at, drop-at, drop-drop, drop-cons, take-add, getD-append-seam, getD-append-add}
 use Rattle.chains.specs.declared.Value.{Value}
 use Rattle.service.specs.Contract.{noValue, zeros}
 use Rattle.service.specs.declared.Record.{Record}
-use Rattle.record_bytes.specs.Bytes.{hashAt, blackAt, runningAt, blockAt, recordSize, numbersBytes, slotsBytes, recordBytes, numberAt, numbersAt, valueAt, slotsAt, recordOf, Words, Slots, Fits}
+use Rattle.record_bytes.specs.Bytes.{hashAt, blackAt, runningAt, blockAt, startAt, recordSize, numbersBytes, slotsBytes, recordBytes, numberAt, numbersAt, valueAt, slotsAt, recordOf, Words, Slots, Fits}
 
 -- ---- bytes, to a record and back
 
@@ -71,11 +71,12 @@ module _ (b : List ℕ) (below : Below b) where
   unfolding numbersAt
   counts-run l = numbers-run 5 0 (omega arith)
 
-  -- the bytes of the record that 692 bytes say are those bytes
+  -- the bytes of the record that recordSize bytes say are those bytes
   pub bytes-round-trip : length b ≡ recordSize → recordBytes (recordOf b) ≡ b
   unfolding recordBytes recordOf valueAt
   bytes-round-trip l =
-      let e₅ : take 64 (drop blockAt b) ≡ drop blockAt b = take-all 64 (drop blockAt b) (omega (arith, length-drop blockAt b)) in
+      let e₆ = numbers-run 8 startAt (omega arith) ∙ take-all 32 (drop startAt b) (omega (arith, length-drop startAt b)) in
+      let e₅ = run-and-rest blockAt 64 refl e₆ in
       let e₄ = run-and-rest runningAt 544 (slots-run 17 runningAt (omega arith)) e₅ in
       let e₃ = run-and-rest blackAt 32 (numbers-run 8 blackAt (omega arith)) e₄ in
       let e₂ = run-and-rest hashAt 32 (numbers-run 8 hashAt (omega arith)) e₃ in
@@ -136,9 +137,10 @@ slots-read (v ∷ vs) pre post h =
     (sym (ap₂ (λ (l : List ℕ) (i : ℕ). slotsAt (length vs) l i) on at) ∙ slots-read vs front post (h .1))
 
 same-record : (b : List ℕ) (r : Record) → numberAt b 0 ≡ r .scheme → numberAt b 4 ≡ r .n → numberAt b 8 ≡ r .f → numberAt b 12 ≡ r .days → numberAt b 16 ≡ r .bytes
-    → numbersAt 8 b hashAt ≡ r .hash → take 64 (drop blockAt b) ≡ r .block → valueAt b blackAt ≡ r .black → slotsAt 17 b runningAt ≡ r .running → recordOf b ≡ r
+    → numbersAt 8 b hashAt ≡ r .hash → take 64 (drop blockAt b) ≡ r .block → valueAt b blackAt ≡ r .black → slotsAt 17 b runningAt ≡ r .running → valueAt b startAt ≡ r .start
+    → recordOf b ≡ r
 unfolding recordOf
-same-record b r e₁ e₂ e₃ e₄ e₅ e₆ e₇ e₈ e₉ = rw (e₁, e₂, e₃, e₄, e₅, e₆, e₇, e₈, e₉)
+same-record b r e₁ e₂ e₃ e₄ e₅ e₆ e₇ e₈ e₉ e₁₀ = rw (e₁, e₂, e₃, e₄, e₅, e₆, e₇, e₈, e₉, e₁₀)
 
 length-slots : (vs : List Value) → Slots vs → length (slotsBytes vs) ≡ length vs * 32
 unfolding slotsBytes
@@ -167,29 +169,40 @@ record-round-trip r fits =
     let hs = numbersBytes (r .hash) in
     let ks = numbersBytes (r .black .words) in
     let ss = slotsBytes (r .running) in
+    let ts = numbersBytes (r .start .words) in
+    let x₅ = r .block ++ ts in
+    let x₄ = ss ++ x₅ in
+    let x₃ = ks ++ x₄ in
     let b = recordBytes r in
     let c = fits .counts in
-    let n = counts-read (r .scheme) (r .n) (r .f) (r .days) (r .bytes) (hs ++ (ks ++ (ss ++ r .block))) (c .0) (c .1) (c .2) (c .3) (c .4) in
+    let n = counts-read (r .scheme) (r .n) (r .f) (r .days) (r .bytes) (hs ++ x₃) (c .0) (c .1) (c .2) (c .3) (c .4) in
     let lc : length cs ≡ hashAt = length-numbers five in
     let lh : length hs ≡ 32 = length-numbers (r .hash) ∙ ap (λ (k : ℕ). k * 4) (fits .hash-fits .0) in
     let lk : length ks ≡ 32 = length-numbers (r .black .words) ∙ ap (λ (k : ℕ). k * 4) (fits .black-fits .0) in
     let ls : length ss ≡ 544 = length-slots (r .running) (fits .running-fit) ∙ ap (λ (k : ℕ). k * 32) (fits .running-many) in
-    let p₂ : length (cs ++ hs) ≡ blackAt = length-append cs hs ∙ omega arith in
-    let p₃ : length ((cs ++ hs) ++ ks) ≡ runningAt = length-append (cs ++ hs) ks ∙ omega arith in
-    let p₄ : length (((cs ++ hs) ++ ks) ++ ss) ≡ blockAt = length-append ((cs ++ hs) ++ ks) ss ∙ omega arith in
-    let b₂ : (cs ++ hs) ++ (ks ++ (ss ++ r .block)) ≡ b = append-assoc cs hs (ks ++ (ss ++ r .block)) in
-    let b₃ : ((cs ++ hs) ++ ks) ++ (ss ++ r .block) ≡ b = append-assoc (cs ++ hs) ks (ss ++ r .block) ∙ b₂ in
-    let b₄ : (((cs ++ hs) ++ ks) ++ ss) ++ r .block ≡ b = append-assoc ((cs ++ hs) ++ ks) ss (r .block) ∙ b₃ in
+    let f₂ = cs ++ hs in
+    let f₃ = f₂ ++ ks in
+    let f₄ = f₃ ++ ss in
+    let f₅ = f₄ ++ r .block in
+    let p₂ : length f₂ ≡ blackAt = length-append cs hs ∙ omega arith in
+    let p₃ : length f₃ ≡ runningAt = length-append f₂ ks ∙ omega arith in
+    let p₄ : length f₄ ≡ blockAt = length-append f₃ ss ∙ omega arith in
+    let p₅ : length f₅ ≡ startAt = length-append f₄ (r .block) ∙ omega (arith, fits .block-many) in
+    let b₂ : f₂ ++ x₃ ≡ b = append-assoc cs hs x₃ in
+    let b₃ : f₃ ++ x₄ ≡ b = append-assoc f₂ ks x₄ ∙ b₂ in
+    let b₄ : f₄ ++ x₅ ≡ b = append-assoc f₃ ss x₅ ∙ b₃ in
+    let b₅ : f₅ ++ ts ≡ b = append-assoc f₄ (r .block) ts ∙ b₄ in
     let hash : numbersAt 8 b hashAt ≡ r .hash =
-    sym (ap₂ (λ (k i : ℕ). numbersAt k b i) (fits .hash-fits .0) lc) ∙ numbers-read (r .hash) cs (ks ++ (ss ++ r .block)) (fits .hash-fits .1) in
-    let black : valueAt b blackAt ≡ r .black = sym (ap₂ (λ (l : List ℕ) (i : ℕ). valueAt l i) b₂ p₂) ∙ value-read (cs ++ hs) (ss ++ r .block) (r .black) (fits .black-fits) in
+    sym (ap₂ (λ (k i : ℕ). numbersAt k b i) (fits .hash-fits .0) lc) ∙ numbers-read (r .hash) cs x₃ (fits .hash-fits .1) in
+    let black : valueAt b blackAt ≡ r .black = sym (ap₂ (λ (l : List ℕ) (i : ℕ). valueAt l i) b₂ p₂) ∙ value-read f₂ x₄ (r .black) (fits .black-fits) in
     let running : slotsAt 17 b runningAt ≡ r .running =
     ap (λ (k : ℕ). slotsAt k b runningAt) (sym (fits .running-many)) ∙ sym (ap₂ (λ (l : List ℕ) (i : ℕ). slotsAt (length (r .running)) l i) b₃ p₃)
-    ∙ slots-read (r .running) ((cs ++ hs) ++ ks) (r .block) (fits .running-fit) in
+    ∙ slots-read (r .running) f₃ x₅ (fits .running-fit) in
     let block : take 64 (drop blockAt b) ≡ r .block =
-    ap (λ (l : List ℕ). take 64 (drop blockAt l)) (sym b₄) ∙ ap (take 64) (drop-at (((cs ++ hs) ++ ks) ++ ss) (r .block) blockAt p₄) ∙ take-all 64 (r .block)
-    (let e = fits .block-many in omega arith) in
-    same-record b r (n .0) (n .1) (n .2) (n .3) (n .4) hash block black running
+    ap (λ (l : List ℕ). take 64 (drop blockAt l)) (sym b₄) ∙ ap (take 64) (drop-at f₄ x₅ blockAt p₄) ∙ take-at (r .block) ts 64 (fits .block-many) in
+    let start : valueAt b startAt ≡ r .start =
+    sym (ap₂ (λ (l : List ℕ) (i : ℕ). valueAt l i) (ap (λ (l : List ℕ). f₅ ++ l) (append-nil ts) ∙ b₅) p₅) ∙ value-read f₅ [] (r .start) (fits .start-fits) in
+    same-record b r (n .0) (n .1) (n .2) (n .3) (n .4) hash block black running start
 
 -- a refused open's record, as bytes
 pub zeros-bytes : recordBytes zeros ≡ replicate recordSize 0

@@ -7,7 +7,8 @@ use lib.ListN.{length, getD, take, drop}
 use Rattle.chains.specs.declared.Value.{Value}
 use Rattle.service.specs.declared.Record.{Record}
 
--- where the parts begin after 01's five numbers: the open day's hash, black, the running hashes, the open day's block
+-- where the parts begin after 01's five numbers: the open day's hash, black, the running hashes, the open day's block,
+-- the start of a chain
 abbrev pub hashAt : ℕ
 hashAt = 20
 
@@ -20,9 +21,12 @@ runningAt = 84
 abbrev pub blockAt : ℕ
 blockAt = 628
 
+abbrev pub startAt : ℕ
+startAt = 692
+
 -- the record's size in bytes
 abbrev pub recordSize : ℕ
-recordSize = 692
+recordSize = 724
 
 -- numbers as bytes, end to end
 unfoldable pub numbersBytes : List ℕ → List ℕ
@@ -37,7 +41,8 @@ slotsBytes (v ∷ vs) = numbersBytes (v .words) ++ slotsBytes vs
 unfoldable pub recordBytes : Record → List ℕ
 recordBytes r =
     numbersBytes (r .scheme ∷ r .n ∷ r .f ∷ r .days ∷ r .bytes ∷ [])
-    ++ (numbersBytes (r .hash) ++ (numbersBytes (r .black .words) ++ (slotsBytes (r .running) ++ r .block)))
+    ++ (numbersBytes (r .hash) ++ (numbersBytes (r .black .words) ++ (slotsBytes (r .running) ++ (r .block
+    ++ numbersBytes (r .start .words)))))
 
 -- the number at place i
 unfoldable pub numberAt : List ℕ → ℕ → ℕ
@@ -70,10 +75,11 @@ recordOf b =
       block = take 64 (drop blockAt b);
       black = valueAt b blackAt;
       running = slotsAt 17 b runningAt;
+      start = valueAt b startAt;
     }
 
--- a record of the sizes and numbers that its type has: 32-bit numbers, 8 to a hash, 17 running hashes, 64 bytes of
--- block
+-- a record of the sizes and numbers that its type has: 32-bit numbers, 8 to a hash and to the start, 17 running hashes,
+-- 64 bytes of block
 abbrev pub Words : List ℕ → Type 0
 Words l = (length l ≡ 8) × ((i : ℕ) → getD l i 0 < 2 ^ 32)
 
@@ -88,3 +94,4 @@ pub record Fits (r : Record) : Type 0 where
   pub running-many : length (r .running) ≡ 17
   pub running-fit : Slots (r .running)
   pub block-many : length (r .block) ≡ 64
+  pub start-fits : Words (r .start .words)

@@ -5,7 +5,7 @@ ghost use mathlib.Core.Path.{_≡_};
 ghost use mathlib.Core.List.{[], _∷_, _++_};
 ghost use Prim.Native.Nat.{_+_, _≤_, _<_};
 ghost use lib.ListN.{length, take, drop};
-ghost use Rattle.record_bytes.specs.Bytes.{hashAt, runningAt, blockAt, recordSize, numbersBytes, slotsBytes};
+ghost use Rattle.record_bytes.specs.Bytes.{hashAt, runningAt, blockAt, startAt, numbersBytes, slotsBytes};
 ghost use Rattle.record_bytes.specs.Bytes.{recordBytes, numberAt, valueAt, slotsAt, recordOf};
 
 // Where the open day's hash begins, after the five numbers.
@@ -20,8 +20,11 @@ const RUNNING_AT: usize = 84;
 // Where the open day's block begins.
 const BLOCK_AT: usize = 628;
 
+// Where the start of a chain begins.
+const START_AT: usize = 692;
+
 // The record's size.
-pub const RECORD_BYTES: usize = 692;
+pub const RECORD_BYTES: usize = 724;
 
 // ---- from bytes
 
@@ -69,11 +72,11 @@ fn slots_at(b: &[u8]) -> [Value; 17]
 }
 
 fn block_at(b: &[u8]) -> [u8; 64]
-    requires { ⌜ recordSize ≤ length (now b) ⌝ }
+    requires { ⌜ startAt ≤ length (now b) ⌝ }
     ensures { λ r. ⌜ r ≡ take 64 (drop blockAt (now (b .entry))) ⌝ }
 {
     let mut r = [0u8; 64];
-    buffers::put(&mut r, 0, &b[BLOCK_AT..RECORD_BYTES]);
+    buffers::put(&mut r, 0, &b[BLOCK_AT..START_AT]);
     r
 }
 
@@ -93,6 +96,7 @@ pub fn decode(b: [u8; RECORD_BYTES]) -> Record
         block: block_at(&b),
         black: value_at(&b, BLACK_AT),
         running: slots_at(&b),
+        start: value_at(&b, START_AT),
     }
 }
 
@@ -159,5 +163,8 @@ pub fn encode(state: Record) -> [u8; RECORD_BYTES]
     put_slots(&mut b, slots);
     let block = state.block;
     buffers::put(&mut b, BLOCK_AT, &block);
+    let start = state.start;
+    let last = start.words;
+    put_words(&mut b, START_AT, last);
     b
 }

@@ -3,8 +3,8 @@ use mathlib.Core.Path.{_≡_}
 use lib.ListN.{length}
 use native.Mathlib.Omega.{arith}
 use borrow.Author.Needs.{needs}
-use Rattle.buffers.proofs.Writes.{wrote-end}
-use Rattle.record_bytes.proofs.Steps.{record-put}
+use Rattle.record_bytes.specs.Bytes.{startAt, recordSize}
+use Rattle.record_bytes.proofs.Steps.{record-put, block-put}
 use Rattle.record_bytes.proofs.encode.Statement.{statement}
 use Rattle.record_bytes.proofs.encode.Tie as tie
 
@@ -14,19 +14,22 @@ block-size c = search needs
 
 put-requires : tie.Need-put-requires
 put-requires c κs =
-    let all : length (c .before .before .before .before .put-slots .last .0) ≡ 692 = search needs in omega (arith, block-size c)
+    let all : length (c .before .before .before .before .put-slots .last .0) ≡ recordSize = search needs in omega (arith, block-size c)
 
 returns : tie.Need-returns
 returns c =
-    let all : length (c .before .before .before .before .before .before .put-slots .last .0) ≡ 692 = search needs in
-    let slots = c .before .before .before .before .before .before in
+    let put = c .before .before .before .before .before .before in
+    let slots = put .before .before .before .before .before in
     let counts = slots .before .before .before .before .before .before .before .before .before .before .before .before .before in
+    let all : length (slots .put-slots .last .0) ≡ recordSize = search needs in
+    let size : length (c .before .put-words3 .last .0) ≡ recordSize = search needs in
     record-put _ (counts .before .before .args .state) (counts .put-counts .ensures)
     (slots .before .before .before .before .before .before .before .before .before .put-words .ensures)
     (slots .before .before .before .before .put-words2 .ensures) (slots .put-slots .ensures)
-    (wrote-end (c .before .put .ensures) (omega (arith, all, block-size (c .before .before))))
+    (block-put startAt (put .put .ensures) (omega (arith, all)) (omega (arith, block-size (put .before)))) size
+    (c .before .put-words3 .ensures)
 
 pub encode-spec : {M : Type 1} → statement M
 encode-spec = tie.close (tie.spec (λ c. search needs) (λ c κs. search needs) (λ c. search needs)
     (λ c κs. search needs) (λ c. search needs) (λ c κs. search needs) (λ c. search needs) (λ c κs. search needs)
-    (λ c. search needs) (λ c. search needs) put-requires returns)
+    (λ c. search needs) (λ c. search needs) put-requires (λ c. search needs) (λ c κs. search needs) returns)
