@@ -70,13 +70,17 @@ begun-block m =
     length-zeros zero = refl
     length-zeros (suc k) = ap suc (length-zeros k)
 
+hashed-words : (m : List ℕ) → Words (hashed m)
+unfolding hashed blocks
+hashed-words m = chunks-words _ initial _ initial-words
+
 linked-words : (v : Value) (h : List ℕ) → Words (linked v h .words)
-unfolding linked hashed blocks
-linked-words v h = chunks-words _ initial _ initial-words
+unfolding linked
+linked-words v h = hashed-words _
 
 start-words : (s n : ℕ) → Words (startValue s n .words)
 unfolding startValue
-start-words s n = (refl, below-at (replicate 8 0) (omega arith, (omega arith, (omega arith, (omega arith, (omega arith, (omega arith, (omega arith, (omega arith, tt)))))))))
+start-words s n = hashed-words _
 
 -- ---- slots
 
@@ -98,6 +102,7 @@ same-slots (suc k) v w = (w, same-slots k v w)
 pub record Chained (r : Record) : Type 0 where
   black-fits : Words (r .black .words)
   running-fit : Slots (r .running)
+  start-fits : Words (r .start .words)
 
 chained-next : (r : Record) → Chained r → Chained (nextDay r)
 unfolding nextDay linkedSlots restarted
@@ -106,9 +111,10 @@ chained-next r c =
     record {
       black-fits = linked-words (r .black) h;
       running-fit =
-          each-slots (restartSlot s n g (startValue s n)) (λ i v w. cond-words (storesSlot s n g i) (startValue s n) v (start-words s n) w)
+          each-slots (restartSlot s n g (r .start)) (λ i v w. cond-words (storesSlot s n g i) (r .start) v (c .start-fits) w)
           0 (each (linkSlot s n g h) 0 (r .running))
           (each-slots (linkSlot s n g h) (λ i v w. cond-words (linksSlot s n g i) (linked v h) v (linked-words v h) w) 0 (r .running) (c .running-fit));
+      start-fits = c .start-fits;
     }
 
 chained-unless : (x : ℕ) (new old : Record) → Chained new → Chained old → Chained (unlessRefused x new old)
@@ -118,7 +124,7 @@ chained-unless (suc x) new old n o = o
 pub chained-called : (r : Record) (c : Call) → Chained r → Chained (called r c .state)
 unfolding added closing grown
 chained-called r (add piece) h =
-    chained-unless (addRefusal r (length piece)) (grown r piece) r (record { black-fits = h .black-fits; running-fit = h .running-fit }) h
+    chained-unless (addRefusal r (length piece)) (grown r piece) r (record { black-fits = h .black-fits; running-fit = h .running-fit; start-fits = h .start-fits }) h
 chained-called r (close part) h = chained-unless (closeRefusal r (length part)) (nextDay r) r (chained-next r h) h
 
 chained-after : (r : Record) (cs : List Call) → Chained r → Chained (stateAfter r cs)
@@ -128,7 +134,8 @@ chained-after r (c ∷ cs) h = chained-after (called r c .state) cs (chained-cal
 pub chained-open : (s n f : ℕ) → numberOf (opened s n f .answer) ≡ 0 → Chained (opened s n f .state)
 unfolding opened fresh
 chained-open s n f e =
-    rw (sym (opened-number s n f) ∙ e) (record { black-fits = start-words s n; running-fit = same-slots 17 (startValue s n) (start-words s n) })
+    let w = start-words s n in
+    rw (sym (opened-number s n f) ∙ e) (record { black-fits = w; running-fit = same-slots 17 (startValue s n) w; start-fits = w })
 
 -- ---- the record that a list of calls leaves
 
@@ -156,6 +163,7 @@ module _ {s n f : ℕ} {j : Journal} {r : Record} (k : Keeps s n f j r) (c : Cha
         running-many = k .chains-hold .size;
         running-fit = c .running-fit;
         block-many = ap (λ (h : Hasher). length (h .block)) (k .open-day) ∙ begun-block (0 ∷ j .day);
+        start-fits = c .start-fits;
       }
 
   told-kept : (written : List ℕ) → written ≡ bookOf s n (j .entries) → Told r written

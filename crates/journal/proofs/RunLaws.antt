@@ -18,6 +18,7 @@ use Rattle.hasher.proofs.Laws.{absorbed-begun, finished-begun}
 use Rattle.layouts.specs.Layouts.{allowedN, setupRefusal, chainsOfDay}
 use Rattle.layouts.proofs.AllowedLaws.{setup-is}
 use Rattle.chains.specs.Book.{start, bookOf}
+use Rattle.chains.specs.Step.{startValue}
 use Rattle.chains.proofs.Running.{Holds, holds-fresh, holds-next, day-values-are}
 use Rattle.chains.proofs.BookLaws.{book-suc, book-none, values-of-length}
 use Rattle.service.specs.declared.Record.{Record}
@@ -39,6 +40,7 @@ pub record Keeps (s n f : ℕ) (j : Journal) (r : Record) : Type 0 where
   pub days-most : length (j .entries) ≤ bookLimit
   pub bytes-most : length (j .day) ≤ dayLimit
   pub open-day : openDay r ≡ begun (0 ∷ j .day)
+  pub start-is : r .start ≡ startValue s n
   pub chains-hold : Holds s n (j .entries) (r .black) (r .running)
 
 pub keeps-fresh : (s n f : ℕ) → setupRefusal s n f ≡ 0 → Keeps s n f empty (fresh s n f)
@@ -54,6 +56,7 @@ keeps-fresh s n f e =
       days-most = omega arith;
       bytes-most = omega arith;
       open-day = refl;
+      start-is = refl;
       chains-hold = holds-fresh s n (setup-is s n f e .n-ok);
     }
 
@@ -108,6 +111,7 @@ module _ {s n f : ℕ} {j : Journal} {r : Record} (k : Keeps s n f j r) where
         open-day =
             ap (λ (h : Hasher). absorbed h (r .bytes + 1) piece) (k .open-day) ∙
             absorbed-begun (0 ∷ j .day) piece (r .bytes + 1) (ap (λ (x : ℕ). x % 64) hashed-count);
+        start-is = k .start-is;
         chains-hold = k .chains-hold;
       }
 
@@ -135,9 +139,10 @@ module _ {s n f : ℕ} {j : Journal} {r : Record} (k : Keeps s n f j r) where
         days-most = omega arith;
         bytes-most = omega arith;
         open-day = refl;
+        start-is = k .start-is;
         chains-hold =
             holds-next s n (j .entries) (j .day) n-allowed (r .black) (r .running) (digestOf r) (k .chains-hold) digest-is refl
-            (rw (k .scheme-is, k .n-is, k .days-are));
+            (rw (k .scheme-is, k .n-is, k .days-are, k .start-is));
       }
 
   -- what it writes: 01's values of the day

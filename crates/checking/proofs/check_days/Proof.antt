@@ -6,6 +6,7 @@ use native.Mathlib.Omega.{arith}
 use borrow.Author.Needs.{needs}
 use Rattle.ledger.specs.Ledger.{dayAt}
 use Rattle.chains.specs.Step.{startValue}
+use Rattle.chains.proofs.Running.{start-asks}
 use Rattle.checking.proofs.Through.{Through, through-none, parts-within, day-needs, through-next, outcomes-fit, through-all}
 use Rattle.checking.proofs.check_days.Statement.{statement}
 use Rattle.checking.proofs.check_days.Tie as tie
@@ -27,6 +28,11 @@ begin : (c : tie.In-loop Inv-loop μ-loop) →
     (32 * c .before .loop .at ≤ length (c .before .before .before .before .before .before .before .before .before .args .book .now)) × (32 * c .before .loop .i ≤ length (c .before .loop .work)) ×
     (c .before .loop .at ≤ length (c .before .loop .outcomes))
 begin c = parts-within (c .before .before .before .before .before .before .before .before .before .pre) (c .before .loop .inv .3) (c .before .loop .inv .0)
+
+start-requires : tie.Need-start-requires Inv-loop μ-loop
+start-requires c κs =
+    let b = c .before .before .before .before .before in
+    start-asks (b .args .scheme) (b .args .n) (b .pre .scheme-ok) (b .pre .n-ok)
 
 loop-holds : tie.Need-loop-holds Inv-loop μ-loop
 loop-holds c = (
@@ -113,7 +119,7 @@ returns c =
     through-all (c .before .before .before .before .before .before .before .before .before .pre) (l .inv .3) (omega (arith, l .inv .0, l .inv .1, c .loop-test .left))
 
 pub check-days-spec : {M : Type 1} → statement M
-check-days-spec = tie.close (tie.spec Inv-loop μ-loop (λ c. λ κs. search needs) (λ c. λ κs. search needs) loop-holds
+check-days-spec = tie.close (tie.spec Inv-loop μ-loop start-requires (λ c. λ κs. search needs) loop-holds
     start-of-requires end-of-requires (λ c. omega (arith, begin (c .before .before) .0)) mul-done day-number-requires
     sub-check-day (λ c. sub-check-day c) part-check-day-end (λ c. begin (c .before .before .before .before) .0)
     (λ c. begin (c .before .before .before .before) .0) (λ c. search needs)
