@@ -30,6 +30,12 @@ wrote-length at r F l k h b =
 pub wrote-front : {r : ℕ} {F l k : List ℕ} (n : ℕ) → Wrote 0 F l r k → length F ≡ n → k ≡ F ++ drop n l
 wrote-front {r} n h e = let m : r ≡ n = omega (arith, h .count) in h .list ∙ rw m
 
+-- the buffer up to where a list was written
+pub wrote-through : {at r : ℕ} {F l k : List ℕ} (end : ℕ) → Wrote at F l r k → at ≤ length l → at + length F ≡ end → take end k ≡ take at l ++ F
+wrote-through {at} {r} {F} {l} end w h e =
+    ap (take end) (w .list ∙ sym (append-assoc (take at l) F (drop r l))) ∙
+    take-at (take at l ++ F) (drop r l) end (omega (arith, length-append (take at l) F, length-take-le at l h))
+
 -- a list written up to the buffer's end
 pub wrote-end : {at r : ℕ} {F l k : List ℕ} → Wrote at F l r k → length l ≤ at + length F → k ≡ take at l ++ F
 wrote-end {at} {r} {F} {l} h e =

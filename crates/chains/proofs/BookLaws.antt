@@ -1,12 +1,13 @@
 -- Laws of the book: one more day, its front, its length, and what a check against it finds.
-use mathlib.Core.Path.{_≡_, refl, ap, _∙_}
+use mathlib.Core.Path.{_≡_, refl, sym, ap, _∙_}
 use mathlib.Core.List.{List, [], _∷_, _++_, List·Memᴰ·tail}
-use Prim.Native.Nat.{ℕ, suc, pred, _+_, _*_, _≤_}
+use Prim.Native.Nat.{ℕ, zero, suc, pred, _+_, _*_, _≤_, _<_}
 use native.Mathlib.Omega.{arith}
-use lib.ListN.{length, length-append, List·getD-append}
+use lib.ListN.{length, getD, take, drop, length-append, List·getD-append}
+use lib.Seq.{take-at, drop-at, drop-drop}
 use Rattle.lists.specs.Lists.{_among_}
 use Rattle.evidence.specs.Evidence.{days, tableOf, dayOf, changed, value, values, checkOutcomes, NoCollision}
-use Rattle.evidence.proofs.ValueLaws.{values-append, values-same, value-same, length-values, check-table, check-unaltered}
+use Rattle.evidence.proofs.ValueLaws.{values-append, values-same, value-same, length-value, length-values, check-table, check-unaltered}
 use Rattle.layouts.specs.Layouts.{chains, chainsOfDay}
 use Rattle.layouts.proofs.Coverage.{chains-within, chains-suc, chains-front}
 use Rattle.sha256.specs.Sha256.{sha256}
@@ -43,6 +44,24 @@ book-length s n E = length-values sha256 sha256-length (start s n) (start-length
 
 pub values-of-length : (s n : ℕ) (E cs : List (List ℕ)) → length (values sha256 (start s n) E cs) ≡ 32 * length cs
 values-of-length s n E cs = length-values sha256 sha256-length (start s n) (start-length s n) E cs
+
+-- the value of a chain stands at the chain's place
+values-at : (s n : ℕ) (E cs : List (List ℕ)) (j : ℕ) → j < length cs →
+    take 32 (drop (32 * j) (values sha256 (start s n) E cs)) ≡ value sha256 (start s n) E (getD cs j [])
+values-at s n E [] j h = absurd (omega arith)
+values-at s n E (c ∷ cs) zero h =
+    take-at (value sha256 (start s n) E c) (values sha256 (start s n) E cs) 32 (length-value sha256 sha256-length E c (start s n) (start-length s n))
+values-at s n E (c ∷ cs) (suc j) h =
+    let e : 32 + 32 * j ≡ 32 * suc j = omega arith in
+    let v = value sha256 (start s n) E c in
+    let vs = values sha256 (start s n) E cs in
+    ap (take 32) (sym (drop-drop (32 * j) 32 (v ++ vs) ∙ ap (λ (k : ℕ). drop k (v ++ vs)) e) ∙
+    ap (drop (32 * j)) (drop-at v vs 32 (length-value sha256 sha256-length E c (start s n) (start-length s n)))) ∙ values-at s n E cs j (omega arith)
+
+pub book-at : (s n : ℕ) (E : List (List ℕ)) (j : ℕ) → j < length (chains s n (length E)) →
+    take 32 (drop (32 * j) (bookOf s n E)) ≡ value sha256 (start s n) E (getD (chains s n (length E)) j [])
+unfolding bookOf
+book-at s n E j h = values-at s n E (chains s n (length E)) j h
 
 -- the front of the book is the values of the first d days
 pub book-front : (s n d : ℕ) (E : List (List ℕ)) → d ≤ length E → (rest : List ℕ) × (bookOf s n E ≡ values sha256 (start s n) E (chains s n d) ++ rest)

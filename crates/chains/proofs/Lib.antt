@@ -4,3 +4,4 @@ pub mod Values
 pub mod Running
 pub mod BookLaws
 pub mod BlockLaws
+pub mod Apart

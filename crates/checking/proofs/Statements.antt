@@ -38,7 +38,7 @@ outcome-at first L (c ∷ cs) book (suc i) h =
     outcome-at first L cs (drop 32 book) i (omega arith) ∙
     ap (λ (b : List ℕ). cond (same (take 32 b) (value sha256 first L (getD cs i []))) 1 0) (drop-drop (32 * i) 32 book ∙ ap (λ (k : ℕ). drop k book) e)
 
-answer-none : (r : ℕ) → answerOf r ≡ Done → r ≡ 0
+pub answer-none : (r : ℕ) → answerOf r ≡ Done → r ≡ 0
 answer-none zero e = refl
 answer-none (suc r) e = absurd (let q : _≡_ {A = ℕ} 0 1 = cc in omega arith)
 

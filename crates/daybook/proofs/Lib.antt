@@ -6,3 +6,4 @@ pub mod Seal
 pub mod Records
 pub mod Sizing
 pub mod Search
+pub mod OtherLayout

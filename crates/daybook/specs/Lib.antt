@@ -3,3 +3,4 @@ pub mod Detection
 pub mod Records
 pub mod Sizing
 pub mod Search
+pub mod OtherLayout

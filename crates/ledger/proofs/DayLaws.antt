@@ -44,7 +44,7 @@ days-at-length ledger ends d i h l = rw (days-at ledger ends d i l) (day-length 
 -- ---- what is read
 
 -- a part of a list lies in the list's front
-part-front : (n s t : ℕ) (l : List ℕ) → s + n ≤ t → take n (drop s (take t l)) ≡ take n (drop s l)
+pub part-front : (n s t : ℕ) (l : List ℕ) → s + n ≤ t → take n (drop s (take t l)) ≡ take n (drop s l)
 part-front n zero t l h = take-take n t l (omega arith)
 part-front n (suc s) zero l h = absurd (omega arith)
 part-front n (suc s) (suc t) [] h = refl

@@ -1,12 +1,12 @@
 -- Days end to end, with their running totals as ends, are the days of a ledger that passes tests 9 and 10.
 use mathlib.Core.Path.{_≡_, refl, ap, ap₂, _∙_}
-use mathlib.Core.List.{List, [], _∷_, _++_, List·Memᴰ·head, List·Memᴰ·tail}
+use mathlib.Core.List.{List, [], _∷_, _++_}
 use Prim.Native.Nat.{ℕ, zero, suc, _+_, _-_, _≤_, _<_}
 use native.Mathlib.Omega.{arith}
 use lib.ListN.{length, getD, take, drop, length-append}
 use lib.Seq.{take-at, drop-at, take-suc, split-at, ext-getD}
 use Rattle.lists.specs.Lists.{_among_, joined}
-use Rattle.lists.proofs.Laws.{joined-append, joined-one, joined-single}
+use Rattle.lists.proofs.Laws.{getD-mem, joined-append, joined-one, joined-single}
 use Rattle.refusals.specs.Refusals.{dayLimit}
 use Rattle.ledger.specs.Ledger.{startOf, endOf, dayAt, daysOf, endsFrom, endsRefusal}
 use Rattle.ledger.proofs.{EndLaws.none-refusal, DayLaws.days-length, DayLaws.days-at}
@@ -69,10 +69,5 @@ module _ (E : List (List ℕ)) where
         enough = omega (arith, ends-length 0 E);
         ascend = λ i h. omega (arith, end-is i h, start-is i (omega arith), grows i h);
         within = λ i h. omega (arith, end-is i h, within-all i h);
-        limited = λ i h. omega (arith, end-is i h, start-is i (omega arith), grows i h, limit (getD E i []) (get-among E i h));
+        limited = λ i h. omega (arith, end-is i h, start-is i (omega arith), grows i h, limit (getD E i []) (getD-mem E i [] h));
       })
-    where
-      get-among : (l : List (List ℕ)) (i : ℕ) → i < length l → getD l i [] among l
-      get-among [] i h = absurd (omega arith)
-      get-among (x ∷ l) zero h = List·Memᴰ·head refl
-      get-among (x ∷ l) (suc i) h = List·Memᴰ·tail (get-among l i (omega arith))

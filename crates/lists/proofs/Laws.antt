@@ -1,10 +1,10 @@
 -- Laws of lists of numbers: membership, tests, runs, the numbers that pass a test.
 use mathlib.Core.{Path._≡_, Path.refl, Path.sym, Path.ap, Path._∙_, Logic._⊎_, Logic.inl, Logic.inr}
 use mathlib.Core.Bool.{Bool, true, false, _&&_, _||_, and-assoc}
-use mathlib.Core.List.{List, [], _∷_, _++_, map, flatMap, append-assoc, append-nil, List·Memᴰ·head, List·Memᴰ·tail, List·Memᴰ·cases-cons}
+use mathlib.Core.List.{List, [], _∷_, _++_, map, flatMap, append-assoc, append-nil, List·Memᴰ·head, List·Memᴰ·tail, List·Memᴰ·cases-cons, Memᴰ·append-left, Memᴰ·append-right}
 use Prim.Native.Nat.{ℕ, zero, suc, _+_, _≤_, _<_}
 use native.Mathlib.{Nat.add-zero, Nat.eq-or-lt-of-le, Decide.decLt, Omega.arith}
-use lib.{Dec.eqb, Dec.leb, ListN.length, ListN.take, Seq.length-take-le, Seq.take-all}
+use lib.{Dec.eqb, Dec.leb, ListN.length, ListN.getD, ListN.take, Seq.length-take-le, Seq.take-all}
 use borrow.Author.Tests.{eqb-true, eq-eqb, ne-eqb, leb-true, leb-false, le-leb}
 use Rattle.lists.specs.Lists.{_among_, has, same, every, upFrom, keep, Ascends, joined}
 
@@ -67,6 +67,11 @@ pub eq-same : (xs ys : List ℕ) → xs ≡ ys → same xs ys ≡ true
 eq-same xs ys e = rw e (same-refl ys)
 
 -- ---- n numbers from i on
+
+pub getD-mem : {A : Type 0} (l : List A) (i : ℕ) (z : A) → i < length l → getD l i z among l
+getD-mem [] i z h = absurd (omega arith)
+getD-mem (x ∷ l) zero z h = List·Memᴰ·head refl
+getD-mem (x ∷ l) (suc i) z h = List·Memᴰ·tail (getD-mem l i z (omega arith))
 
 pub upFrom-mem : (i n g : ℕ) → i ≤ g → g < i + n → g among upFrom i n
 upFrom-mem i zero g a b = absurd (omega arith)
@@ -243,6 +248,11 @@ pub flatMap-append : {A B : Type 0} (f : A → List B) (xs ys : List A) → flat
 unfolding flatMap
 flatMap-append f [] ys = refl
 flatMap-append f (x ∷ xs) ys = ap (λ r. f x ++ r) (flatMap-append f xs ys) ∙ sym (append-assoc (f x) (flatMap f xs) (flatMap f ys))
+
+pub flatMap-mem : {A B : Type 0} (f : A → List B) {x : A} {xs : List A} → x among xs → (y : B) → y among f x → y among flatMap f xs
+unfolding flatMap
+flatMap-mem f (List·Memᴰ·head {x = z} {xs = zs} e) y m = Memᴰ·append-left (flatMap f zs) (rw e at m)
+flatMap-mem f (List·Memᴰ·tail {x = z} {xs = zs} h) y m = Memᴰ·append-right (f z) (flatMap-mem f h y m)
 
 pub flatMap-one : {A B : Type 0} (f : A → List B) (x : A) → flatMap f (x ∷ []) ≡ f x
 unfolding flatMap

@@ -7,7 +7,6 @@ use native.Mathlib.Omega.{arith}
 use native.Mathlib.Numerals.{add-one, towards-suc}
 use lib.ListN.{length, getD, take, drop, set, length-append}
 use lib.Seq.{lt-length-set, take-suc, take-suc-set, take-all, take-at, sets, sets-eq, length-take-le}
-use Rattle.buffers.specs.Private.{Wrote}
 use Rattle.chains.specs.declared.Value.{Value}
 use Rattle.service.specs.declared.Record.{Record}
 use Rattle.record_bytes.specs.Bytes.{hashAt, blackAt, runningAt, blockAt, startAt, recordSize, numbersBytes, slotsBytes, numberAt, numbersAt, valueAt, slotsAt, recordOf, recordBytes}
@@ -126,9 +125,3 @@ pub record-put : {p q r s u : List ℕ} (b : List ℕ) (t : Record) → p ≡ nu
     → b ≡ recordBytes t
 unfolding recordBytes
 record-put b t e₁ e₂ e₃ e₄ e₅ l e₆ = sym (take-all recordSize b (omega arith)) ∙ (rw (e₆, e₅, e₄, e₃, e₂, e₁) (simp append-assoc))
-
--- what is written up to a place stands behind what was before it
-pub block-put : {at r : ℕ} {F l k : List ℕ} (end : ℕ) → Wrote at F l r k → at ≤ length l → at + length F ≡ end → take end k ≡ take at l ++ F
-block-put {at} {r} {F} {l} end w h e =
-    ap (take end) (w .list ∙ sym (append-assoc (take at l) F (drop r l))) ∙
-    take-at (take at l ++ F) (drop r l) end (omega (arith, length-append (take at l) F, length-take-le at l h))

@@ -3,17 +3,19 @@ use crate::lines;
 use test_samples::days;
 
 // The lowest bytes of the five numbers.
-fn print_numbers(state: &[u8; 692]) {
+fn print_numbers(state: &[u8; 724]) {
     lines::bytes(&[state[0], state[4], state[8], state[12], state[16]]);
 }
 
-fn open(state: &mut [u8; 692]) {
+// With the start.
+fn open(state: &mut [u8; 724]) {
     lines::head(b"open", daybook_c::daybook_open(2, 8, 3, state));
     print_numbers(state);
+    lines::bytes(&state[692..724]);
     lines::end();
 }
 
-fn add(state: &mut [u8; 692], g: usize) {
+fn add(state: &mut [u8; 724], g: usize) {
     let piece = days::bytes(g);
     let mut blocks = 97u32;
     lines::head(b"add", daybook_c::daybook_add(state, &piece, &mut blocks));
@@ -23,7 +25,7 @@ fn add(state: &mut [u8; 692], g: usize) {
 }
 
 // The part has more than the five values of a whole tile.
-fn close(state: &mut [u8; 692]) {
+fn close(state: &mut [u8; 724]) {
     let mut part = [170u8; 200];
     let mut values = 99u32;
     let mut blocks = 97u32;
@@ -36,7 +38,7 @@ fn close(state: &mut [u8; 692]) {
     lines::end();
 }
 
-fn days(state: &mut [u8; 692]) {
+fn days(state: &mut [u8; 724]) {
     let mut g = 1usize;
     while g < 10 {
         add(state, g);
@@ -45,7 +47,7 @@ fn days(state: &mut [u8; 692]) {
     }
 }
 
-fn record_values(state: &[u8; 692]) {
+fn record_values(state: &[u8; 724]) {
     let mut values = 99u32;
     lines::head(
         b"record_values",
@@ -56,7 +58,7 @@ fn record_values(state: &[u8; 692]) {
 }
 
 pub fn run() {
-    let mut state = [170u8; 692];
+    let mut state = [170u8; 724];
     open(&mut state);
     days(&mut state);
     record_values(&state);

@@ -3,8 +3,9 @@ use mathlib.Core.Path.{_≡_}
 use lib.ListN.{length}
 use native.Mathlib.Omega.{arith}
 use borrow.Author.Needs.{needs}
+use Rattle.buffers.proofs.Writes.{wrote-through}
 use Rattle.record_bytes.specs.Bytes.{startAt, recordSize}
-use Rattle.record_bytes.proofs.Steps.{record-put, block-put}
+use Rattle.record_bytes.proofs.Steps.{record-put}
 use Rattle.record_bytes.proofs.encode.Statement.{statement}
 use Rattle.record_bytes.proofs.encode.Tie as tie
 
@@ -26,7 +27,7 @@ returns c =
     record-put _ (counts .before .before .args .state) (counts .put-counts .ensures)
     (slots .before .before .before .before .before .before .before .before .before .put-words .ensures)
     (slots .before .before .before .before .put-words2 .ensures) (slots .put-slots .ensures)
-    (block-put startAt (put .put .ensures) (omega (arith, all)) (omega (arith, block-size (put .before)))) size
+    (wrote-through startAt (put .put .ensures) (omega (arith, all)) (omega (arith, block-size (put .before)))) size
     (c .before .put-words3 .ensures)
 
 pub encode-spec : {M : Type 1} → statement M

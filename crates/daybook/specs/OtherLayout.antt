@@ -1,0 +1,44 @@
+-- 02's book under another layout (C-17, SPEC 22.4): whatever the ledger, no value that was sealed passes.
+use mathlib.Core.Path.{_≡_}
+use mathlib.Core.List.{List}
+use Prim.Native.Nat.{ℕ, _*_, _<_}
+use lib.ListN.{length, getD, take, drop}
+use Rattle.refusals.specs.Refusals.{numberOf}
+use Rattle.refusals.specs.declared.Answer.the-variants.{Done}
+use Rattle.evidence.specs.Evidence.{NoCollision}
+use Rattle.layouts.specs.Layouts.{chains}
+use Rattle.sha256.specs.Sha256.{sha256}
+use Rattle.chains.specs.Book.{inputsOf}
+use Rattle.service.specs.Contract.{opened}
+use Rattle.journal.specs.Run.{Call}
+use Rattle.daybook.specs.Detection.{Handed, ledgerDays, checking}
+use Rattle.daybook.specs.Claim.{sealed, wrote}
+
+-- the calls cs sealed under scheme, n and f; check is handed x under scheme₂, n₂, f₂ and d
+module _ (scheme n f : ℕ) (cs : List Call) (scheme₂ n₂ f₂ d : ℕ) (x : Handed) where
+  -- no two different inputs, one hashed at sealing and one at checking, each for its own layout and days, share a
+  -- SHA-256 value
+  abbrev pub LayoutsApart : Type 0
+  LayoutsApart =
+      NoCollision sha256 (inputsOf scheme n (length (sealed scheme n cs)) (sealed scheme n cs))
+      (inputsOf scheme₂ n₂ d (ledgerDays d x))
+
+  pub record NonePasses : Type 0 where
+    -- a value that was written, the j-th, wherever it stands in the book handed in, at place i
+    pub anywhere : (i j : ℕ) → i < length (chains scheme₂ n₂ d) →
+        j < length (chains scheme n (length (sealed scheme n cs))) →
+        take 32 (drop (32 * i) (x .book)) ≡ take 32 (drop (32 * j) (wrote scheme n f cs)) →
+        getD (checking scheme₂ n₂ f₂ d x .outcomes) i 0 ≡ 0
+    -- so in a book that begins with the one written each of them, as far as check looks
+    pub in-place : take (length (wrote scheme n f cs)) (x .book) ≡ wrote scheme n f cs →
+        (i : ℕ) → i < length (chains scheme₂ n₂ d) → i < length (chains scheme n (length (sealed scheme n cs))) →
+        getD (checking scheme₂ n₂ f₂ d x .outcomes) i 0 ≡ 0
+
+-- from an accepted open, for every list of calls, every layout of another scheme or another N, and every check that is
+-- not refused
+abbrev pub OtherLayoutFails : Type 0
+OtherLayoutFails =
+    (scheme n f : ℕ) → numberOf (opened scheme n f .answer) ≡ 0 → (cs : List Call) →
+    (scheme₂ n₂ f₂ d : ℕ) → ((scheme ≡ scheme₂) × (n ≡ n₂) → ⊥) → (x : Handed) →
+    checking scheme₂ n₂ f₂ d x .answer ≡ Done → LayoutsApart scheme n f cs scheme₂ n₂ f₂ d x →
+    NonePasses scheme n f cs scheme₂ n₂ f₂ d x
