@@ -875,11 +875,11 @@ def tile_counts(case, n, k):
 def tiles(case):
     """Sets of up to three offsets and refused ones, of all kinds of N."""
     rng = case.rng
-    n = rng.choice((*TILE_SIZES, 128, 256))
     high = [1 << weight for weight in (8, 16, 24, 31)]
-    for k in (0, 1, 2, 3, 4, rng.choice(FAR), rng.getrandbits(32),
-              *(x + rng.randint(1, 3) for x in high)):
-        tile_counts(case, n, k)
+    for n in (rng.choice(TILE_SIZES), rng.choice((32, 64, 128, 256))):
+        for k in (0, 1, 2, 3, 4, rng.choice(FAR), rng.getrandbits(32),
+                  *(x + rng.randint(1, 3) for x in high)):
+            tile_counts(case, n, k)
     for n in (rng.choice(BAD_SIZES), rng.randrange(300), rng.getrandbits(32),
               *(x + rng.choice(TILE_SIZES) for x in high)):
         tile_counts(case, n, rng.choice((0, 1, 2, 3, 4, rng.choice(FAR))))
