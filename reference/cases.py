@@ -203,6 +203,64 @@ def round_trip(case):
     seal_check_read(case, n, f, d, days, altered)
 
 
+# ------------------------------------------- books under another scheme or N
+
+SIZES = (1, 2, 4, 8, 16, 32, 64, 128, 256)
+OLDER = bytes(32)           # what the chains of older books start with
+
+
+def check_other(case, settings, days, book, due):
+    """Check any book: every value must have the outcome due.
+
+    The values that it lacks are zeros, and then random bytes.
+    """
+    rng, scheme, n, _, d = case.rng, *settings
+    ledger, ends = join_days(days)
+    count = daybook.values(scheme, n, d)
+    lacking = max(0, 32 * count - len(book))
+    rests = (bytes(lacking), rng.randbytes(lacking)) if lacking else (b"",)
+    for rest in rests:
+        answer, after = case.call("check", *settings, ledger, ends,
+                                  book + rest, rng.randbytes(32 * d),
+                                  rng.randbytes(count))
+        case.claim(answer == 0, "check is refused")
+        case.claim(set(after[-1]) == {due}, "a value passes in a book of "
+                   "another layout, or fails in its own")
+
+
+def moved(rng, book):
+    """The values of a book, mostly at other places."""
+    values = [book[k:k + 32] for k in range(0, len(book), 32)]
+    way = rng.randrange(4)
+    if way == 0:
+        rng.shuffle(values)
+    elif way == 1:
+        k = rng.randrange(len(values))
+        values = values[k:] + values[:k]
+    elif way == 2:
+        values = [rng.choice(values)] * rng.randint(1, 40)
+    return b"".join(values)
+
+
+def other_layout(case):
+    """A book checked under another scheme or N, an older one under its own.
+    """
+    rng, scheme = case.rng, case.scheme
+    n, f, d = layout(scheme, rng)
+    other, m, length, first = scheme, n, d, OLDER
+    if rng.random() < 0.6:
+        first = None
+        while (other, m) == (scheme, n):
+            other = rng.choice((1, 2, 3))
+            m, _, length = layout(other, rng)
+    days = [rng.randbytes(day_length(rng)) for _ in range(max(d, length))]
+    digests = [daybook.digest(day) for day in days[:length]]
+    book = b"".join(daybook._seal_digests(other, m, digests, first))
+    found = alter_days(rng, days) if rng.random() < 0.3 else days
+    for handed in (book, moved(rng, book)):
+        check_other(case, (scheme, n, f, d), found[:d], handed, 0)
+
+
 # -------------------------------------------------------------------- reading
 
 def random_set(rng, d):
@@ -558,8 +616,17 @@ def history(case):
 
 # ------------------------------------------------------------ made-up records
 
+def start_in(rng, scheme, n):
+    """A start in a made-up record: any, zeros, right or another layout's."""
+    if rng.random() < 0.5 or daybook.settings_refusal(scheme, n, 1):
+        return rng.randbytes(32)
+    others = rng.choice((1, 2, 3)), rng.choice(SIZES)
+    return rng.choice((OLDER, OLDER, daybook.start(scheme, n),
+                       daybook.start(*others)))
+
+
 def made_up(scheme, rng):
-    """692 bytes, with fields that are allowed or just not."""
+    """A record with fields that are allowed or just not."""
     data = rng.randbytes(record.SIZE)
     x = rng.random()
     if x < 0.03:
@@ -577,8 +644,8 @@ def made_up(scheme, rng):
         days = rng.choice((DAYS, DAYS, DAYS + 1, days, TOP, days))
     if x > 0.9:
         count = rng.choice((LIMIT - 1, LIMIT, LIMIT + 1, TOP))
-    data = struct.pack("<5I", scheme, n, f, days, count) + data[20:]
-    return data
+    return struct.pack("<5I", scheme, n, f, days, count) \
+        + data[20:record.START] + record.swap(start_in(rng, scheme, n))
 
 
 def made_up_calls(case):
@@ -699,12 +766,12 @@ def values_of_record(case):
     for _ in range(4):
         count_record(case, made_up(scheme, rng))
     n, f, d = layout(scheme, rng, 16)
-    settings = scheme, n, f
-    if rng.random() < 0.5:
-        settings = bad_settings(rng, *settings, d)[:3]
-    answer, after = case.call("open", *settings, rng.randbytes(record.SIZE))
-    case.claim(count_record(case, after[-1]) == (6 if answer else 0),
-               "the values of a record that was opened")
+    for settings in ((scheme, n, f), bad_settings(rng, scheme, n, f, d)[:3],
+                     (scheme, n, rng.choice(BAD_INTERVALS))):
+        answer, after = case.call("open", *settings,
+                                  rng.randbytes(record.SIZE))
+        case.claim(count_record(case, after[-1]) == (6 if answer else 0),
+                   "the values of a record that was opened")
     case.call("version")
 
 
@@ -808,11 +875,11 @@ def tile_counts(case, n, k):
 def tiles(case):
     """Sets of up to three offsets and refused ones, of all kinds of N."""
     rng = case.rng
-    n = rng.choice((*TILE_SIZES, 128, 256))
     high = [1 << weight for weight in (8, 16, 24, 31)]
-    for k in (0, 1, 2, 3, 4, rng.choice(FAR), rng.getrandbits(32),
-              *(x + rng.randint(1, 3) for x in high)):
-        tile_counts(case, n, k)
+    for n in (rng.choice(TILE_SIZES), rng.choice((32, 64, 128, 256))):
+        for k in (0, 1, 2, 3, 4, rng.choice(FAR), rng.getrandbits(32),
+                  *(x + rng.randint(1, 3) for x in high)):
+            tile_counts(case, n, k)
     for n in (rng.choice(BAD_SIZES), rng.randrange(300), rng.getrandbits(32),
               *(x + rng.choice(TILE_SIZES) for x in high)):
         tile_counts(case, n, rng.choice((0, 1, 2, 3, 4, rng.choice(FAR))))
@@ -903,7 +970,8 @@ def add_big(case, current, piece, day, want):
         count += len(piece)
         rest = day[len(day) - (count + 1) % 64:] if (count + 1) % 64 else b""
         after = record.pack((scheme, n, f, days, count), record.FIRST,
-                            record.running_of(current), rest)
+                            record.running_of(current), rest,
+                            record.start_of(current))
     digest = hashlib.sha256(day).digest()
     answer, given = case.call("add", current, piece, blocks,
                               want=(want, (after, piece, taken)), day=digest)
@@ -929,7 +997,8 @@ def big_day(case):
         answer, after = case.call("close", current, part,
                                   random_words(rng, 1), random_words(rng, 1))
         case.claim(answer == 0 and after[1][:32]
-                   == daybook.link(bytes(32), h), "the value of a big day")
+                   == daybook.link(daybook.start(scheme, 1), h),
+                   "the value of a big day")
         case.claim(total + after[3][0]
                    == daybook.forecast_blocks(scheme, 1, [LIMIT]),
                    "the blocks of a big day")
@@ -1066,7 +1135,7 @@ def longest_season(case):
 def every_position(case):
     """All positions of short books; in each of these all wrong numbers."""
     rng, scheme = case.rng, case.scheme
-    for n in (1, 2, 4, 8, 16, 32, 64, 128, 256):
+    for n in SIZES:
         for k in (1, 2, 3, 4, 5, 8):
             settings = scheme, n, 1, k * n
             count = daybook.values(scheme, n, k * n)
@@ -1160,6 +1229,29 @@ def every_tile(case):
             tile_counts(case, n, k)
 
 
+def every_layout(case):
+    """Books of every scheme and N, sealed and older ones, under each N."""
+    rng, d = case.rng, 256
+    days = [rng.randbytes(day_length(rng)) for _ in range(d)]
+    ledger, ends = join_days(days)
+    digests = [daybook.digest(day) for day in days]
+    books, older = {}, []
+    for other in (1, 2, 3):
+        for m in SIZES:
+            lent = rng.randbytes(32 * daybook.values(other, m, d))
+            books[other, m] = case.call("seal", other, m, 1, d, ledger, ends,
+                                        lent)[1][-1]
+            older.append(b"".join(
+                daybook._seal_digests(other, m, digests, OLDER)))
+    for n in SIZES:
+        settings = case.scheme, n, 1, d
+        for sealed, book in books.items():
+            check_other(case, settings, days, book,
+                        int(sealed == settings[:2]))
+        for book in older:
+            check_other(case, settings, days, book, 0)
+
+
 def long_table(scheme, n, days):
     """The table of 65,536 days that these changed days, ascending, give."""
     before = [0] * (DAYS + 1)
@@ -1180,9 +1272,9 @@ def long_table(scheme, n, days):
 ONCE = (whole_book, whole_service, big_day, big_ledger, high_bytes,
         settings_grid, record_grid, wide_arrays, longest_season,
         every_position, longest_positions, every_search, longest_search,
-        every_tile)
-KINDS = ((round_trip, 26), (read_table, 24), (refused, 14), (history, 12),
-         (made_up_calls, 14), (empty_arrays, 5), (number_of_values, 5),
-         (values_of_record, 4), (sizes, 6), (positions, 6), (skipped, 4),
-         (searches, 4), (tiles, 4))
+        every_tile, every_layout)
+KINDS = ((round_trip, 26), (other_layout, 6), (read_table, 24),
+         (refused, 14), (history, 12), (made_up_calls, 14),
+         (empty_arrays, 5), (number_of_values, 5), (values_of_record, 4),
+         (sizes, 6), (positions, 6), (skipped, 4), (searches, 4), (tiles, 4))
 CHOICES = [kind for kind, weight in KINDS for _ in range(weight)]

@@ -1,8 +1,9 @@
 """Settlement day books: sealing, checking, reading.
 
 Reference implementation of the request (01), "Settlement day books:
-sealing, checking, reading".  Written for clearness, not for speed: the
-layouts, the book and the reading follow the request's definitions.
+sealing, checking, reading", and of later requests (02).  Written for
+clearness, not for speed: the layouts, the book and the reading follow the
+requests' definitions.
 
 Days count from 1.  Refusals are the request's numbers, 0 stands for none.
 """
@@ -21,7 +22,7 @@ SUBSETS_LIMIT = 12          # up to this D, reading tries every set of days
 MASKS_LIMIT = 512           # up to this D, it has the chains as masks
 TILE_LIMIT = 64             # days of a tile whose sets are counted
 SET_LIMIT = 3               # offsets in such a set
-VERSION = 700               # 10000 major + 100 minor + patch: 0.7.0
+VERSION = 800               # 10000 major + 100 minor + patch: 0.8.0
 
 BLACK, TILE, TREE = "black", "tile", "tree"
 
@@ -33,12 +34,9 @@ def lg(x):
 
 # ---------------------------------------------------------------- hash, link
 
-START = bytes(32)
-
-
 def start(scheme, n):
-    """The value a chain starts with; the same for all layouts."""
-    return START
+    """What every chain of a book starts with: F has no part in it."""
+    return hashlib.sha256(bytes([2, scheme, lg(n)])).digest()
 
 
 def digest(day_bytes):
@@ -149,7 +147,7 @@ def covers(n, name, day):
 
 # ---------------------------------------------------------------------- book
 
-def value(chain, days, scheme=None, n=None):
+def value(scheme, n, chain, days):
     """The value of a chain, hashed from its first day.
 
     days[0] holds the bytes of day 1.
@@ -162,13 +160,16 @@ def value(chain, days, scheme=None, n=None):
 
 def book(scheme, n, days):
     """The book of the days, by definition: every chain hashed in full."""
-    return b"".join(value(chain, days, scheme, n)
+    return b"".join(value(scheme, n, chain, days)
                     for chain in chains(scheme, n, len(days)))
 
 
-def _seal_digests(scheme, n, digests):
-    """The values of the book over the given day digests, incrementally."""
-    first = start(scheme, n)
+def _seal_digests(scheme, n, digests, first=None):
+    """The values of the book over the given day digests, incrementally.
+
+    Its chains start with first, or as those of the layout if it is None.
+    """
+    first = start(scheme, n) if first is None else first
     levels = range(lg(len(digests)) + 1) if digests else ()
     black = first
     running = {}
@@ -356,7 +357,8 @@ class Record:
     2, slot i is tile chain c(i); under scheme 3, slot L is the tree chain of
     level L; slots without a chain are carried along unchanged.  open_day
     holds the bytes of the open day in place of a hasher's state, so a record
-    that is not refused has open_bytes == len(open_day).
+    that is not refused has open_bytes == len(open_day).  start is what a slot
+    starts again with, in a record made up by hand any 32 bytes.
     """
     scheme: int = 0
     n: int = 0
@@ -365,13 +367,16 @@ class Record:
     open_bytes: int = 0
     running: tuple = (bytes(32),) * (1 + SLOTS)
     open_day: bytes = b""
+    start: bytes = bytes(32)
 
 
-def made_up(scheme, n, f, days, running, open_day=b""):
-    """A record with any days closed and any running values."""
+def made_up(scheme, n, f, days, running, first, open_day=b""):
+    """A record with any days closed, any running values and any start."""
     running = tuple(bytes(v) for v in running)
-    assert len(running) == 1 + SLOTS and all(len(v) == 32 for v in running)
-    return Record(scheme, n, f, days, len(open_day), running, bytes(open_day))
+    assert len(running) == 1 + SLOTS
+    assert all(len(v) == 32 for v in (*running, first))
+    return Record(scheme, n, f, days, len(open_day), running, bytes(open_day),
+                  bytes(first))
 
 
 def record_refusal(record):
@@ -387,7 +392,9 @@ def open_service(scheme, n, f):
     refusal = settings_refusal(scheme, n, f)
     if refusal:
         return refusal, Record()
-    return 0, Record(scheme, n, f, running=(start(scheme, n),) * (1 + SLOTS))
+    first = start(scheme, n)
+    return 0, Record(scheme, n, f, running=(first,) * (1 + SLOTS),
+                     start=first)
 
 
 def add(record, piece):
@@ -444,7 +451,7 @@ def close(record, part):
             v = black
         else:
             v = slots[index]
-            slots[index] = start(scheme, n)
+            slots[index] = record.start
         part[32 * position:32 * position + 32] = v
     return 0, replace(record, days=g, open_bytes=0,
                       running=(black, *slots), open_day=b""), len(ended)

@@ -1,9 +1,9 @@
 """Expected output: the close of day 65,536.
 
 For schemes 1, 2, 3 and, in each, N 1, 8, 256 (F 1): a record with 65,535
-days closed, an empty open day and 18 running values (black is value 0, slot
-s is value s + 1); word j of running value k, big-endian, is 1000 k + j.
-Adds the bytes 61 62 63 hex and closes, with room for 18 values.
+days closed, an empty open day, 18 running values (black is value 0, slot s
+is value s + 1) and a start, value 18; word j of value k, big-endian, is
+1000 k + j.  Adds the bytes 61 62 63 hex and closes, with room for 18 values.
 
 Prints for each, a line each: the number of values of the close (or "NO,"
 and its refusal), the SHA-256 of what was written, and the answers of one
@@ -19,9 +19,10 @@ ROOM = 32 * (1 + daybook.SLOTS)
 
 
 def record(scheme, n):
-    running = [b"".join((1000 * k + j).to_bytes(4, "big") for j in range(8))
-               for k in range(1 + daybook.SLOTS)]
-    return daybook.made_up(scheme, n, 1, 65_535, running)
+    *running, first = [
+        b"".join((1000 * k + j).to_bytes(4, "big") for j in range(8))
+        for k in range(2 + daybook.SLOTS)]
+    return daybook.made_up(scheme, n, 1, 65_535, running, first)
 
 
 def lines():

@@ -1,14 +1,14 @@
-"""The service over the 692 bytes of a record.
+"""The service over the 724 bytes of a record.
 
 The record's numbers are 32 bits, little-endian: scheme, N, F, days closed,
 bytes in the open day, 8 words of the open day's hash, 8 words of the black
 chain, 17 times 8 words of tile or tree chains; then the 64 bytes of the open
-day's block.  Every 692 bytes are a record.
+day's block; then 8 words of the start.  Every 724 bytes are a record.
 
 The open day's hash is SHA-256 of byte 00 and the day's bytes, stopped after
 the last full block.  hashlib cannot go on from such a state, so the
-compression of FIPS 180-4 is written out here.  The links of the chains hash
-whole messages and are those of daybook.py.
+compression of FIPS 180-4 is written out here.  The start and the links of the
+chains hash whole messages and are those of daybook.py.
 """
 
 import struct
@@ -17,10 +17,11 @@ from math import isqrt
 
 import daybook
 
-SIZE = 692
+SIZE = 724
 WORDS = 20                  # offset of the hash words
 CHAINS = 52                 # offset of black, the slots follow
 BLOCK = 628                 # offset of the block
+START = 692                 # offset of the start
 MASK = 0xFFFFFFFF
 
 _LITTLE = struct.Struct("<8I")
@@ -119,10 +120,16 @@ def running_of(record):
     return [swap(record[k:k + 32]) for k in range(CHAINS, BLOCK, 32)]
 
 
-def pack(numbers, words, running, rest):
-    """A record; the block is rest and then zeros."""
+def start_of(record):
+    """The record's start, as a value of 32 bytes."""
+    return swap(record[START:])
+
+
+def pack(numbers, words, running, rest, first):
+    """A record; the block is rest and then zeros, first is the start."""
     return b"".join([struct.pack("<5I", *numbers), _LITTLE.pack(*words),
-                     *map(swap, running), rest, bytes(64 - len(rest))])
+                     *map(swap, running), rest, bytes(64 - len(rest)),
+                     swap(first)])
 
 
 def digest_of(record):
@@ -147,7 +154,8 @@ def open_service(scheme, n, f):
     refusal = daybook.settings_refusal(scheme, n, f)
     if refusal:
         return refusal, bytes(SIZE)
-    return 0, pack((scheme, n, f, 0, 0), FIRST, [bytes(32)] * 18, b"\0")
+    first = daybook.start(scheme, n)
+    return 0, pack((scheme, n, f, 0, 0), FIRST, [first] * 18, b"\0", first)
 
 
 def add(record, piece):
@@ -163,7 +171,7 @@ def add(record, piece):
     return 0, b"".join([
         struct.pack("<5I", scheme, n, f, days, count + len(piece)),
         _LITTLE.pack(*words), record[CHAINS:BLOCK],
-        rest, bytes(64 - len(rest))])
+        rest, bytes(64 - len(rest)), record[START:]])
 
 
 def add_blocks(record, piece):
@@ -229,10 +237,11 @@ def close(record, room):
     for k in linked(scheme, n, g):
         chains[k] = daybook.link(chains[k], h)
     values = [chains[k] for k in slots] + [black] * with_black
+    first = start_of(record)
     for k in slots:
-        chains[k] = bytes(32)
-    return 0, pack((scheme, n, f, g, 0), FIRST, [black] + chains,
-                   b"\0"), values
+        chains[k] = first
+    return 0, pack((scheme, n, f, g, 0), FIRST, [black] + chains, b"\0",
+                   first), values
 
 
 # ------------------------------------------------------ records of daybook.py
@@ -253,4 +262,5 @@ def from_daybook(record):
     full = len(data) // 64 * 64
     return pack((record.scheme, record.n, record.f, record.days,
                  record.open_bytes),
-                words_after(data[:full]), record.running, data[full:])
+                words_after(data[:full]), record.running, data[full:],
+                record.start)

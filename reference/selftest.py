@@ -30,6 +30,7 @@ from pattern import day_bytes
 PASSED = 0
 FAILED = 0
 SIZES = [1, 2, 4, 8, 16, 32, 64, 128, 256]
+EVERY = list(product((1, 2, 3), SIZES))     # scheme and N
 
 
 def expect(label, got, want):
@@ -179,11 +180,33 @@ def hashes():
            "cdc76e5c9914fb9281a1c7e284d73e67f1809a48a497200e046d39ccc7112cd0")
     expect("digest", db.digest(b"abc"), hashlib.sha256(b"\0abc").digest())
     h = db.digest(b"x")
-    expect("start", db.start(1, 1), bytes(32))
     expect("link", db.link(bytes(32), h),
            hashlib.sha256(bytes([1] + [0] * 32) + h).digest())
-    expect("value", db.value([1, 3], [b"a", b"b", b"c"]),
-           db.link(db.link(bytes(32), db.digest(b"a")), db.digest(b"c")))
+    first = hashlib.sha256(bytes([2, 2, 4])).digest()
+    expect("value", db.value(2, 16, [1, 3], [b"a", b"b", b"c"]),
+           db.link(db.link(first, db.digest(b"a")), db.digest(b"c")))
+
+
+def starts():
+    """What chains start with, against other programs and by the request."""
+    # by sha256sum and by openssl
+    for scheme, n, want in [
+            (1, 1, "27c481628200c5ed2467af54a9a4128d"
+                   "aede2cd8afe1acc2670a104645381067"),
+            (2, 16, "00fd3da80f6dfbbe8c475c801b41641b"
+                    "bea03dcb213ffb795c25554d4345e4e0"),
+            (3, 256, "6399e04230b2e30aacca944a37706de8"
+                     "62c1431f20e8721f35827267e0968f8b")]:
+        expect(f"start {scheme} {n}", db.start(scheme, n).hex(), want)
+    for scheme, (power, n) in product((1, 2, 3), enumerate(SIZES)):
+        three = bytes([2, scheme, power])
+        expect("three bytes", db.start(scheme, n),
+               hashlib.sha256(three).digest())
+        expect("in plain Python", rec.sha256(three), db.start(scheme, n))
+        expect("one block", db.message_blocks(len(three)), 1)
+    found = {db.start(*both) for both in EVERY}
+    expect("all different", len(found), 27)
+    expect("none is zeros", bytes(32) in found, False)
 
 
 # -------------------------------------------------------------------- layouts
@@ -291,6 +314,7 @@ def call_lists():
                 expect("open day", record.open_day, diary.open_day)
                 expect("open bytes", record.open_bytes, len(diary.open_day))
             expect("closes taken and refused", seen, {0, 8})
+            expect("start kept", record.start, db.start(scheme, n))
             expect(f"book {scheme} {n}", book,
                    db.book(scheme, n, diary.entries))
 
@@ -325,7 +349,7 @@ def service_bounds():
         refusal, fresh, count = db.close(fresh, part)
         expect("close of a full day", (refusal, diary.close(64)), (0, 0))
         expect("value of a full day", bytes(part[:32]),
-               db.value([1], [bytes(limit)]))
+               db.value(scheme, 1, [1], [bytes(limit)]))
 
     good = dict(scheme=1, n=1, f=1, days=0, open_bytes=0)
     for field, number in [("scheme", 0), ("scheme", 4), ("n", 0), ("n", 3),
@@ -348,12 +372,12 @@ def service_bounds():
 
     for scheme, n in [(1, 1), (2, 8), (3, 1)]:
         need = 32 * len(db.names(scheme, n, n))
-        record = db.made_up(scheme, n, 1, n - 1, [bytes(32)] * 18)
+        record = db.made_up(scheme, n, 1, n - 1, [bytes(32)] * 18, bytes(32))
         part = bytearray(b"\xcc" * (need - 1))
         expect("close 8", db.close(record, part), (8, record, 0))
         expect("part kept", bytes(part), b"\xcc" * (need - 1))
         expect("close at need", db.close(record, bytearray(need))[0], 0)
-    quiet = db.made_up(1, 8, 1, 0, [bytes(32)] * 18)
+    quiet = db.made_up(1, 8, 1, 0, [bytes(32)] * 18, bytes(32))
     expect("no values, no part", db.close(quiet, bytearray())[::2], (0, 0))
 
 
@@ -380,7 +404,7 @@ def last_days():
         expect("values", len(book), 32 * db.values(scheme, n, 65_536))
         expect("book", bytes(book), db.seal_book(scheme, n, diary.entries))
         expect("last value", bytes(book[-32:]),
-               db.value(range(1, 65_537), diary.entries))
+               db.value(scheme, n, range(1, 65_537), diary.entries))
 
         ledger, ends = ledger_of(diary.entries)
         outcomes = bytearray(db.values(scheme, n, 65_536))
@@ -426,9 +450,98 @@ def made_up_records():
             expect("black runs on", after.running[0], db.link(word(0), h))
             stored = {1: 0, 2: 1 + db.lg(n), 3: 17}[scheme]
             expect("stored chains start again", after.running[1:1 + stored],
-                   (bytes(32),) * stored)
+                   (word(18),) * stored)
             expect("other slots", after.running[1 + stored:],
                    tuple(word(1 + s) for s in range(stored, 17)))
+            expect("start kept", (record.start, after.start),
+                   (word(18), word(18)))
+
+
+def fresh_and_restarted():
+    """The start in a fresh record, and what a stored slot starts with."""
+    rng = random.Random(9)
+    for scheme, n in EVERY:
+        first = hashlib.sha256(bytes([2, scheme, db.lg(n)])).digest()
+        for f in intervals(scheme):
+            _, fresh = db.open_service(scheme, n, f)
+            expect("fresh", (fresh.start, set(fresh.running)),
+                   (first, {first}))
+        for held in (first, bytes(32), rng.randbytes(32)):
+            running = tuple(rng.randbytes(32) for _ in range(18))
+            for days in (0, n - 1, 3, 7, 255, 1000 * n - 1, 65_535):
+                days = min(days, 65_535)
+                made = db.made_up(scheme, n, 1, days, running, held)
+                refusal, made = db.add(made, b"x")
+                expect("add keeps", (refusal, made.start, made.running),
+                       (0, held, running))
+                refusal, after, _ = db.close(made, bytearray(600))
+                expect("close keeps", (refusal, after.start), (0, held))
+                kept = [name[1] for name in db.names(scheme, n, days + 1)
+                        if name[0] != db.BLACK]
+                expect("starts again", [k for k in range(17)
+                                        if after.running[1 + k] == held],
+                       kept)
+                expect("black goes on", after.running[0],
+                       db.link(running[0], db.digest(b"x")))
+    for settings in [(0, 8, 1), (1, 3, 1), (2, 8, 65), (3, 8, 2)]:
+        refused = db.open_service(*settings)[1]
+        expect("zeros if refused", (refused.start, set(refused.running)),
+               (bytes(32), {bytes(32)}))
+
+
+# the books of a thousand days as they were with chains that start with zeros
+OLDER_BOOKS = {
+    1: "b4c9715c6f586d8426c291ef666bbf92181b50ab67fc318da0f28ff69fc48686",
+    2: "5ef1398179d17e7b821b77bd21cc50d75de1c09534bd51247ddff362e684f896",
+    3: "1b07627626dfd1299496f3d31be24d4eeaed20f57274ceef29b735ed58b2cf47"}
+
+
+def other_layouts():
+    """A book passes at every value under its own scheme and N, else at none.
+
+    All 27 books of 256 days, each checked under all 27, with zeros and with
+    other bytes for the values that it lacks; and so the older ones.
+    """
+    days, rng = sample(256), random.Random(10)
+    ledger, ends = ledger_of(days)
+    digests = [db.digest(day) for day in days]
+    right = {both: db._seal_digests(*both, digests) for both in EVERY}
+    older = {both: db._seal_digests(*both, digests, bytes(32))
+             for both in EVERY}
+
+    def outcomes(both, book):
+        """Each outcome of the book under scheme and N, with the answer."""
+        count = len(right[both])
+        lacking = max(0, 32 * count - len(book))
+        seen = set()
+        for rest in {bytes(lacking), rng.randbytes(lacking)}:
+            table = bytearray(b"\7" * count)
+            answer = db.check(*both, 1, 256, ledger, ends, book + rest,
+                              bytearray(32 * 256), table)
+            seen |= {(answer, outcome) for outcome in table}
+        return seen
+
+    pairs = 0
+    for both, sealed in product(EVERY, EVERY):
+        own = both == sealed
+        pairs += not own
+        expect(f"book of {sealed} under {both}",
+               outcomes(both, b"".join(right[sealed])), {(0, int(own))})
+        expect(f"older book of {sealed} under {both}",
+               outcomes(both, b"".join(older[sealed])), {(0, 0)})
+    expect("pairs", pairs, 702)
+
+    # Wherever a value stands: no two books have one in common.
+    expect("values of all books", len(set().union(*right.values())),
+           sum(len(set(values)) for values in right.values()))
+    expect("none of an older book", set().union(*right.values())
+           & set().union(*older.values()), set())
+    expect("older ones have", len(set().union(*older.values()))
+           < sum(len(set(values)) for values in older.values()), True)
+    digests = [db.digest(day) for day in thousand.days()]
+    for scheme, want in OLDER_BOOKS.items():
+        book = b"".join(db._seal_digests(scheme, 8, digests, bytes(32)))
+        expect("the older book", hashlib.sha256(book).hexdigest(), want)
 
 
 # ------------------------------------------------------------------- checking
@@ -461,7 +574,8 @@ def check_tests():
             db.check(scheme, n, 1, d, ledger2, ends2, book,
                      bytearray(32 * d), outcomes)
             want = bytes(
-                int(db.value(chain, other) == book[32 * k:32 * k + 32])
+                int(db.value(scheme, n, chain, other)
+                    == book[32 * k:32 * k + 32])
                 for k, chain in enumerate(all_chains))
             expect("outcomes by definition", bytes(outcomes), want)
 
@@ -937,7 +1051,8 @@ def record_values_calls():
             total = 0
             for days in range(300):
                 total += len(db.closing(scheme, n, days)) if days else 0
-                record = db.made_up(scheme, n, 1, days, [bytes(32)] * 18)
+                record = db.made_up(scheme, n, 1, days, [bytes(32)] * 18,
+                                    bytes(32))
                 expect("values of a record", db.record_values(record),
                        (0, total))
                 expect("chains by level",
@@ -945,7 +1060,8 @@ def record_values_calls():
                 expect("by its bytes",
                        rec.record_values(rec.from_daybook(record)),
                        (0, total))
-            last = db.made_up(scheme, n, 1, 65_536, [bytes(32)] * 18)
+            last = db.made_up(scheme, n, 1, 65_536, [bytes(32)] * 18,
+                              bytes(32))
             expect("values of all days", db.record_values(last),
                    (0, db.values(scheme, n, 65_536)))
     limit = db.DAY_LIMIT
@@ -954,7 +1070,7 @@ def record_values_calls():
                           ((3, 1, 2, 0, 0), 6), ((1, 1, 1, 65_537, 0), 6),
                           ((1, 1, 1, 0, limit + 1), 6),
                           ((1, 1, 1, 65_536, limit), 0)]:
-        data = rec.pack(numbers, rec.FIRST, [bytes(32)] * 18, b"")
+        data = rec.pack(numbers, rec.FIRST, [bytes(32)] * 18, b"", bytes(32))
         plain = db.Record(*numbers)
         expect("values of a record refused",
                (rec.record_values(data)[0], db.record_values(plain)[0]),
@@ -1118,12 +1234,21 @@ def compression():
 
 
 def record_layout():
-    expect("size", len(rec.open_service(1, 1, 1)[1]), 692)
+    expect("size", len(rec.open_service(1, 1, 1)[1]), 724)
+    first = hashlib.sha256(bytes([2, 2, 3])).digest()
+    words = b"".join(first[k:k + 4][::-1] for k in range(0, 32, 4))
     expect("fresh", rec.open_service(2, 8, 25), (
         0, bytes([2, 0, 0, 0, 8, 0, 0, 0, 25, 0, 0, 0]) + bytes(8)
         + b"".join(w.to_bytes(4, "little") for w in rec.FIRST)
-        + bytes(32 * 18 + 64)))
-    expect("refused open", rec.open_service(0, 8, 25), (1, bytes(692)))
+        + words * 18 + bytes(64) + words))
+    expect("refused open", rec.open_service(0, 8, 25), (1, bytes(724)))
+    data = rec.pack((1, 2, 3, 4, 5), range(8), [bytes([k]) * 32
+                                                for k in range(18)],
+                    b"abc", bytes(range(32)))
+    expect("back", (rec.fields(data), rec.words_of(data),
+                    rec.running_of(data)[17], rec.start_of(data), len(data)),
+           ((1, 2, 3, 4, 5), tuple(range(8)), bytes([17]) * 32,
+            bytes(range(32)), 724))
     expect("swap", rec.swap(bytes(range(32)))[:8],
            bytes([3, 2, 1, 0, 7, 6, 5, 4]))
 
@@ -1167,10 +1292,10 @@ def record_made_up():
                    ((5, data), (5, data, [])))
 
     # The block's bytes past the fill have no weight and go with an add.
-    junk = bytearray(rng.randbytes(692))
+    junk = bytearray(rng.randbytes(724))
     junk[:20] = rec.pack((1, 1, 1, 7, 70), rec.FIRST, [bytes(32)] * 18,
-                         b"")[:20]
-    clean = bytes(junk[:628 + 7]) + bytes(57)
+                         b"", bytes(32))[:20]
+    clean = bytes(junk[:628 + 7]) + bytes(57) + junk[692:]
     for piece in (b"", b"x", bytes(57), bytes(200)):
         expect("junk in the block", rec.add(bytes(junk), piece),
                rec.add(clean, piece))
@@ -1214,7 +1339,7 @@ def comparison():
                differs(stand_in.calls(), scheme, first, first + 200), False)
 
     def past_record(good, address, *rest):
-        ctypes.memset(address + 692, 0, 1)
+        ctypes.memset(address + rec.SIZE, 0, 1)
         return good(address, *rest)
 
     def before_book(good, *arguments):
@@ -1690,6 +1815,319 @@ def comparison():
                (0, last))
 
 
+# --------------------------------------------------- comparison of the start
+
+def hashed(*numbers):
+    return hashlib.sha256(bytes(numbers)).digest()
+
+
+def right_start(scheme, n, f):
+    return db.start(scheme, n)
+
+
+def zeros(scheme, n, f):
+    return bytes(32)
+
+
+# other starts, with the schemes under which they are not the right one
+OTHER_STARTS = [
+    (zeros, (1, 2, 3)),
+    (lambda scheme, n, f: hashed(2, scheme, n % 256), (1, 2, 3)),
+    (lambda scheme, n, f: hashed(2, scheme, db.lg(n) + 1), (1, 2, 3)),
+    (lambda scheme, n, f: hashed(2, scheme, 0), (1, 2, 3)),
+    (lambda scheme, n, f: hashed(2, scheme, 8), (1, 2, 3)),
+    (lambda scheme, n, f: hashed(2, 1, db.lg(n)), (2, 3)),
+    (lambda scheme, n, f: hashed(2, 2, db.lg(n)), (1, 3)),
+    (lambda scheme, n, f: hashed(2, 3, db.lg(n)), (1, 2)),
+    (lambda scheme, n, f: hashed(2, scheme - 1, db.lg(n)), (1, 2, 3)),
+    (lambda scheme, n, f: hashed(2, db.lg(n), scheme), (1, 2, 3)),
+    (lambda scheme, n, f: hashed(1, scheme, db.lg(n)), (1, 2, 3)),
+    (lambda scheme, n, f: hashed(0, scheme, db.lg(n)), (1, 2, 3)),
+    (lambda scheme, n, f: hashed(scheme, db.lg(n)), (1, 2, 3)),
+    (lambda scheme, n, f: hashed(2, scheme), (1, 2, 3)),
+    (lambda scheme, n, f: hashed(2, scheme, db.lg(n), f), (1, 2, 3)),
+    (lambda scheme, n, f: hashed(2, scheme, db.lg(n * f)), (1, 2)),
+    (lambda scheme, n, f: hashed(2, scheme, f), (1, 2, 3)),
+    (lambda scheme, n, f: hashed(2, scheme, 0, 0, 0, db.lg(n)), (1, 2, 3)),
+    (lambda scheme, n, f: hashed(*b"\2%d%d" % (scheme, db.lg(n))), (1, 2, 3)),
+    (lambda scheme, n, f: bytes([2, scheme, db.lg(n)]).ljust(32, b"\0"),
+     (1, 2, 3)),
+    (lambda scheme, n, f: hashed(*db.start(scheme, n)), (1, 2, 3)),
+    (lambda scheme, n, f: rec.swap(db.start(scheme, n)), (1, 2, 3))]
+
+
+def book_from(scheme, n, digests, black, slots, again):
+    """The values of a book whose chains start, and start again, with these.
+    """
+    running, out = [slots] * 17, []
+    for g, h in enumerate(digests, 1):
+        black = db.link(black, h)
+        for k in rec.linked(scheme, n, g):
+            running[k] = db.link(running[k], h)
+        ended, with_black = rec.stored(scheme, n, g)
+        for k in ended:
+            out.append(running[k])
+            running[k] = again
+        out += [black] * with_black
+    return out
+
+
+def other_open(black=right_start, slots=right_start, kept=right_start,
+               unused=None):
+    """An open in whose record these are another."""
+    def fault(good, scheme, n, f, address):
+        answer = good(scheme, n, f, address)
+        if answer == 0:
+            used = {1: 0, 2: 1 + db.lg(n), 3: 17}[scheme]
+            running = [slots if k < used else unused or slots
+                       for k in range(17)]
+            stand_in.put(address, rec.pack(
+                (scheme, n, f, 0, 0), rec.FIRST,
+                [x(scheme, n, f) for x in (black, *running)], b"\0",
+                kept(scheme, n, f)))
+        return answer
+    return fault
+
+
+def worked_out(data):
+    """The right start for a record, whatever it holds."""
+    return db.start(*rec.fields(data)[:2])
+
+
+def no_start(data):
+    return bytes(32)
+
+
+def of_scheme_1(data):
+    return db.start(1, rec.fields(data)[1])
+
+
+def other_byte_order(data):
+    """The words of the record's start read in the other byte order."""
+    return data[rec.START:]
+
+
+def if_zeros(data):
+    """The record's start, worked out where it is zeros."""
+    return rec.start_of(data) if any(data[rec.START:]) else worked_out(data)
+
+
+def other_close(again=rec.start_of, kept=rec.start_of,
+                restarts=lambda scheme, n, slots: slots, black_too=False):
+    """A close that starts these slots again with another start."""
+    def fault(good, address, *rest):
+        before = stand_in.get(address, rec.SIZE)
+        answer = good(address, *rest)
+        if answer == 0:
+            after = stand_in.get(address, rec.SIZE)
+            scheme, n, f, g, _ = rec.fields(after)
+            black, *chains = rec.running_of(after)
+            slots, with_black = rec.stored(scheme, n, g)
+            for k in restarts(scheme, n, slots):
+                chains[k] = again(before)
+            if black_too and with_black:
+                black = again(before)
+            stand_in.put(address, rec.pack(
+                (scheme, n, f, g, 0), rec.FIRST, [black] + chains, b"\0",
+                kept(before)))
+        return answer
+    return fault
+
+
+def other_kept(start):
+    """An add or close that leaves another start, if it is not refused."""
+    def fault(good, address, *rest):
+        before = stand_in.get(address, rec.SIZE)
+        answer = good(address, *rest)
+        if answer == 0:
+            stand_in.put(address + rec.START, rec.swap(start(before)))
+        return answer
+    return fault
+
+
+def start_if_refused(good, address, *rest):
+    """An add or close that clears the start if it is refused."""
+    answer = good(address, *rest)
+    if answer:
+        stand_in.put(address + rec.START, bytes(32))
+    return answer
+
+
+def start_of_refused_open(good, scheme, n, f, address):
+    """The record of zeros has a start where only F is not allowed."""
+    answer = good(scheme, n, f, address)
+    if answer == 3:
+        stand_in.put(address + rec.START, rec.swap(db.start(scheme, n)))
+    return answer
+
+
+def no_start_written(good, scheme, n, f, address):
+    """An open that leaves the record's last 32 bytes as they were."""
+    before = stand_in.get(address + rec.START, 32)
+    answer = good(scheme, n, f, address)
+    stand_in.put(address + rec.START, before)
+    return answer
+
+
+def right_start_only(good, address, *rest):
+    """6 where the record's start is not that of its scheme and N."""
+    data = stand_in.get(address, rec.SIZE)
+    if rec.refusal_of(data) != 6 and rec.start_of(data) != worked_out(data):
+        return 6
+    return good(address, *rest)
+
+
+def more_blocks(counts):
+    """A block more where counts has it so; the last argument has them."""
+    def fault(good, address, *rest):
+        before = stand_in.get(address, rec.SIZE)
+        answer = good(address, *rest)
+        if answer == 0 and counts(*rec.fields(before)[3:]):
+            blocks, = stand_in.get_words(rest[-1], 1)
+            stand_in.put_words(rest[-1], [blocks + 1])
+        return answer
+    return fault
+
+
+def longer_forecast(more):
+    def fault(good, scheme, n, f, d, lengths, count, sizes):
+        answer = good(scheme, n, f, d, lengths, count, sizes)
+        if answer == 0:
+            found = (ctypes.c_uint64 * 3).from_address(sizes)
+            found[2] += more(d)
+        return answer
+    return fault
+
+
+def other_seal(**starts):
+    """A seal whose chains start with these."""
+    def fault(good, scheme, n, f, d, ledger, length, ends, count, book, room):
+        answer = good(scheme, n, f, d, ledger, length, ends, count, book, room)
+        if answer == 0:
+            digests = wanted.day_digests(d, stand_in.get(ledger, length),
+                                         stand_in.get_words(ends, count))
+            stand_in.put(book, b"".join(book_from(
+                scheme, n, digests, **started(starts, scheme, n, f))))
+        return answer
+    return fault
+
+
+def other_check(older=False, **starts):
+    """A check whose chains start with these; with older, or with zeros."""
+    def fault(good, scheme, n, f, d, ledger, length, ends, count, book,
+              book_length, work, work_length, outcomes, places):
+        answer = good(scheme, n, f, d, ledger, length, ends, count, book,
+                      book_length, work, work_length, outcomes, places)
+        if answer == 0:
+            digests = wanted.day_digests(d, stand_in.get(ledger, length),
+                                         stand_in.get_words(ends, count))
+            values = book_from(scheme, n, digests,
+                               **started(starts, scheme, n, f))
+            given = stand_in.get(book, 32 * len(values))
+            table = [given[32 * k:32 * k + 32] == v
+                     for k, v in enumerate(values)]
+            if older:
+                values = db._seal_digests(scheme, n, digests, bytes(32))
+                table = [due or given[32 * k:32 * k + 32] == v
+                         for k, (due, v) in enumerate(zip(table, values))]
+            stand_in.put(outcomes, bytes(table))
+        return answer
+    return fault
+
+
+def started(starts, scheme, n, f):
+    """The three starts of book_from, the right one if not given."""
+    return {key: starts.get(key, right_start)(scheme, n, f)
+            for key in ("black", "slots", "again")}
+
+
+def start_faults():
+    """Faults in the start that the cases must find under each scheme."""
+    first = len(compare.ONCE)
+
+    def found(name, fault, schemes=(1, 2, 3), label=""):
+        for scheme in schemes:
+            expect(f"fault {label} in {name} is found under {scheme}",
+                   differs(faulty(name, fault), scheme, first, first + 600),
+                   True)
+
+    # these are no faults: the same calls by other means
+    for name, same in [("open", other_open()), ("close", other_close()),
+                       ("add", other_kept(rec.start_of)),
+                       ("seal", other_seal()), ("check", other_check())]:
+        for scheme in (1, 2, 3):
+            expect(f"{name} by other means is equal",
+                   differs(faulty(name, same), scheme, first, first + 60),
+                   False)
+
+    for number, (start, schemes) in enumerate(OTHER_STARTS):
+        whole = dict(black=start, slots=start)
+        found("open", other_open(**whole, kept=start), schemes, number)
+        found("open", other_open(kept=start), schemes, f"{number} kept")
+        found("seal", other_seal(**whole, again=start), schemes, number)
+        found("check", other_check(**whole, again=start), schemes, number)
+    chains = 2, 3
+    for start in (zeros, OTHER_STARTS[-1][0]):
+        for make, name in ((other_open, "open"), (other_seal, "seal"),
+                           (other_check, "check")):
+            found(name, make(black=start), label="black")
+            found(name, make(slots=start), chains, "slots")
+        for make, name in ((other_seal, "seal"), (other_check, "check")):
+            found(name, make(again=start), chains, "again")
+        found("open", other_open(unused=start), (1, 2), "unused")
+    found("check", other_check(older=True), label="older")
+
+    for again in (no_start, worked_out, of_scheme_1, other_byte_order,
+                 if_zeros):
+        found("close", other_close(again=again), chains, again.__name__)
+    for kept in (no_start, worked_out, of_scheme_1, other_byte_order,
+                 if_zeros):
+        found("add", other_kept(kept), label=kept.__name__)
+        found("close", other_kept(kept), label=kept.__name__)
+        found("close", other_close(again=kept, kept=kept),
+              label=f"{kept.__name__} throughout")
+    for label, fault, schemes in [
+            ("black starts again", other_close(black_too=True), (1, 2, 3)),
+            ("all slots start again", other_close(
+                restarts=lambda scheme, n, slots: range(17)), (1, 2, 3)),
+            ("all slots at an interval", other_close(
+                restarts=lambda scheme, n, slots: slots and range(17)),
+             chains),
+            ("unused slots", other_close(
+                restarts=lambda scheme, n, slots:
+                range({1: 0, 2: 1 + db.lg(n), 3: 17}[scheme], 17)), (1, 2))]:
+        found("close", fault, schemes, label)
+    for name in ("add", "close", "record_values"):
+        found(name, right_start_only, label="the right start only")
+    for name in ("add", "close"):
+        found(name, start_if_refused, label="start if refused")
+    found("open", start_of_refused_open, label="start of refused")
+    found("open", no_start_written, label="no start written")
+
+    for name, fault, label in [
+            ("add", more_blocks(lambda days, count: days == 0 == count),
+             "a block more once"),
+            ("add", more_blocks(lambda days, count: count == 0),
+             "a block more a day"),
+            ("close", more_blocks(lambda days, count: days == 0),
+             "a block more once"),
+            ("close", more_blocks(lambda days, count: True),
+             "a block more a day"),
+            ("forecast", longer_forecast(lambda d: 1), "a block more once"),
+            ("forecast", longer_forecast(lambda d: d),
+             "a block more a day")]:
+        found(name, fault, label=label)
+
+    # every_layout by itself
+    index = [case.__name__ for case in compare.ONCE].index("every_layout")
+    for scheme in (1, 2, 3):
+        expect("every layout, stand-in",
+               differs(stand_in.calls(), scheme, index, index + 1), False)
+        expect("every layout, older books pass",
+               differs(faulty("check", other_check(older=True)), scheme,
+                       index, index + 1), True)
+
+
 # -------------------------------------------------------------------- program
 
 def program():
@@ -1834,15 +2272,16 @@ def expected_outputs():
 
 
 def main():
-    for test in (examples, sketch_mistakes, hashes, layout_tests, book_tests,
-                 call_lists, pieces, service_bounds, made_up_records,
+    for test in (examples, sketch_mistakes, hashes, starts, layout_tests,
+                 book_tests, call_lists, pieces, service_bounds,
+                 made_up_records, fresh_and_restarted, other_layouts,
                  last_days, check_tests, check_refusals, reading_tests,
                  reading_large, reading_refusals, skipped_validations,
                  searches, search_refusals, tiles, tile_refusals,
                  whole_chain, values_calls,
                  record_values_calls, sizing, positions, compression,
                  record_layout, record_histories, record_made_up, comparison,
-                 program, text_faults, expected_outputs):
+                 start_faults, program, text_faults, expected_outputs):
         before = PASSED, FAILED
         test()
         print(f"{test.__name__}: {PASSED - before[0]} passed, "

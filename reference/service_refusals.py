@@ -97,9 +97,9 @@ CLOSE = [
 
 def record(scheme, n, f, days, count):
     """A made-up record with count bytes in its open day."""
-    running = [bytes([k]) * 32 for k in range(1 + daybook.SLOTS)]
+    *running, first = [bytes([k]) * 32 for k in range(2 + daybook.SLOTS)]
     day = bytes(count) if count <= daybook.DAY_LIMIT else b""
-    made = daybook.made_up(scheme, n, f, days, running, day)
+    made = daybook.made_up(scheme, n, f, days, running, first, day)
     return replace(made, open_bytes=count)
 
 
@@ -117,6 +117,7 @@ def lines():
         before = record(*numbers[:5])
         refusal, after = daybook.add(before, b"a" * numbers[5])
         assert refusal == 0 or after == before
+        assert after.start == before.start
         out.append(line("add", numbers, refusal))
     for numbers in CLOSE:
         before = record(*numbers[:5])
@@ -124,6 +125,7 @@ def lines():
         refusal, after, count = daybook.close(before, part)
         assert set(part[32 * count:]) <= {0xAA}
         assert refusal == 0 or (after, count) == (before, 0)
+        assert after.start == before.start
         out.append(line("close", numbers, refusal))
     return out
 

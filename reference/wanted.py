@@ -157,7 +157,7 @@ def values_of(scheme, n, digests):
         return daybook._seal_digests(scheme, n, digests)
     out = []
     for chain in chains_of(scheme, n, d):
-        v = daybook.START
+        v = daybook.start(scheme, n)
         for day in chain:
             v = daybook.link(v, digests[day - 1])
         out.append(v)
