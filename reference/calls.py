@@ -42,7 +42,7 @@ def line(name, returned, *written):
 
 def record_lines():
     refusal, data = record.open_service(*SETTINGS)
-    out = [line("open", refusal, data[:20:4])]
+    out = [line("open", refusal, data[:20:4], data[record.START:])]
     for g in range(1, 10):
         blocks = record.add_blocks(data, day_bytes(g, 130))
         refusal, data = record.add(data, day_bytes(g, 130))

@@ -5,7 +5,7 @@ ghost use Prim.Native.Nat.{_≤_};
 
 // Word j of the running value k is 1000 * k + j.
 fn value(k: u32) -> Value
-    requires { ⌜ k ≤ 17 ⌝ }
+    requires { ⌜ k ≤ 18 ⌝ }
 {
     let w = 1000 * k;
     Value {
@@ -32,6 +32,7 @@ fn record(
     bytes: u32,
     black: Value,
     running: [Value; 17],
+    start: Value,
 ) -> Record {
     let day = hasher::begin(0);
     let hash = day.words;
@@ -46,16 +47,35 @@ fn record(
         block,
         black,
         running,
+        start,
     }
 }
 
-// A record with any numbers and with running values of its own: black 0, slot i the value i + 1.
+// A record with any numbers and with values of its own: black 0, slot i the value i + 1, the start the value 18.
 pub fn made_up(scheme: u32, n: u32, f: u32, days: u32, bytes: u32) -> Record {
-    record(scheme, n, f, days, bytes, value(0), slots())
+    record(scheme, n, f, days, bytes, value(0), slots(), value(18))
+}
+
+// lg of the allowed N, as a byte.
+fn lg(n: u32) -> u8 {
+    match n {
+        1 => 0,
+        2 => 1,
+        4 => 2,
+        8 => 3,
+        16 => 4,
+        32 => 5,
+        64 => 6,
+        128 => 7,
+        _ => 8,
+    }
 }
 
 // The record of an accepted open.
 pub fn fresh(scheme: u32, n: u32, f: u32) -> Record {
-    let v = Value { words: [0u32; 8] };
-    record(scheme, n, f, 0, 0, v, [v; 17])
+    let layout = [(scheme % 256) as u8, lg(n)];
+    let v = Value {
+        words: hasher::digest(2, &layout),
+    };
+    record(scheme, n, f, 0, 0, v, [v; 17], v)
 }
