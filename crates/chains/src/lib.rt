@@ -27,7 +27,8 @@ pub fn start(scheme: u32, n: u32) -> Value
     requires { ⌜ (scheme < 256) × (allowedN n ≡ true) ⌝ }
     ensures { λ r. ⌜ r ≡ startValue scheme n ⌝ }
 {
-    let layout = [scheme as u8, layouts::lg(n) as u8];
+    let m = layouts::lg(n);
+    let layout = [scheme as u8, m as u8];
     Value {
         words: hasher::digest(2, &layout),
     }

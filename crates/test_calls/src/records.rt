@@ -7,11 +7,16 @@ fn print_numbers(state: &[u8; 724]) {
     lines::bytes(&[state[0], state[4], state[8], state[12], state[16]]);
 }
 
-// With the start.
+// The start of a chain.
+fn print_start(state: &[u8; 724]) {
+    let all = &state[..];
+    lines::bytes(&all[692..724]);
+}
+
 fn open(state: &mut [u8; 724]) {
     lines::head(b"open", daybook_c::daybook_open(2, 8, 3, state));
     print_numbers(state);
-    lines::bytes(&state[692..724]);
+    print_start(state);
     lines::end();
 }
 
