@@ -17,7 +17,7 @@ start scheme n = sha256 (startInput scheme n)
 unfoldable pub bookOf : ℕ → ℕ → List (List ℕ) → List ℕ
 bookOf scheme n entries = values sha256 (start scheme n) entries (chains scheme n (length entries))
 
--- 01's inputs hashed (SPEC 3.7), at sealing or at checking, for the layout's chains over the days 1 to d; 02: the start's
--- three bytes are one of them
+-- 01's inputs hashed (SPEC 3.7), at sealing or at checking, for the layout's chains over the days 1 to d; 02: the
+-- start's three bytes are one of them
 unfoldable pub inputsOf : ℕ → ℕ → ℕ → List (List ℕ) → List (List ℕ)
 inputsOf scheme n d days = startInput scheme n ∷ inputs sha256 (start scheme n) (chains scheme n d) d days

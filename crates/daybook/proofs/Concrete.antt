@@ -1,16 +1,17 @@
 -- The law of checking at a hash that computes, in a case where its premise holds and a day is changed: the premise can be met
--- by an altered ledger, and the law is not empty.
+-- by an altered ledger, and the law is not empty. Then a book under another layout, where that law's premise holds.
 use mathlib.Core.{Path._≡_, Path.refl, Path.sym, Path.ap, Path._∙_, Logic.inl, Logic.inr}
 use mathlib.Core.Bool.{Bool, true, not, _&&_, _||_}
 use mathlib.Core.List.{List, [], _∷_, _++_, List·Memᴰ·head, List·Memᴰ·tail}
 use Prim.Native.Nat.{ℕ, zero, suc, _+_, _*_, _/_, _%_, _^_}
-use lib.ListN.{length, replicate, length-replicate}
+use lib.ListN.{length}
 use Rattle.lists.specs.Lists.{_among_, same}
 use Rattle.evidence.specs.Evidence.{tableOf, changed, values, checkOutcomes, inputs, NoCollision}
 use Rattle.lists.proofs.Laws.{true-or-false, or-split, and-both, same-eq, eq-same}
 use Rattle.evidence.proofs.ValueLaws.{check-table}
-use Rattle.layouts.specs.Layouts.{namesThrough, chains}
+use Rattle.layouts.specs.Layouts.{lg, namesThrough, chains}
 use Rattle.layouts.proofs.Coverage.{chains-within}
+use Rattle.chains.specs.Book.{startInput}
 
 -- n bytes of a number, lowest first
 abbrev bytesOf : ℕ → ℕ → List ℕ
@@ -31,9 +32,6 @@ hash x = bytesOf 32 (mix 7 x)
 pub hash-length : (x : List ℕ) → length (hash x) ≡ 32
 unfolding hash
 hash-length x = length-bytesOf 32 (mix 7 x)
-
-abbrev pub first : List ℕ
-first = replicate 32 0
 
 -- ---- the premise, as a test
 
@@ -61,7 +59,14 @@ all-apart ys (List·Memᴰ·tail {x = z} {xs = zs} k) t y m h = all-apart ys k (
 pub told : (xs ys : List (List ℕ)) → allApart xs ys ≡ true → NoCollision hash xs ys
 told xs ys t x y mx my h = all-apart ys mx t y my h
 
--- ---- a case
+-- ---- a case, under scheme 3 with N 2
+
+-- the start, and all inputs hashed for the chains over the four days of a ledger, the start's three bytes among them
+abbrev startOf : ℕ → ℕ → List ℕ
+startOf s n = hash (startInput s n)
+
+abbrev allInputs : ℕ → ℕ → List (List ℕ) → List (List ℕ)
+allInputs s n L = startInput s n ∷ inputs hash (startOf s n) (chains s n 4) 4 L
 
 abbrev sealed : List (List ℕ)
 sealed = (5 ∷ []) ∷ (6 ∷ 7 ∷ []) ∷ [] ∷ (8 ∷ []) ∷ []
@@ -69,8 +74,8 @@ sealed = (5 ∷ []) ∷ (6 ∷ 7 ∷ []) ∷ [] ∷ (8 ∷ []) ∷ []
 abbrev ledger : List (List ℕ)
 ledger = (5 ∷ []) ∷ (6 ∷ 9 ∷ []) ∷ [] ∷ (8 ∷ []) ∷ []
 
-apart-here : allApart (inputs hash first (chains 3 2 4) 4 sealed) (inputs hash first (chains 3 2 4) 4 ledger) ≡ true
-unfolding hash inputs chains namesThrough mathlib.Core.List.flatMap
+apart-here : allApart (allInputs 3 2 sealed) (allInputs 3 2 ledger) ≡ true
+unfolding hash inputs chains namesThrough mathlib.Core.List.flatMap startInput lg
 apart-here = refl
 
 -- day 2 is changed
@@ -80,9 +85,26 @@ changed-here = refl
 
 -- the premise holds, and by the law the check finds the table of day 2: its own value, those of days 1 to 2 and 1 to 4 fail
 pub concrete : (rest : List ℕ) →
-    NoCollision hash (inputs hash first (chains 3 2 4) 4 sealed) (inputs hash first (chains 3 2 4) 4 ledger) ×
-    (checkOutcomes hash first ledger (chains 3 2 4) (values hash first sealed (chains 3 2 4) ++ rest) ≡ 1 ∷ 0 ∷ 0 ∷ 1 ∷ 1 ∷ 1 ∷ 0 ∷ [])
+    NoCollision hash (allInputs 3 2 sealed) (allInputs 3 2 ledger) ×
+    (checkOutcomes hash (startOf 3 2) ledger (chains 3 2 4) (values hash (startOf 3 2) sealed (chains 3 2 4) ++ rest) ≡ 1 ∷ 0 ∷ 0 ∷ 1 ∷ 1 ∷ 1 ∷ 0 ∷ [])
 unfolding tableOf chains namesThrough mathlib.Core.List.flatMap changed
 concrete rest =
-    let p = told (inputs hash first (chains 3 2 4) 4 sealed) (inputs hash first (chains 3 2 4) 4 ledger) apart-here in
-    (p, check-table hash hash-length first (length-replicate {A = ℕ} 32 0) (chains 3 2 4) 4 (chains-within 3 2 4) sealed ledger p rest)
+    let p = told (allInputs 3 2 sealed) (allInputs 3 2 ledger) apart-here in (
+      p,
+      check-table hash hash-length (startOf 3 2) (hash-length (startInput 3 2)) (chains 3 2 4) 4 (chains-within 3 2 4) sealed ledger
+          (λ x y a b. p x y (List·Memᴰ·tail a) (List·Memᴰ·tail b)) rest,
+    )
+
+-- ---- the same ledger, unaltered, under scheme 2: the premise of the law on another layout holds too, and no value passes
+
+other-here : allApart (allInputs 3 2 sealed) (allInputs 2 2 sealed) ≡ true
+unfolding hash inputs chains namesThrough mathlib.Core.List.flatMap startInput lg
+other-here = refl
+
+other-fails : checkOutcomes hash (startOf 2 2) sealed (chains 2 2 4) (values hash (startOf 3 2) sealed (chains 3 2 4)) ≡ 0 ∷ 0 ∷ 0 ∷ 0 ∷ 0 ∷ 0 ∷ []
+unfolding hash chains namesThrough mathlib.Core.List.flatMap startInput lg
+other-fails = refl
+
+pub concrete-other : NoCollision hash (allInputs 3 2 sealed) (allInputs 2 2 sealed) ×
+    (checkOutcomes hash (startOf 2 2) sealed (chains 2 2 4) (values hash (startOf 3 2) sealed (chains 3 2 4)) ≡ 0 ∷ 0 ∷ 0 ∷ 0 ∷ 0 ∷ 0 ∷ [])
+concrete-other = (told (allInputs 3 2 sealed) (allInputs 2 2 sealed) other-here, other-fails)

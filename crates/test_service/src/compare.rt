@@ -1,5 +1,5 @@
-// Records compared, by their bytes: the open day's hash at 20, the running hashes at 52, the open day's block at 628, the
-// start at 692.
+// Records compared, by their bytes: the open day's hash at 20, the running hashes at 52, the open day's block at 628,
+// the start at 692.
 use service::Record;
 use test_samples::records;
 ghost use Prim.Native.Nat.{_≤_};

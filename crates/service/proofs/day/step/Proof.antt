@@ -1,7 +1,6 @@
 -- `service::day::step` meets its contract.
 use mathlib.Core.Path.{refl}
 use native.Mathlib.Omega.{arith}
-use borrow.Author.Needs.{needs}
 use Rattle.service.proofs.RecordLaws.{record-passes}
 use Rattle.service.proofs.DayLaws.{day-asks}
 use Rattle.service.proofs.day.step.Statement.{statement}
