@@ -20,6 +20,7 @@ use crate::fit::{moved, Fit};
 use crate::forecast::forecast;
 use crate::locate::locate;
 use crate::names::{field, out_of_order};
+use crate::older;
 use crate::progress::Progress;
 use crate::say;
 use crate::search::search;
@@ -405,6 +406,7 @@ fn check(
         "checked: days {}, values {}, failing {fail}",
         work.d, work.values
     ));
+    older::note(&checked.outcomes);
     if let (0, Some(kept)) = (fail, kept) {
         kept.keep(&front);
     }
@@ -416,6 +418,7 @@ fn check(
 
 fn verify(work: &Work, book: &Path, asked: &Asked, view: &View) -> Result<Done, Stop> {
     let (checked, front) = checked(work, book)?;
+    older::note(&checked.outcomes);
     let done = listed(asked, &checked.outcomes, view)?;
     if let (Answer::Clean, Some(kept)) = (done.answer, asked.kept) {
         kept.keep(&front);
