@@ -187,7 +187,8 @@ fn a_layout_of_before_beside_another_record() {
     assert_eq!(run(&folder, "open t --scheme 2 --n 2 --f 1").0, 0);
     let record = fs::read(folder.file("t/record")).unwrap();
     fs::remove_dir_all(folder.file("t")).unwrap();
-    let differ = "s/layout does not fit the state: its format version is 1, and that of the record \
+    let differ =
+        "s/layout does not fit the state: its format version is 1, and that of the record \
                   is 2. Nothing is written";
     fs::write(folder.file("s/record"), &record).unwrap();
     named(&folder, differ);
@@ -211,10 +212,15 @@ fn a_record_with_another_start() {
     }
 }
 
-/// What is said where no value passes.
+/// What is said where no value passes of a book that is given.
 const NOTE: &str = "daybook: note: no value of the book passes. Each may cover an altered day; or the \
     book may be of a delivery before 0.8.0, or of another layout (another scheme or N), and then it \
     says nothing of these days (\"Older years\" in README.md and in man daybook)\n";
+/// And of a state's: it is neither of before nor of another layout.
+const NOTE_OF_STATE: &str =
+    "daybook: note: no value of the book passes. Each may cover an altered \
+    day; or these may not be the days that were sealed: by the folder's record the book is of \
+    version 0.8.0 or later, and of this layout\n";
 
 fn options(layout: Layout) -> String {
     let Layout { scheme, n, f } = layout;
@@ -226,15 +232,25 @@ fn options(layout: Layout) -> String {
 fn noted(folder: &Folder, layout: Layout, words: &str, outcomes: &[u8], note: bool) {
     let d = 8;
     let fail = outcomes.iter().filter(|outcome| **outcome == 0).count();
-    let note = if note { NOTE } else { "" };
+    let note = match note {
+        true if words == "--state s" => NOTE_OF_STATE,
+        true => NOTE,
+        false => "",
+    };
     let status = i32::from(fail > 0);
     let check = format!("check {words} --days days --outcomes found");
-    let checked = format!("daybook: checked: days {d}, values {}, failing {fail}\n", outcomes.len());
+    let checked = format!(
+        "daybook: checked: days {d}, values {}, failing {fail}\n",
+        outcomes.len()
+    );
     let expected: Ran = (status, String::new(), checked + note);
     assert_eq!(run(folder, &check), expected, "{check}");
     assert_eq!(fs::read(folder.file("found")).unwrap(), outcomes);
     // read and search have no book, and outcomes may be of any delivery
-    let read = format!("read {} --d {d} --outcomes found --passed 0", options(layout));
+    let read = format!(
+        "read {} --d {d} --outcomes found --passed 0",
+        options(layout)
+    );
     let read = run(folder, &read);
     assert_eq!((read.0, read.2.as_str()), (status, ""));
     if layout.scheme == Layout::TREE {
@@ -338,7 +354,10 @@ fn one_value_and_none() {
     write_days(&folder, &days(2));
     let verify = "verify --scheme 1 --n 2 --f 1 --days days --book book --passed 0";
     fs::write(folder.file("book"), book(Layout::black(2, 1), &days(2))).unwrap();
-    assert_eq!(run(&folder, verify), (0, "REF,1,0,0,0,0,2\n".into(), String::new()));
+    assert_eq!(
+        run(&folder, verify),
+        (0, "REF,1,0,0,0,0,2\n".into(), String::new())
+    );
     fs::write(folder.file("book"), [0; 32]).unwrap();
     let lines = "REF,1,2,1,0,2,0\nDAY,1\nDAY,2\n";
     assert_eq!(run(&folder, verify), (1, lines.into(), NOTE.into()));
@@ -396,7 +415,11 @@ fn a_folder_of_days_by_the_readme() {
     };
     let path = programs(&folder);
     let (status, out, messages) = shell(&folder, &path, commands);
-    assert_eq!((status, out.as_str()), (0, "REF,2,0,0,0,0,64\n"), "{messages}");
+    assert_eq!(
+        (status, out.as_str()),
+        (0, "REF,2,0,0,0,0,64\n"),
+        "{messages}"
+    );
     assert_eq!(messages, "daybook: sealed: days 64, values 24\n");
     assert_eq!(fs::read(folder.file("book-0.7")).unwrap(), old);
     let new = fs::read(folder.file("book")).unwrap();
@@ -435,7 +458,11 @@ fn a_state_folder_by_the_readme() {
     let (folder, state, path, commands) = forty("state");
     let before = tree(&folder.file("books"));
     let (status, out, messages) = shell(&folder, &path, &commands);
-    assert_eq!((status, out.as_str()), (0, "REF,2,0,0,0,0,32\n"), "{messages}");
+    assert_eq!(
+        (status, out.as_str()),
+        (0, "REF,2,0,0,0,0,32\n"),
+        "{messages}"
+    );
     let asked = fs::read_to_string(folder.file("asked")).unwrap();
     assert_eq!(asked, "status books\nverify --state books --days days\n");
     // the folder of before stays to the byte, and the same days stand in the new one
@@ -445,7 +472,10 @@ fn a_state_folder_by_the_readme() {
     let new = fs::read(folder.file("books/book")).unwrap();
     assert_eq!(new, book(state.layout, &state.days));
     let (_, out, _) = run(&folder, "status books");
-    assert!(out.contains("days 40\nopen 5\n") && out.ends_with("clean 32\n"), "{out}");
+    assert!(
+        out.contains("days 40\nopen 5\n") && out.ends_with("clean 32\n"),
+        "{out}"
+    );
     // it goes on
     let rest = &days(41)[40][5..];
     fs::write(folder.file("rest"), rest).unwrap();
@@ -461,7 +491,10 @@ fn the_commands_of_the_readme_stopped() {
     let (folder, _, path, commands) = forty("whole");
     assert_eq!(shell(&folder, &path, &commands).0, 0);
     let whole = tree(&folder.file("books"));
-    let first = commands.iter().position(|line| line.starts_with("for ")).unwrap();
+    let first = commands
+        .iter()
+        .position(|line| line.starts_with("for "))
+        .unwrap();
     let (setting, looping) = (&commands[first - 1..first], &commands[first..]);
     for days in [0, 1, 17, 40] {
         let (folder, _, path, commands) = forty(&format!("stopped-{days}"));
@@ -488,7 +521,11 @@ fn an_altered_day_is_found_by_the_index() {
     for altered in [7, 40] {
         let (folder, ..) = forty(&format!("altered-{altered}"));
         let commands = &blocks_of_the_readme()[1];
-        let path = format!("{}:{}", folder.file("bin").display(), std::env::var("PATH").unwrap());
+        let path = format!(
+            "{}:{}",
+            folder.file("bin").display(),
+            std::env::var("PATH").unwrap()
+        );
         fs::write(folder.file(&format!("days/day-{altered:02}")), "other").unwrap();
         let (status, out, messages) = shell(&folder, &path, commands);
         assert_ne!(status, 0);

@@ -23,7 +23,9 @@ fn layouts() -> Vec<Layout> {
 /// The layout with each F that it may have, or some of them.
 fn with_each_f(layout: Layout) -> impl Iterator<Item = Layout> {
     let most = if layout.scheme == Layout::TREE { 1 } else { 64 };
-    let some = [1, 2, 3, 16, 63, 64].into_iter().filter(move |f| *f <= most);
+    let some = [1, 2, 3, 16, 63, 64]
+        .into_iter()
+        .filter(move |f| *f <= most);
     some.map(move |f| Layout { f, ..layout })
 }
 
@@ -233,7 +235,11 @@ fn a_book_under_another_layout() {
         for (taken, other) in &books {
             let values = other.len() / VALUE;
             let lengthened: Vec<u8> = book.iter().cycle().take(other.len()).copied().collect();
-            let longer = if book.len() < other.len() { &lengthened } else { book };
+            let longer = if book.len() < other.len() {
+                &lengthened
+            } else {
+                book
+            };
             let checked = check_to_vecs(*taken, D, &bytes, &ends, longer).unwrap();
             let passes = u8::from(sealed == taken);
             let text = format!("sealed under {sealed}, checked under {taken}");

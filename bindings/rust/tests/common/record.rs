@@ -89,16 +89,17 @@ impl Record {
         let g = self.days + 1;
         self.black = link(self.black, digest);
         blocks += 2;
+        let mut values = Vec::new();
         for i in 0..17 {
+            let slot = i as usize;
             if self.takes(i, g) {
-                self.slots[i as usize] = link(self.slots[i as usize], digest);
+                self.slots[slot] = link(self.slots[slot], digest);
                 blocks += 2;
             }
-        }
-        let mut values = Vec::new();
-        for i in (0..17).filter(|i| self.ends(*i, g)) {
-            values.push(self.slots[i as usize]);
-            self.slots[i as usize] = self.start;
+            if self.ends(i, g) {
+                values.push(self.slots[slot]);
+                self.slots[slot] = self.start;
+            }
         }
         let once = self.layout.scheme == Layout::TREE && g.is_power_of_two();
         if g.is_multiple_of(self.layout.n) && !once {

@@ -409,7 +409,12 @@ mod tests {
         assert_eq!(age("daybook state 1\nscheme 2\nn 16\nf 2\n"), older);
         assert_eq!(age("daybook state 1\n"), older);
         assert_eq!(age("daybook state 2\nscheme 2\nn 16\nf 2\n"), Age::Now);
-        for text in ["", "daybook state 1", "daybook state 01\n", "daybook state 3\n"] {
+        for text in [
+            "",
+            "daybook state 1",
+            "daybook state 01\n",
+            "daybook state 3\n",
+        ] {
             assert_eq!(age(text), Age::Unknown, "{text}");
         }
     }
