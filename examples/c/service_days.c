@@ -122,7 +122,7 @@ static void load_state(int folder, uint8_t *state, uint8_t *book) {
   long size = load(folder, "state", state, STATE_BYTES);
   if (size < 0) stop("there is no state: it is missing, or the service was not opened", "");
   if (size == EARLIER_BYTES && summed(state, EARLIER_BYTES))
-    stop("state: this is the record of an earlier version, of 692 bytes: seal its days again", "");
+    stop("this is the record of an earlier version, of 692 bytes: seal its days again", "");
   if (size != STATE_BYTES || !summed(state, STATE_BYTES)) stop("the state is not whole", "");
   if (!own_layout(state)) stop("the state is of another layout", "");
   if (daybook_record_days(state) > MOST_DAYS) stop("more than this example holds", "");
