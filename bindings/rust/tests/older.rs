@@ -384,14 +384,15 @@ fn blocks_of_the_readme() -> Vec<Vec<String>> {
 }
 
 /// The programs that the commands name: this one, and one in the place of the delivery before, which finds
-/// the days as they were sealed.
+/// the days as they were sealed. Gives the path to them.
 fn programs(folder: &Folder) -> String {
     fs::create_dir(folder.file("bin")).unwrap();
     symlink(env!("CARGO_BIN_EXE_daybook"), folder.file("bin/daybook")).unwrap();
-    let earlier = folder.file("bin/daybook-0.7");
-    fs::write(&earlier, "#!/bin/sh\necho \"$@\" >>asked\n").unwrap();
-    fs::set_permissions(&earlier, fs::Permissions::from_mode(0o755)).unwrap();
     let path = std::env::var("PATH").unwrap();
+    // by a process of its own: one that this process wrote could be busy when it is run
+    let earlier =
+        "printf '#!/bin/sh\\necho \"$@\" >>asked\\n' >bin/daybook-0.7; chmod 755 bin/*-0.7";
+    assert_eq!(shell(folder, &path, &[earlier.to_string()]).0, 0);
     format!("{}:{path}", folder.file("bin").display())
 }
 
@@ -519,15 +520,9 @@ fn the_commands_of_the_readme_stopped() {
 #[test]
 fn an_altered_day_is_found_by_the_index() {
     for altered in [7, 40] {
-        let (folder, ..) = forty(&format!("altered-{altered}"));
-        let commands = &blocks_of_the_readme()[1];
-        let path = format!(
-            "{}:{}",
-            folder.file("bin").display(),
-            std::env::var("PATH").unwrap()
-        );
+        let (folder, _, path, commands) = forty(&format!("altered-{altered}"));
         fs::write(folder.file(&format!("days/day-{altered:02}")), "other").unwrap();
-        let (status, out, messages) = shell(&folder, &path, commands);
+        let (status, out, messages) = shell(&folder, &path, &commands);
         assert_ne!(status, 0);
         assert!((out + &messages).contains("differ"), "{altered}");
     }
