@@ -115,7 +115,7 @@ impl Record {
         let n = self.layout.n;
         match self.layout.scheme {
             Layout::BLACK => false,
-            Layout::TILE => i <= n.ilog2() && (i == 0 || (g - 1) % n & (n >> i) == 0),
+            Layout::TILE => i <= n.ilog2() && (i == 0 || ((g - 1) % n) & (n >> i) == 0),
             _ => true,
         }
     }
