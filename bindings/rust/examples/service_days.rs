@@ -6,10 +6,10 @@
 //!
 //!     service_days open STATE | close STATE K TEXT | status STATE
 //!
-//! STATE is one file: the record, the digest of each closed day, the book, and a checksum over these. A
-//! close has one commit, in which the new file takes the place of the old one; a run that is stopped
-//! leaves the service before or after it. The number K makes a repeat harmless. A record of before version
-//! 0.8.0 is named by its length: its days are closed again, in a new file.
+//! STATE is one file: the record, the digest of each closed day, the book, and a checksum over
+//! these. A close has one commit, in which the new file takes the place of the old one; a run that
+//! is stopped leaves the service before or after it. The number K makes a repeat harmless. A record
+//! of before version 0.8.0 is named by its length: its days are closed again, in a new file.
 
 use std::env;
 use std::error::Error;

@@ -62,7 +62,8 @@ pub use sizing::{forecast, Sizes};
 
 /// Bytes of a record.
 pub const RECORD: usize = 724;
-/// Bytes of a record before version 0.8.0. Its chains start otherwise, and no service goes on from it.
+/// Bytes of a record before version 0.8.0. Its chains start otherwise, and no service goes on from
+/// it.
 pub const EARLIER_RECORD: usize = 692;
 /// Bytes of a value, and of a day's digest.
 pub const VALUE: usize = 32;

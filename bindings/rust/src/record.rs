@@ -5,8 +5,8 @@ use crate::{EARLIER_RECORD, RECORD};
 
 /// Bytes that are no record, since they are not [`RECORD`] many.
 ///
-/// Those of a version before 0.8.0 are [`EARLIER_RECORD`] many. Chains started otherwise then, and no
-/// service goes on from such a record: its days are sealed again.
+/// Those of a version before 0.8.0 are [`EARLIER_RECORD`] many. Chains started otherwise then, and
+/// no service goes on from such a record: its days are sealed again.
 #[derive(Clone, Copy, Debug, PartialEq, Eq, Hash)]
 pub struct NotARecord {
     /// How many bytes there are.

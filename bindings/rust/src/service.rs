@@ -134,8 +134,8 @@ impl Service {
     ///
     /// # Errors
     ///
-    /// [`NotARecord`] where these are not [`RECORD`] bytes. Of a record of before version 0.8.0 it says
-    /// that its days are to be sealed again.
+    /// [`NotARecord`] where these are not [`RECORD`] bytes. Of a record of before version 0.8.0 it
+    /// says that its days are to be sealed again.
     ///
     /// ```
     /// use daybook::{Layout, Refusal, Service};

@@ -46,8 +46,8 @@ fn published_vectors() {
 
 #[test]
 fn two_days_by_hand() {
-    // day 1 is empty, day 2 is abc: SHA-256 of 00, of 00 abc, and the links over these from the starts,
-    // SHA-256 of 02 01 00, 02 02 00, 02 02 01 and 02 03 00
+    // day 1 is empty, day 2 is abc: SHA-256 of 00, of 00 abc, and the links over these from the
+    // starts, SHA-256 of 02 01 00, 02 02 00, 02 02 01 and 02 03 00
     let empty = "6e340b9cffb37a989ca544e6bb780a2c78901d3fb33738768511a30617afa01d";
     let abc = "609f6e36d2405585188d5cfd761f407c7cc46a7d3f314c88270469dde315fcd1";
     let sealed = |layout| hex(&seal_to_vec(layout, 2, b"abc", &[0, 3]).unwrap());

@@ -1,5 +1,5 @@
-//! What was sealed before version 0.8.0: state folders are named, books are noted, and the commands of
-//! README.md seal the days again.
+//! What was sealed before version 0.8.0: state folders are named, books are noted, and the commands
+//! of README.md seal the days again.
 
 mod common;
 #[path = "common/folder_before.rs"]
@@ -53,7 +53,8 @@ fn write_days(folder: &Folder, days: &[Vec<u8>]) {
     }
 }
 
-/// A folder `s` of before with so many days closed and these bytes in the open one, beside its days.
+/// A folder `s` of before with so many days closed and these bytes in the open one, beside its
+/// days.
 fn before(name: &str, closed: u32, open: &[u8]) -> (Folder, Before) {
     let folder = Folder::new(&format!("older-{name}"));
     write_days(&folder, &days(8));
@@ -213,9 +214,9 @@ fn a_record_with_another_start() {
 }
 
 /// What is said where no value passes of a book that is given.
-const NOTE: &str = "daybook: note: no value of the book passes. Each may cover an altered day; or the \
-    book may be of a delivery before 0.8.0, or of another layout (another scheme or N), and then it \
-    says nothing of these days (\"Older years\" in README.md and in man daybook)\n";
+const NOTE: &str = "daybook: note: no value of the book passes. Each may cover an altered day; or \
+    the book may be of a delivery before 0.8.0, or of another layout (another scheme or N), and \
+    then it says nothing of these days (\"Older years\" in README.md and in man daybook)\n";
 /// And of a state's: it is neither of before nor of another layout.
 const NOTE_OF_STATE: &str =
     "daybook: note: no value of the book passes. Each may cover an altered \
@@ -227,8 +228,8 @@ fn options(layout: Layout) -> String {
     format!("--scheme {scheme} --n {n} --f {f}")
 }
 
-/// Checks and verifies with these words. The note is there or not, beside nothing else; status and lines
-/// are those of the outcomes.
+/// Checks and verifies with these words. The note is there or not, beside nothing else; status and
+/// lines are those of the outcomes.
 fn noted(folder: &Folder, layout: Layout, words: &str, outcomes: &[u8], note: bool) {
     let d = 8;
     let fail = outcomes.iter().filter(|outcome| **outcome == 0).count();
@@ -314,7 +315,8 @@ fn books_of_another_layout() {
     }
 }
 
-/// Day 1 altered under scheme 1, and every day under the others: the book is right, and no value passes.
+/// Day 1 altered under scheme 1, and every day under the others: the book is right, and no value
+/// passes.
 #[test]
 fn a_right_book_of_which_no_value_passes() {
     for (layout, changed) in [
@@ -383,8 +385,8 @@ fn blocks_of_the_readme() -> Vec<Vec<String>> {
     blocks
 }
 
-/// The programs that the commands name: this one, and one in the place of the delivery before, which finds
-/// the days as they were sealed. Gives the path to them.
+/// The programs that the commands name: this one, and one in the place of the delivery before,
+/// which finds the days as they were sealed. Gives the path to them.
 fn programs(folder: &Folder) -> String {
     fs::create_dir(folder.file("bin")).unwrap();
     symlink(env!("CARGO_BIN_EXE_daybook"), folder.file("bin/daybook")).unwrap();
@@ -441,8 +443,8 @@ fn a_folder_of_days_by_the_readme() {
     assert_eq!(fs::read(folder.file("book")).unwrap(), old);
 }
 
-/// The state folder `books` of before with forty days closed and an open one, `days` beside it, and the
-/// commands that seal its days again.
+/// The state folder `books` of before with forty days closed and an open one, `days` beside it, and
+/// the commands that seal its days again.
 fn forty(name: &str) -> (Folder, Before, String, Vec<String>) {
     let folder = Folder::new(&format!("older-readme-{name}"));
     write_days(&folder, &days(41));
@@ -491,7 +493,8 @@ fn a_state_folder_by_the_readme() {
     assert!(run(&folder, again).2.contains("closed already"));
 }
 
-/// Stopped behind any line and begun again from there, it comes to the same; so does a line that is done again.
+/// Stopped behind any line and begun again from there, it comes to the same; so does a line that is
+/// done again.
 #[test]
 fn the_commands_of_the_readme_stopped() {
     let (folder, _, path, commands) = forty("whole");

@@ -1,4 +1,5 @@
-//! The chain start: what it is, that a record keeps it, and that a book under another layout fails throughout.
+//! The chain start: what it is, that a record keeps it, and that a book under another layout fails
+//! throughout.
 
 mod common;
 #[path = "common/record.rs"]
@@ -57,7 +58,8 @@ fn starts_by_hand() {
     }
 }
 
-/// Every byte of a fresh record: black and all seventeen slots hold the start, and so does its own place.
+/// Every byte of a fresh record: black and all seventeen slots hold the start, and so does its own
+/// place.
 #[test]
 fn fresh_records() {
     let mut starts = HashMap::new();
@@ -107,7 +109,8 @@ impl Random {
     }
 }
 
-/// Any start is taken: add keeps it, close keeps it and starts again with it whatever it has stored.
+/// Any start is taken: add keeps it, close keeps it and starts again with it whatever it has
+/// stored.
 #[test]
 fn made_up_records() {
     let mut random = Random(0x2545_f491_4f6c_dd1d);
@@ -175,8 +178,8 @@ fn plain_book(layout: Layout, days: &[Vec<u8>]) -> (Vec<u8>, u64) {
     (book, u64::from(blocks))
 }
 
-/// Under every layout the service, the seal and the check go by the same start, whose block belongs to no
-/// call and to no forecast.
+/// Under every layout the service, the seal and the check go by the same start, whose block belongs
+/// to no call and to no forecast.
 #[test]
 fn books_of_every_layout() {
     let days = short_days();
@@ -224,8 +227,8 @@ fn books(bytes: &[u8], ends: &[u32]) -> Vec<(Layout, Vec<u8>)> {
     layouts().into_iter().map(sealed).collect()
 }
 
-/// A book of one layout checked under another fails at every value. Where the other has more, the book is
-/// lengthened by its own values over again.
+/// A book of one layout checked under another fails at every value. Where the other has more, the
+/// book is lengthened by its own values over again.
 #[test]
 fn a_book_under_another_layout() {
     let (bytes, ends) = ledger(&short_days());

@@ -1,4 +1,5 @@
-//! A record and its calls, written plainly from docs/SPEC.md 5 and 15.4. Nothing here calls the library.
+//! A record and its calls, written plainly from docs/SPEC.md 5 and 15.4. Nothing here calls the
+//! library.
 
 #![allow(dead_code)] // each test program uses some of it
 

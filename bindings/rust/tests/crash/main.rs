@@ -333,7 +333,8 @@ fn summed(parts: &[&[u8]]) -> Vec<u8> {
     [&bytes[..], &digest(&bytes)].concat()
 }
 
-/// Both examples name a state of before version 0.8.0, with days and without, and leave it as it is.
+/// Both examples name a state of before version 0.8.0, with days and without, and leave it as it
+/// is.
 #[test]
 #[ignore = "run by .ci/crash"]
 fn the_examples_name_a_state_of_before() {

@@ -426,7 +426,8 @@ fn verify(work: &Work, book: &Path, asked: &Asked, view: &View) -> Result<Done, 
     Ok(done)
 }
 
-/// Says what it may mean that no value passes, where none does. Days are kept by state folders alone.
+/// Says what it may mean that no value passes, where none does. Days are kept by state folders
+/// alone.
 fn say_none_passes(checked: &Checked, kept: Option<&Kept>) {
     let book = match kept {
         Some(_) => older::Book::OfState,

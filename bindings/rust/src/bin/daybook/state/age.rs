@@ -1,4 +1,5 @@
-//! Folders begun before version 0.8.0. They are named before anything is done: not even the lock is taken.
+//! Folders begun before version 0.8.0. They are named before anything is done: not even the lock is
+//! taken.
 
 use std::path::Path;
 

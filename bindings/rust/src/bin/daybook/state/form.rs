@@ -114,8 +114,8 @@ pub fn layout_age(text: &[u8]) -> Age {
     }
 }
 
-/// The age of the file `record`. Where its first line says this version, its form may still be the one of
-/// before.
+/// The age of the file `record`. Where its first line says this version, its form may still be the
+/// one of before.
 pub fn record_age(bytes: &[u8]) -> Age {
     let words = NotARecord {
         length: EARLIER_RECORD,

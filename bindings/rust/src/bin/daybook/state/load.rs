@@ -310,8 +310,8 @@ fn load_record(folder: &Path) -> Result<Record, Stop> {
     Ok(record)
 }
 
-/// The start of the chains, which a record has behind what it had before version 0.8.0, is that of its
-/// layout: a book with any other start could never be checked.
+/// The start of the chains, which a record has behind what it had before version 0.8.0, is that of
+/// its layout: a book with any other start could never be checked.
 fn test_start(service: &Service) -> Result<(), String> {
     let layout = service.layout();
     let start = |service: &Service| service.to_bytes()[EARLIER_RECORD..].to_vec();
