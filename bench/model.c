@@ -60,11 +60,19 @@ static void link_day(uint8_t value[32], const uint8_t day_digest[32]) {
 
 size_t model_compressed(void) { return compressed; }
 
-size_t model_book(uint32_t scheme, uint32_t n, const struct ledger *ledger, uint8_t *book) {
-  uint8_t black[32] = {0}, chain[LEVELS][32] = {{0}}, h[32];
+void model_start(uint32_t scheme, uint32_t n, uint8_t start[32]) {
+  const uint8_t named[2] = {(uint8_t)scheme, (uint8_t)lg(n)};
+  digest(unrolled_blocks, 2, named, sizeof named, start);
+}
+
+size_t model_book(uint32_t scheme, uint32_t n, const uint8_t start[32], const struct ledger *ledger, uint8_t *book) {
+  uint8_t black[32], chain[LEVELS][32], h[32];
   uint32_t count = chain_count(scheme, n);
   size_t values = 0;
   compressed = 0;
+  memcpy(black, start, 32);
+  for (uint32_t i = 0; i < count; i++)
+    memcpy(chain[i], start, 32);
   for (uint32_t day = 1; day <= ledger->days; day++) {
     digest(counted_blocks, 0, ledger->bytes + day_start(ledger, day), day_size(ledger, day), h);
     link_day(black, h);
@@ -73,7 +81,7 @@ size_t model_book(uint32_t scheme, uint32_t n, const struct ledger *ledger, uint
         link_day(chain[i], h);
       if (ends_at(scheme, n, i, day)) {
         memcpy(book + 32 * values++, chain[i], 32);
-        memset(chain[i], 0, 32);
+        memcpy(chain[i], start, 32);
       }
     }
     if (stores_black(scheme, n, day))

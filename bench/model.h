@@ -11,8 +11,11 @@ struct ledger {
   uint32_t days;
 };
 
+/* What every chain of a book starts with. Its block is not among those that model_compressed counts. */
+void model_start(uint32_t scheme, uint32_t n, uint8_t start[32]);
+
 /* Each gives how many it wrote. changed has a byte for each day, not 0 if that day is changed. */
-size_t model_book(uint32_t scheme, uint32_t n, const struct ledger *ledger, uint8_t *book);
+size_t model_book(uint32_t scheme, uint32_t n, const uint8_t start[32], const struct ledger *ledger, uint8_t *book);
 size_t model_outcomes(uint32_t scheme, uint32_t n, uint32_t days, const uint8_t *changed, uint8_t *outcomes);
 size_t model_list(uint32_t scheme, uint32_t n, uint32_t days, const uint8_t *changed, uint32_t *list);
 

@@ -12,6 +12,9 @@
  * A close has one commit: the new `state` takes the place of the old one by a rename. What it says is flushed to disk
  * before, and goes beyond what the old one says: a run that is stopped leaves the service before or after the close, and
  * the next run writes over the rest. Exit status: 0 done or clean, 1 altered, 2 refused, 3 a fault; nothing is written then.
+ *
+ * A state of a version before 0.8.0 has a shorter record, whose chains start otherwise. It is named, and its days are closed
+ * again in a new folder.
  */
 #define _DEFAULT_SOURCE
 #include <dirent.h>
@@ -29,6 +32,9 @@ enum { N = 1, F = 1, DAY_BYTES = 4096, MOST_DAYS = 1000, BOOK_BYTES = 3 * MOST_D
 
 /* `state`: record, digest of the book, digest of all before. */
 enum { DIGEST_AT = DAYBOOK_RECORD, SUM_AT = DIGEST_AT + DAYBOOK_VALUE, STATE_BYTES = SUM_AT + DAYBOOK_VALUE };
+
+/* The same before version 0.8.0, when a record had no start. */
+enum { EARLIER_RECORD = 692, EARLIER_BYTES = EARLIER_RECORD + 2 * DAYBOOK_VALUE };
 
 static void stop(const char *what, const char *name) {
   fprintf(stderr, "service_days: %s%s\n", what, name);
@@ -96,14 +102,29 @@ static int locked(const char *name) {
   return folder;
 }
 
+/* Whether these bytes end with the digest of those before. */
+static int summed(const uint8_t *bytes, uint32_t size) {
+  uint8_t sum[DAYBOOK_VALUE];
+  digest(bytes, size - DAYBOOK_VALUE, sum);
+  return !memcmp(sum, bytes + size - DAYBOOK_VALUE, sizeof sum);
+}
+
+/* Whether a record is of this layout: its numbers, and its chains' start, which is behind what it had before. */
+static int own_layout(const uint8_t *record) {
+  uint8_t fresh[DAYBOOK_RECORD];
+  return !daybook_open(DAYBOOK_TREE, N, F, fresh) && !memcmp(record, fresh, 12) &&
+         !memcmp(record + EARLIER_RECORD, fresh + EARLIER_RECORD, DAYBOOK_RECORD - EARLIER_RECORD);
+}
+
 /* The state of the last commit, with the book beside it tested. Bytes of the book past it are of a stopped run. */
 static void load_state(int folder, uint8_t *state, uint8_t *book) {
-  uint8_t sum[DAYBOOK_VALUE], fresh[DAYBOOK_RECORD];
+  uint8_t sum[DAYBOOK_VALUE];
   long size = load(folder, "state", state, STATE_BYTES);
   if (size < 0) stop("there is no state: it is missing, or the service was not opened", "");
-  digest(state, SUM_AT, sum);
-  if (size != STATE_BYTES || memcmp(sum, state + SUM_AT, sizeof sum)) stop("the state is not whole", "");
-  if (daybook_open(DAYBOOK_TREE, N, F, fresh) || memcmp(state, fresh, 12)) stop("the state is of another layout", "");
+  if (size == EARLIER_BYTES && summed(state, EARLIER_BYTES))
+    stop("this is the record of an earlier version, of 692 bytes: seal its days again", "");
+  if (size != STATE_BYTES || !summed(state, STATE_BYTES)) stop("the state is not whole", "");
+  if (!own_layout(state)) stop("the state is of another layout", "");
   if (daybook_record_days(state) > MOST_DAYS) stop("more than this example holds", "");
   uint32_t length = values_of(state) * DAYBOOK_VALUE;
   if (load(folder, "book", book, BOOK_BYTES + DAYBOOK_PART) < (long)length) stop("the book is missing or too short", "");

@@ -6,9 +6,10 @@
 //!
 //!     service_days open STATE | close STATE K TEXT | status STATE
 //!
-//! STATE is one file: the record, the digest of each closed day, the book, and a checksum over these. A
-//! close has one commit, in which the new file takes the place of the old one; a run that is stopped
-//! leaves the service before or after it. The number K makes a repeat harmless.
+//! STATE is one file: the record, the digest of each closed day, the book, and a checksum over
+//! these. A close has one commit, in which the new file takes the place of the old one; a run that
+//! is stopped leaves the service before or after it. The number K makes a repeat harmless. A record
+//! of before version 0.8.0 is named by its length: its days are closed again, in a new file.
 
 use std::env;
 use std::error::Error;
@@ -139,13 +140,12 @@ impl Kept {
         if digest(body)? != *sum {
             return Err("the state does not fit its checksum".into());
         }
-        let (record, rest) = body
-            .split_first_chunk::<RECORD>()
-            .ok_or("the state is too short")?;
-        let service = Service::from_bytes(*record);
-        let (digests, book) = rest
-            .split_at_checked(VALUE * service.days() as usize)
-            .ok_or("the state is too short")?;
+        let (days, values) = counts(body)?;
+        let length = body.len().checked_sub(VALUE * (days + values));
+        let (record, rest) = body.split_at(length.ok_or("the state is too short")?);
+        // one of an earlier version is shorter, and the error says so
+        let service = Service::from_slice(record)?;
+        let (digests, book) = rest.split_at(VALUE * days);
         Ok(Kept {
             service,
             digests: digests.to_vec(),
@@ -165,6 +165,15 @@ impl Kept {
         fs::rename(&new, state)?;
         flush_folder(state)
     }
+}
+
+/// The days and values of a record, by the numbers that stand first in it in every version.
+fn counts(record: &[u8]) -> Answer<(usize, usize)> {
+    let mut numbers = [0; RECORD];
+    let front = record.get(..20).ok_or("the state is too short")?;
+    numbers[..20].copy_from_slice(front);
+    let service = Service::from_bytes(numbers);
+    Ok((service.days() as usize, service.values()? as usize))
 }
 
 /// The digest of a day of these bytes: a check of one day writes it.

@@ -305,6 +305,15 @@ mod tests {
     }
 
     #[test]
+    fn a_refused_open_writes_zeros() {
+        for (number, setting) in [(1, (4, 0, 0)), (2, (1, 3, 0)), (3, (3, 1, 2))] {
+            let mut record = [77; RECORD];
+            assert_eq!(open(setting, &mut record), number);
+            assert_eq!(record, [0; RECORD]);
+        }
+    }
+
+    #[test]
     fn a_refused_add_leaves_record_and_blocks() {
         let long = vec![0; DAY_LIMIT as usize + 1];
         let mut full = opened();

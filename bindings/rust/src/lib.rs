@@ -41,6 +41,7 @@ mod book;
 mod ffi;
 mod layout;
 mod positions;
+mod record;
 mod refusal;
 mod search;
 mod service;
@@ -53,13 +54,17 @@ pub use book::{
 };
 pub use layout::Layout;
 pub use positions::{chain_at, position_of, Chain, Kind};
+pub use record::NotARecord;
 pub use refusal::Refusal;
 pub use search::{search, search_to_vec, Progress};
 pub use service::{Closed, Service};
 pub use sizing::{forecast, Sizes};
 
 /// Bytes of a record.
-pub const RECORD: usize = 692;
+pub const RECORD: usize = 724;
+/// Bytes of a record before version 0.8.0. Its chains start otherwise, and no service goes on from
+/// it.
+pub const EARLIER_RECORD: usize = 692;
 /// Bytes of a value, and of a day's digest.
 pub const VALUE: usize = 32;
 /// Bytes that are enough for the values of any day.

@@ -1,6 +1,6 @@
 use std::fmt;
 
-use crate::{ffi, Layout, Refusal, PART, RECORD, VALUE};
+use crate::{ffi, Layout, NotARecord, Refusal, PART, RECORD, VALUE};
 
 /// The service: days are added in pieces and closed, and each close gives the day's values.
 ///
@@ -128,6 +128,34 @@ impl Service {
     #[must_use]
     pub fn from_bytes(record: [u8; RECORD]) -> Service {
         Service { record }
+    }
+
+    /// The service of a record that was kept, whatever its length.
+    ///
+    /// # Errors
+    ///
+    /// [`NotARecord`] where these are not [`RECORD`] bytes. Of a record of before version 0.8.0 it
+    /// says that its days are to be sealed again.
+    ///
+    /// ```
+    /// use daybook::{Layout, Refusal, Service};
+    ///
+    /// let service = Service::open(Layout::tree(4))?;
+    /// assert_eq!(Service::from_slice(&service.to_bytes()), Ok(service));
+    /// assert_eq!(
+    ///     Service::from_slice(&[0; 692]).unwrap_err().to_string(),
+    ///     "this is the record of an earlier version, of 692 bytes: seal its days again"
+    /// );
+    /// assert_eq!(
+    ///     Service::from_slice(b"rye").unwrap_err().to_string(),
+    ///     "a record has 724 bytes, and this has 3"
+    /// );
+    /// # Ok::<(), Refusal>(())
+    /// ```
+    pub fn from_slice(record: &[u8]) -> Result<Service, NotARecord> {
+        let length = record.len();
+        let record = record.try_into().map_err(|_| NotARecord { length })?;
+        Ok(Service { record })
     }
 
     /// The layout that the record names.

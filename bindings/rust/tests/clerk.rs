@@ -89,14 +89,14 @@ fn names_in_the_lines() {
 #[test]
 fn names_of_any_bytes() {
     let folder = Folder::new("clerk-bytes");
-    let names: [&[u8]; 4] = [b"1\n,2%.csv", b"2 \xff", b"3\xc3\xa9", b"4\x1b[31m"];
-    write_days(&folder, &altered(&days(4), &[1, 2, 3, 4]), |day| {
+    let names: [&[u8]; 5] = [b"1\n,2%.csv", b"2 \xff", b"3\xc3\xa9", b"4\x1b[31m", b"5"];
+    write_days(&folder, &altered(&days(5), &[1, 2, 3, 4]), |day| {
         names[day - 1].to_vec()
     });
-    fs::write(folder.file("book"), book(Layout::tree(4), &days(4))).unwrap();
-    let verify = "verify --scheme 3 --n 4 --f 1 --days in --book book --names";
+    fs::write(folder.file("book"), book(Layout::tree(1), &days(5))).unwrap();
+    let verify = "verify --scheme 3 --n 1 --f 1 --days in --book book --names --passed 0";
     let lines =
-        "REF,3,4,1,0,4,0\nDAY,1,1%0A%2C2%25.csv\nDAY,2,2 %FF\nDAY,3,3%C3%A9\nDAY,4,4%1B[31m\n";
+        "REF,3,4,1,0,5,0\nDAY,1,1%0A%2C2%25.csv\nDAY,2,2 %FF\nDAY,3,3%C3%A9\nDAY,4,4%1B[31m\n";
     said(&folder, verify, (1, lines), &[]);
 }
 
@@ -421,6 +421,9 @@ fn days_that_are_not_those_of_a_state() {
             "daybook: note: 9 files found, from .lock to day-08; 8 days are closed",
             "daybook: note: not named as the others are: .lock",
             "daybook: note: day 1 was sealed from in/day-01, and is the file .lock here",
+            "daybook: note: no value of the book passes. Each may cover an altered day; or these \
+             may not be the days that were sealed: by the folder's record the book is of version \
+             0.8.0 or later, and of this layout",
             NONE_KEPT,
         ]
     );

@@ -46,19 +46,25 @@ fn published_vectors() {
 
 #[test]
 fn two_days_by_hand() {
-    // day 1 is empty, day 2 is abc: SHA-256 of 00, of 00 abc, and the links over these
+    // day 1 is empty, day 2 is abc: SHA-256 of 00, of 00 abc, and the links over these from the
+    // starts, SHA-256 of 02 01 00, 02 02 00, 02 02 01 and 02 03 00
     let empty = "6e340b9cffb37a989ca544e6bb780a2c78901d3fb33738768511a30617afa01d";
     let abc = "609f6e36d2405585188d5cfd761f407c7cc46a7d3f314c88270469dde315fcd1";
-    let day_1 = "f458e643a4ef83a22e9d97a07f49eaf90fdeab1ce42427ce6da091237f83cd0d";
-    let day_2 = "c27a212679c4087c8204da450cd48a458afb85bd7ad1fac07404ab17f313189b";
-    let both = "fbfd67b788385c7b709e85417033085b01c90a1accedc3a2590c813e6efc26b7";
     let sealed = |layout| hex(&seal_to_vec(layout, 2, b"abc", &[0, 3]).unwrap());
+    let day_1 = "fb49e70ff97c380836cc1ac0577e0779459c8ba161755859c2d9928bcc3f5747";
+    let both = "c89c4a84f6964f1c665b660b37f6d6f4b639583726e6962397382fdb62e8fec4";
     assert_eq!(sealed(Layout::black(1, 1)), [day_1, both].concat());
-    assert_eq!(
-        sealed(Layout::tile(1, 1)),
-        [day_1, day_1, day_2, both].concat()
-    );
+    let day_1 = "6c01d551ae6875ce2730c28e2c7d40f25e1dbe657d2798cf0484720db11d94ae";
+    let day_2 = "d7b6f815a2c36dd3b2f5796d3ec00536b6a6e1d561fc6eb38c71f3d1168ed8d5";
+    let both = "f2c5055c695fa44a575a9b70f310cc7b07f0b0c7ada18b1c17197156e9c5dabc";
+    let tiles = [day_1, day_1, day_2, both].concat();
+    assert_eq!(sealed(Layout::tile(1, 1)), tiles);
+    let day_1 = "f410b190987ac4d4d563f898efce1191383df707c01bb70251db966c0dd1901c";
+    let both = "9f7ea5e3f9fae71ffaec82a2d3a28a796f88bcc40b44cf04056754241b13953c";
     assert_eq!(sealed(Layout::tile(2, 1)), [both, day_1, both].concat());
+    let day_1 = "5105ba6ac6280a66f14376bc7436bbbbceba7e66d4f52de9ad1ca8badee24663";
+    let day_2 = "680dc269f960d98cb3e472ea75e7599afdb0ed8726e49976e1f6cff715c4d285";
+    let both = "a683f1c26d00a068ea99410822984b98a50c06ff615ea85d715571f117453d68";
     assert_eq!(sealed(Layout::tree(1)), [day_1, day_2, both].concat());
 
     let book = seal_to_vec(Layout::tree(1), 2, b"abc", &[0, 3]).unwrap();

@@ -4,7 +4,7 @@ mod common;
 
 use std::collections::HashMap;
 
-use common::{chains, days, ledger, value};
+use common::{chains, days, ledger, start, value};
 use daybook::{chain_at, position_of, seal_to_vec, values, Chain, Kind, Layout, Refusal, VALUE};
 
 fn chain(kind: Kind, index: u32, first: u32, last: u32) -> Chain {
@@ -329,7 +329,8 @@ fn the_values_are_those_of_the_chains() {
                 let over =
                     |days: &&Vec<u32>| days[0] == found.first && days[days.len() - 1] == found.last;
                 let chain = covered.iter().find(over).unwrap();
-                assert_eq!(value(chain, &days), bytes, "{layout}, {place}");
+                let value = value(start(layout), chain, &days);
+                assert_eq!(value, bytes, "{layout}, {place}");
             }
         }
     }

@@ -133,7 +133,7 @@ fn days_one_by_one_give_the_book() {
         said(&folder, &format!("open s {scheme}"), "s is open");
         assert_eq!(names(&folder.file("s")), FRESH);
         let text = format!(
-            "daybook state 1\nscheme {}\nn {}\nf {}\n",
+            "daybook state 2\nscheme {}\nn {}\nf {}\n",
             layout.scheme, layout.n, layout.f
         );
         assert_eq!(read(&folder, "s/layout"), text.as_bytes());
@@ -376,7 +376,7 @@ fn a_day_too_long() {
 
 /// The file `record`, from docs/SERVICE.md and not by the program.
 fn record(service: &Service, book: &[u8], index: &[u8], day: &[u8], names: &str) -> Vec<u8> {
-    let mut bytes = b"daybook record 1\n".to_vec();
+    let mut bytes = b"daybook record 2\n".to_vec();
     bytes.extend(service.to_bytes());
     for file in [book, index, day] {
         bytes.extend((file.len() as u64).to_le_bytes());
@@ -415,7 +415,7 @@ fn the_last_day_of_a_book() {
         made.extend(service.close_day().unwrap());
         lines += &format!("{day},0,{},\n", hex(&digest(b"")));
     }
-    let layout = "daybook state 1\nscheme 1\nn 256\nf 1\n";
+    let layout = "daybook state 2\nscheme 1\nn 256\nf 1\n";
     fs::write(folder.file("s/layout"), layout).unwrap();
     fs::write(folder.file("s/book"), &made).unwrap();
     fs::write(folder.file("s/index"), &lines).unwrap();
@@ -502,13 +502,13 @@ fn other_versions() {
     let layout = String::from_utf8(read(&folder, "s/layout")).unwrap();
     fs::write(
         folder.file("s/layout"),
-        layout.replace("state 1", "state 2"),
+        layout.replace("state 2", "state 3"),
     )
     .unwrap();
     fault(
         &folder,
         "status s",
-        "s/layout does not fit the state: its format version is 2",
+        "s/layout does not fit the state: its format version is 3",
     );
     fs::write(folder.file("s/layout"), layout).unwrap();
     let mut record = read(&folder, "s/record");

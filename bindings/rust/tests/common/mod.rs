@@ -20,7 +20,8 @@ const K: [u32; 64] = [
     0x748f82ee, 0x78a5636f, 0x84c87814, 0x8cc70208, 0x90befffa, 0xa4506ceb, 0xbef9a3f7, 0xc67178f2,
 ];
 
-const START: [u32; 8] = [
+/// FIPS 180-4, section 5.3.3: what a hash begins with.
+pub const INITIAL: [u32; 8] = [
     0x6a09e667, 0xbb67ae85, 0x3c6ef372, 0xa54ff53a, 0x510e527f, 0x9b05688c, 0x1f83d9ab, 0x5be0cd19,
 ];
 
@@ -31,7 +32,7 @@ pub fn sha256(message: &[u8]) -> [u8; 32] {
         padded.push(0);
     }
     padded.extend((8 * message.len() as u64).to_be_bytes());
-    let mut hash = START;
+    let mut hash = INITIAL;
     for block in padded.chunks_exact(64) {
         compress(&mut hash, block);
     }
@@ -42,7 +43,7 @@ pub fn sha256(message: &[u8]) -> [u8; 32] {
     out
 }
 
-fn compress(hash: &mut [u32; 8], block: &[u8]) {
+pub fn compress(hash: &mut [u32; 8], block: &[u8]) {
     let mut w = [0u32; 64];
     for (word, bytes) in w.iter_mut().zip(block.chunks_exact(4)) {
         *word = u32::from_be_bytes([bytes[0], bytes[1], bytes[2], bytes[3]]);
@@ -76,14 +77,20 @@ pub fn digest(day: &[u8]) -> [u8; 32] {
     sha256(&[&[0], day].concat())
 }
 
+/// What every chain of a layout's book starts with.
+pub fn start(layout: Layout) -> [u8; 32] {
+    sha256(&[2, layout.scheme as u8, layout.n.ilog2() as u8])
+}
+
+/// The link of a chain's value so far and a day's digest.
+pub fn link(value: [u8; 32], digest: [u8; 32]) -> [u8; 32] {
+    sha256(&[&[1][..], &value, &digest].concat())
+}
+
 /// The value of a chain over the days of these numbers.
-pub fn value(chain: &[u32], days: &[Vec<u8>]) -> [u8; 32] {
-    let mut value = [0; 32];
-    for day in chain {
-        let digest = digest(&days[*day as usize - 1]);
-        value = sha256(&[&[1][..], &value, &digest].concat());
-    }
-    value
+pub fn value(start: [u8; 32], chain: &[u32], days: &[Vec<u8>]) -> [u8; 32] {
+    let digests = chain.iter().map(|day| digest(&days[*day as usize - 1]));
+    digests.fold(start, link)
 }
 
 /// The chains that close at day `g`, each as the days that it covers.
@@ -124,8 +131,18 @@ pub fn chains(layout: Layout, d: u32) -> Vec<Vec<u32>> {
 
 /// The book of the days: every chain hashed from its first day.
 pub fn book(layout: Layout, days: &[Vec<u8>]) -> Vec<u8> {
+    book_from(start(layout), layout, days)
+}
+
+/// The same as it was before version 0.8.0: chains started with zeros.
+pub fn book_before(layout: Layout, days: &[Vec<u8>]) -> Vec<u8> {
+    book_from([0; 32], layout, days)
+}
+
+fn book_from(start: [u8; 32], layout: Layout, days: &[Vec<u8>]) -> Vec<u8> {
     let chains = chains(layout, days.len() as u32);
-    chains.iter().flat_map(|chain| value(chain, days)).collect()
+    let value = |chain: &Vec<u32>| value(start, chain, days);
+    chains.iter().flat_map(value).collect()
 }
 
 /// The table that a set of changed days gives.

@@ -5,14 +5,21 @@
 #[path = "../common/mod.rs"]
 mod common;
 mod explore;
+#[path = "../common/folder_before.rs"]
+mod folder_before;
 mod model;
 mod plain;
+#[path = "../common/record.rs"]
+mod record;
 
 use std::env;
 use std::fs;
 use std::path::PathBuf;
 
+use common::{book, book_before, digest};
+use daybook::Layout;
 use explore::{Bench, Step};
+use folder_before::Before;
 use model::{put, tree, Call, Tree};
 use plain::{Asked, Plain};
 
@@ -208,6 +215,32 @@ fn outcomes_with_their_digests() {
     explore_all(&bench, sealed, &[step]);
 }
 
+/// The book of the four days as it was before version 0.8.0, and as it is.
+fn books_of_four() -> [Vec<u8>; 2] {
+    let layout = Layout::tile(2, 1);
+    let days = ["1", "2", "3", "4"].map(|day| day.as_bytes().to_vec());
+    [book_before(layout, &days), book(layout, &days)]
+}
+
+/// A book of before, sealed again: it is the old one or the new one, whatever stops the run.
+#[test]
+#[ignore = "run by .ci/crash"]
+fn a_book_sealed_again() {
+    let bench = bench("daybook-again", PROGRAM);
+    let [old, new] = books_of_four();
+    let (mut start, _) = four_days();
+    file(&mut start, "book", old);
+    let either = |tree: &Tree| {
+        let found = tree.get("book").and_then(Option::as_ref);
+        found.is_some_and(|found| books_of_four().contains(found))
+    };
+    let seal = "seal --scheme 2 --n 2 --f 1 --days in --book book --force";
+    let step = Step::new(seal, "status none").holding(either);
+    let (_, after) = bench.traced(&start, &step);
+    assert_eq!(after["book"], Some(new));
+    explore_all(&bench, start, &[step]);
+}
+
 /// A figure over another one: it is the old one or the new one, whatever stops the run.
 #[test]
 #[ignore = "run by .ci/crash"]
@@ -292,6 +325,58 @@ fn the_example_in_c() {
     ];
     let bench = bench("example-c", built("CRASH_C_EXAMPLE"));
     explore_all(&bench, Tree::new(), &steps(&lines, "status s"));
+}
+
+/// Bytes and their digest.
+fn summed(parts: &[&[u8]]) -> Vec<u8> {
+    let bytes = parts.concat();
+    [&bytes[..], &digest(&bytes)].concat()
+}
+
+/// Both examples name a state of before version 0.8.0, with days and without, and leave it as it
+/// is.
+#[test]
+#[ignore = "run by .ci/crash"]
+fn the_examples_name_a_state_of_before() {
+    let words =
+        "service_days: this is the record of an earlier version, of 692 bytes: seal its days \
+                 again\n";
+    let c = bench("before-c", built("CRASH_C_EXAMPLE"));
+    let rust = bench("before-rust", built("CRASH_RUST_EXAMPLE"));
+    for closed in [0, 1, 5] {
+        let state = |layout| Before {
+            layout,
+            days: vec![b"rye".to_vec(); closed],
+            open: Vec::new(),
+        };
+        let (tree_n_1, tiles) = (state(Layout::tree(1)), state(Layout::tile(4, 2)));
+        let mut start = Tree::new();
+        start.insert("s".to_string(), None);
+        file(&mut start, "s/book", tree_n_1.book());
+        for day in 1..=closed {
+            file(&mut start, &format!("s/day-{day}"), "rye");
+        }
+        let sum = digest(&tree_n_1.book());
+        file(&mut start, "s/state", summed(&[&tree_n_1.service(), &sum]));
+        named(&c, &start, words);
+        let digests: Vec<u8> = tiles.days.iter().flat_map(|day| digest(day)).collect();
+        let mut start = Tree::new();
+        let parts = [&tiles.service(), &digests, &tiles.book()];
+        file(&mut start, "s", summed(&parts.map(|part| &part[..])));
+        named(&rust, &start, words);
+    }
+    println!("crash: the examples name a state of before version 0.8.0");
+}
+
+/// Each command of an example ends with 3 and these words alone, and writes nothing.
+fn named(bench: &Bench, start: &Tree, words: &str) {
+    for line in ["open s", "close s 1 rye", "close s 6 oats", "status s"] {
+        put(&bench.root, start);
+        let ran = bench.run(line);
+        let found = (ran.status, ran.printed.as_str(), ran.messages.as_str());
+        assert_eq!(found, (Some(3), "", words), "{}: {line}", bench.name);
+        assert_eq!(tree(&bench.root), *start, "{}: {line}", bench.name);
+    }
 }
 
 /// The test bites: a program that commits in the wrong order is found out, one in the right order is

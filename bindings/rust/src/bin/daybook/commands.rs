@@ -20,6 +20,7 @@ use crate::fit::{moved, Fit};
 use crate::forecast::forecast;
 use crate::locate::locate;
 use crate::names::{field, out_of_order};
+use crate::older;
 use crate::progress::Progress;
 use crate::say;
 use crate::search::search;
@@ -405,6 +406,7 @@ fn check(
         "checked: days {}, values {}, failing {fail}",
         work.d, work.values
     ));
+    say_none_passes(&checked, kept);
     if let (0, Some(kept)) = (fail, kept) {
         kept.keep(&front);
     }
@@ -416,11 +418,24 @@ fn check(
 
 fn verify(work: &Work, book: &Path, asked: &Asked, view: &View) -> Result<Done, Stop> {
     let (checked, front) = checked(work, book)?;
+    say_none_passes(&checked, asked.kept);
     let done = listed(asked, &checked.outcomes, view)?;
     if let (Answer::Clean, Some(kept)) = (done.answer, asked.kept) {
         kept.keep(&front);
     }
     Ok(done)
+}
+
+/// Says what it may mean that no value passes, where none does. Days are kept by state folders
+/// alone.
+fn say_none_passes(checked: &Checked, kept: Option<&Kept>) {
+    let book = match kept {
+        Some(_) => older::Book::OfState,
+        None => older::Book::Given,
+    };
+    if let Some(note) = older::note(&checked.outcomes, book) {
+        say(&note);
+    }
 }
 
 /// What a check found, and the front of the book that it was made against.

@@ -52,7 +52,8 @@ pub const OPEN: &str = "\
 daybook open DIR --scheme S --n N --f F
 
 Makes the state folder DIR of a new service, whole or not at all. A folder that is there must be empty,
-or be what this would make.
+or be what this would make. A state folder of before version 0.8.0, whose chains start otherwise, is
+a fault here and for every other command: its days are sealed again, in a new folder.
 
   --scheme S --n N --f F   the layout: 1 black, 2 tile, 3 tree; days in an interval; intervals per
                            validation
@@ -117,6 +118,8 @@ daybook check --state DIR [--d D] SOURCE --outcomes FILE [--digests FILE]
 
 Hashes the days again, compares them with the book and writes the outcomes. Exit status 0: every value
 passes; 1: some value fails. With --state, where every value passes, the folder keeps D as verified clean.
+Where no value passes, the book may be of a delivery before 0.8.0 or of another layout: standard
+error says so.
 
   --scheme S --n N --f F   the layout that the book was sealed under
   --d D                    check the first D days (else: all days of the source, and the book must
@@ -188,7 +191,8 @@ daybook verify --state DIR [--d D] SOURCE [--passed P] [--names] [--figure FILE]
 
 Checks the days against the book and prints which days may have been altered. It writes no file but
 the figure, and with --state keeps a D that is clean in the folder. On a terminal standard error has a
-summary in words and a strip of the days.
+summary in words and a strip of the days. Where no value passes, it says what that may mean, as for
+check.
 
   --scheme S --n N --f F   the layout that the book was sealed under
   --d D                    verify the first D days (else: as for check)

@@ -19,6 +19,7 @@ mod leavings;
 mod lengths;
 mod locate;
 mod names;
+mod older;
 mod progress;
 mod search;
 #[allow(unsafe_code)]

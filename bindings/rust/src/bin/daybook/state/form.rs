@@ -1,11 +1,14 @@
 //! The forms of the files of a state folder. docs/SERVICE.md describes them.
 
-use daybook::{Layout, Service, DAYS_LIMIT, RECORD, VALUE};
+use daybook::{Layout, NotARecord, Service, DAYS_LIMIT, EARLIER_RECORD, RECORD, VALUE};
 
 use super::digest::{digest, hex, Digest};
+use crate::older;
 
 /// The format version that this program writes, and the only one that it reads.
-const VERSION: &str = "1";
+pub const VERSION: &str = "2";
+/// The one of the programs before 0.8.0.
+const EARLIER_VERSION: &str = "1";
 const LAYOUT_START: &str = "daybook state ";
 const RECORD_START: &str = "daybook record ";
 
@@ -70,8 +73,7 @@ impl Record {
     }
 
     pub fn from_bytes(bytes: &[u8]) -> Result<Record, String> {
-        let line = bytes.split_inclusive(|byte| *byte == b'\n').next();
-        let line = line.unwrap_or_default();
+        let line = first_line(bytes);
         known_version(line, RECORD_START)?;
         let (body, checksum) = bytes
             .split_last_chunk::<VALUE>()
@@ -91,24 +93,81 @@ impl Record {
     }
 }
 
+/// Bytes that are enough for any file `record`.
+pub const RECORD_MOST: u64 = 4096;
+
+/// When a file of a state folder was made, as far as it tells.
+#[derive(Debug, PartialEq, Eq)]
+pub enum Age {
+    Now,
+    /// Before version 0.8.0, in words.
+    Older(String),
+    Unknown,
+}
+
+pub fn layout_age(text: &[u8]) -> Age {
+    let line = first_line(text);
+    match version_of(line, LAYOUT_START) {
+        Some(EARLIER_VERSION) => Age::Older(older::FOLDER.to_string()),
+        Some(VERSION) => Age::Now,
+        _ => Age::Unknown,
+    }
+}
+
+/// The age of the file `record`. Where its first line says this version, its form may still be the
+/// one of before.
+pub fn record_age(bytes: &[u8]) -> Age {
+    let words = NotARecord {
+        length: EARLIER_RECORD,
+    };
+    let line = first_line(bytes);
+    match version_of(line, RECORD_START) {
+        Some(EARLIER_VERSION) => Age::Older(format!("format version {EARLIER_VERSION}: {words}")),
+        Some(VERSION) if Record::from_bytes(bytes).is_err() && has_earlier_form(bytes) => {
+            Age::Older(words.to_string())
+        }
+        Some(VERSION) => Age::Now,
+        _ => Age::Unknown,
+    }
+}
+
+/// Whether the lengths in the file are those of a record of before, whatever its checksum.
+fn has_earlier_form(bytes: &[u8]) -> bool {
+    let fields = bytes.get(first_line(bytes).len()..).unwrap_or_default();
+    let Some(fields) = fields.get(EARLIER_RECORD..) else {
+        return false;
+    };
+    let mut fields = Fields(fields);
+    let extents = (0..3).all(|_| fields.extent().is_some());
+    extents && fields.text().is_some() && fields.0.len() == VALUE
+}
+
+fn first_line(bytes: &[u8]) -> &[u8] {
+    let line = bytes.split_inclusive(|byte| *byte == b'\n').next();
+    line.unwrap_or_default()
+}
+
 fn too_short(bytes: &[u8]) -> String {
     format!("its {} bytes are too few", bytes.len())
 }
 
 /// The first line of a file is its start and a version that this program knows.
 fn known_version(line: &[u8], start: &str) -> Result<(), String> {
-    let version = line
-        .strip_prefix(start.as_bytes())
-        .and_then(|rest| rest.strip_suffix(b"\n"))
-        .filter(|version| !version.is_empty() && version.iter().all(u8::is_ascii_digit));
-    match version {
-        Some(version) if version == VERSION.as_bytes() => Ok(()),
+    match version_of(line, start) {
+        Some(VERSION) => Ok(()),
         Some(version) => Err(format!(
-            "its format version is {}, and this program knows {VERSION} only",
-            String::from_utf8_lossy(version)
+            "its format version is {version}, and this program knows {VERSION} only"
         )),
         None => Err(format!("it does not begin with \"{start}{VERSION}\"")),
     }
+}
+
+/// The format version, in digits, that the first line of a file has behind its start.
+fn version_of<'a>(line: &'a [u8], start: &str) -> Option<&'a str> {
+    let line = std::str::from_utf8(line).ok()?;
+    let version = line.strip_prefix(start)?.strip_suffix('\n')?;
+    let digits = version.bytes().all(|byte| byte.is_ascii_digit());
+    (digits && !version.is_empty()).then_some(version)
 }
 
 /// What is left to be taken apart.
@@ -153,8 +212,7 @@ pub fn layout_text(layout: Layout) -> String {
 
 /// Tests a text of a layout against the one that the record names.
 pub fn test_layout(text: &[u8], layout: Layout) -> Result<(), String> {
-    let line = text.split_inclusive(|byte| *byte == b'\n').next();
-    known_version(line.unwrap_or_default(), LAYOUT_START)?;
+    known_version(first_line(text), LAYOUT_START)?;
     if text == layout_text(layout).as_bytes() {
         return Ok(());
     }
@@ -268,7 +326,7 @@ mod tests {
     fn a_record_to_bytes_and_back() {
         let bytes = record().to_bytes();
         assert_eq!(Record::from_bytes(&bytes), Ok(record()));
-        assert_eq!(bytes.len(), 17 + 692 + 3 * 40 + 4 + 5 + 32);
+        assert_eq!(bytes.len(), 17 + 724 + 3 * 40 + 4 + 5 + 32);
     }
 
     #[test]
@@ -290,14 +348,18 @@ mod tests {
     fn versions() {
         let message = |bytes: &[u8]| Record::from_bytes(bytes).unwrap_err();
         assert!(message(b"").contains("does not begin with"));
-        assert!(message(b"daybook record 2\n").contains("format version is 2"));
+        for version in ["1", "3", "22"] {
+            let line = format!("daybook record {version}\n");
+            let said = format!("format version is {version}, ");
+            assert!(message(line.as_bytes()).contains(&said));
+        }
         assert!(message(b"daybook record \n").contains("does not begin with"));
-        assert!(message(b"daybook record 1").contains("does not begin with"));
-        assert_eq!(message(b"daybook record 1\n"), "its 17 bytes are too few");
+        assert!(message(b"daybook record 2").contains("does not begin with"));
+        assert_eq!(message(b"daybook record 2\n"), "its 17 bytes are too few");
         let layout = Layout::tile(16, 2);
-        let text = "daybook state 1\nscheme 2\nn 16\nf 2\n";
+        let text = "daybook state 2\nscheme 2\nn 16\nf 2\n";
         assert_eq!(test_layout(text.as_bytes(), layout), Ok(()));
-        let later = text.replace("state 1", "state 9");
+        let later = text.replace("state 2", "state 9");
         assert!(test_layout(later.as_bytes(), layout)
             .unwrap_err()
             .contains("format version is 9"));
@@ -305,6 +367,56 @@ mod tests {
         assert!(test_layout(other.as_bytes(), layout)
             .unwrap_err()
             .contains("scheme 2, N 16, F 2"));
+    }
+
+    /// The file of before: without the start, under these two versions.
+    fn earlier(line: &str, sum: &str) -> Vec<u8> {
+        let bytes = record().to_bytes();
+        let record = &bytes[17..17 + EARLIER_RECORD];
+        let rest = &bytes[17 + RECORD..bytes.len() - VALUE];
+        let under = |line: &str| [line.as_bytes(), record, rest].concat();
+        [under(line), digest(&under(sum)).to_vec()].concat()
+    }
+
+    #[test]
+    fn ages_of_records() {
+        let (one, two) = ("daybook record 1\n", "daybook record 2\n");
+        let words = "this is the record of an earlier version, of 692 bytes: seal its days again";
+        let older = |words: &str| Age::Older(words.to_string());
+        let numbered = older(&format!("format version 1: {words}"));
+        assert_eq!(record_age(&earlier(one, one)), numbered);
+        assert_eq!(record_age(one.as_bytes()), numbered);
+        // its version line changed, with the checksum and without
+        assert_eq!(record_age(&earlier(two, one)), older(words));
+        assert_eq!(record_age(&earlier(two, two)), older(words));
+        // one byte less or more has no form, and every front of a record of now is one of now
+        let bytes = earlier(two, one);
+        assert_eq!(record_age(&bytes[..bytes.len() - 1]), Age::Now);
+        assert_eq!(record_age(&[&bytes[..], &[0]].concat()), Age::Now);
+        let bytes = record().to_bytes();
+        for length in two.len()..=bytes.len() {
+            assert_eq!(record_age(&bytes[..length]), Age::Now, "{length}");
+        }
+        for text in ["", "daybook record 2", "daybook record 3\n", "rye\n"] {
+            assert_eq!(record_age(text.as_bytes()), Age::Unknown, "{text}");
+        }
+    }
+
+    #[test]
+    fn ages_of_layouts() {
+        let age = |text: &str| layout_age(text.as_bytes());
+        let older = Age::Older(older::FOLDER.to_string());
+        assert_eq!(age("daybook state 1\nscheme 2\nn 16\nf 2\n"), older);
+        assert_eq!(age("daybook state 1\n"), older);
+        assert_eq!(age("daybook state 2\nscheme 2\nn 16\nf 2\n"), Age::Now);
+        for text in [
+            "",
+            "daybook state 1",
+            "daybook state 01\n",
+            "daybook state 3\n",
+        ] {
+            assert_eq!(age(text), Age::Unknown, "{text}");
+        }
     }
 
     #[test]

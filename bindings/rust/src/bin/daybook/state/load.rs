@@ -3,8 +3,9 @@
 use std::fs::{self, File};
 use std::path::{Path, PathBuf};
 
-use daybook::{values, Layout, Refusal, DAY_LIMIT, PART, VALUE};
+use daybook::{values, Layout, Refusal, Service, DAY_LIMIT, EARLIER_RECORD, PART, VALUE};
 
+use super::age;
 use super::files::sync_folder;
 use super::files::{append, at, commit, cut, day_name, day_of, front, misfit, record_bytes};
 use super::form::{test_layout, Extent, Line, Record, LINE_MOST};
@@ -43,6 +44,7 @@ impl State {
                 "it is not a folder (daybook open makes a state folder)",
             ));
         }
+        age::test(folder)?;
         let lock = lock::take(folder, access)?;
         let record = load_record(folder)?;
         let mut state = State {
@@ -304,5 +306,17 @@ fn load_record(folder: &Path) -> Result<Record, Stop> {
         ));
     }
     test_layout(&text, record.service.layout()).map_err(|what| misfit(&layout_path, what))?;
+    test_start(&record.service).map_err(|what| misfit(&path, what))?;
     Ok(record)
+}
+
+/// The start of the chains, which a record has behind what it had before version 0.8.0, is that of
+/// its layout: a book with any other start could never be checked.
+fn test_start(service: &Service) -> Result<(), String> {
+    let layout = service.layout();
+    let start = |service: &Service| service.to_bytes()[EARLIER_RECORD..].to_vec();
+    match Service::open(layout) {
+        Ok(fresh) if start(&fresh) == start(service) => Ok(()),
+        _ => Err(format!("its chains do not start as those of {layout} do")),
+    }
 }

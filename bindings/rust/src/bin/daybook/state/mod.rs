@@ -4,6 +4,7 @@
 //! beyond the record. Then it commits: a new record takes the place of the old one. A run that is
 //! stopped leaves the state before or after that step, and the next run takes away the rest.
 
+mod age;
 mod build;
 mod clean;
 mod day;
