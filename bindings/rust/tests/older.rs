@@ -22,7 +22,8 @@ use folder_before::Before;
 use program::{ended, run, Ran};
 
 const LAYOUT: Layout = Layout::tile(2, 1);
-const HOW: &str = "(\"Older years\" in README.md and in man daybook). Nothing is written";
+const HOW: &str = "(\"Members seal older years again\" in README.md, OLDER YEARS in man daybook). \
+    Nothing is written";
 
 /// Every file below a folder with its bytes, and every folder.
 fn tree(path: &Path) -> BTreeMap<String, Option<Vec<u8>>> {
@@ -216,7 +217,7 @@ fn a_record_with_another_start() {
 /// What is said where no value passes of a book that is given.
 const NOTE: &str = "daybook: note: no value of the book passes. Each may cover an altered day; or \
     the book may be of a delivery before 0.8.0, or of another layout (another scheme or N), and \
-    then it says nothing of these days (\"Older years\" in README.md and in man daybook)\n";
+    then it says nothing of these days (\"Members seal older years again\" in README.md, OLDER YEARS in man daybook)\n";
 /// And of a state's: it is neither of before nor of another layout.
 const NOTE_OF_STATE: &str =
     "daybook: note: no value of the book passes. Each may cover an altered \
@@ -372,7 +373,9 @@ fn one_value_and_none() {
 /// The blocks of commands in the part of README.md on older years.
 fn blocks_of_the_readme() -> Vec<Vec<String>> {
     let page = include_str!("../../../README.md");
-    let (_, part) = page.split_once("\n## Older years\n").unwrap();
+    let (_, part) = page
+        .split_once("\n## Members seal older years again\n")
+        .unwrap();
     let (part, _) = part.split_once("\n## ").unwrap();
     let mut blocks = vec![Vec::new()];
     for line in part.lines() {

@@ -7,7 +7,7 @@ use std::path::Path;
 use crate::stop::Stop;
 
 /// Where it stands how the days of before are sealed again.
-const HOW: &str = "\"Older years\" in README.md and in man daybook";
+const HOW: &str = "\"Members seal older years again\" in README.md, OLDER YEARS in man daybook";
 
 /// Why a file whose format version is the one before is not taken.
 pub const FOLDER: &str =
