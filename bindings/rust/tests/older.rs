@@ -4,43 +4,27 @@
 mod common;
 #[path = "common/folder_before.rs"]
 mod folder_before;
+#[path = "common/folders.rs"]
+mod folders;
 #[path = "common/program.rs"]
 mod program;
 #[path = "common/record.rs"]
 mod record;
 
-use std::collections::BTreeMap;
 use std::fs::{self, File};
 use std::io::Write;
 use std::os::unix::fs::{symlink, PermissionsExt};
-use std::path::Path;
 use std::process::{Command, Stdio};
 
 use common::{altered, book, book_before, day, digest, table, Folder};
 use daybook::Layout;
 use folder_before::Before;
+use folders::tree;
 use program::{ended, run, Ran};
 
 const LAYOUT: Layout = Layout::tile(2, 1);
 const HOW: &str = "(\"Members seal older years again\" in README.md, OLDER YEARS in man daybook). \
     Nothing is written";
-
-/// Every file below a folder with its bytes, and every folder.
-fn tree(path: &Path) -> BTreeMap<String, Option<Vec<u8>>> {
-    let mut all = BTreeMap::new();
-    for entry in fs::read_dir(path).unwrap() {
-        let entry = entry.unwrap().path();
-        let name = entry.strip_prefix(path).unwrap().display().to_string();
-        if entry.is_dir() {
-            let below = tree(&entry).into_iter();
-            all.extend(below.map(|(below, bytes)| (format!("{name}/{below}"), bytes)));
-            all.insert(name, None);
-        } else {
-            all.insert(name, Some(fs::read(&entry).unwrap()));
-        }
-    }
-    all
-}
 
 fn days(d: u32) -> Vec<Vec<u8>> {
     (1..=d).map(|g| day(g, 9)).collect()

@@ -2,6 +2,8 @@
 //! throughout.
 
 mod common;
+#[path = "common/random.rs"]
+mod random;
 #[path = "common/record.rs"]
 mod record;
 
@@ -10,6 +12,7 @@ use std::collections::HashMap;
 use common::{book_before, day, hex, ledger, start};
 use daybook::{check_to_vecs, forecast, seal_to_vec, Layout, Refusal, Service};
 use daybook::{DAY_LIMIT, PART, RECORD, VALUE};
+use random::Random;
 use record::{turned, Record, START_AT};
 
 const D: u32 = 256;
@@ -79,33 +82,17 @@ fn fresh_records() {
     assert_eq!(starts.len(), 27);
 }
 
-/// Numbers from a fixed seed (xorshift).
-struct Random(u64);
-
-impl Random {
-    fn below(&mut self, end: u64) -> u64 {
-        self.0 ^= self.0 << 13;
-        self.0 ^= self.0 >> 7;
-        self.0 ^= self.0 << 17;
-        self.0 % end
-    }
-
-    fn bytes<const LENGTH: usize>(&mut self) -> [u8; LENGTH] {
-        std::array::from_fn(|_| self.below(256) as u8)
-    }
-
-    /// A record that no list of calls may have made, of these days closed.
-    fn record(&mut self, layout: Layout, days: u32) -> Record {
-        Record {
-            layout,
-            days,
-            bytes: self.below(200) as u32,
-            open: self.bytes(),
-            black: self.bytes(),
-            slots: std::array::from_fn(|_| self.bytes()),
-            block: self.bytes(),
-            start: self.bytes(),
-        }
+/// A record that no list of calls may have made, of these days closed.
+fn made_up(random: &mut Random, layout: Layout, days: u32) -> Record {
+    Record {
+        layout,
+        days,
+        bytes: random.below(200) as u32,
+        open: random.bytes(),
+        black: random.bytes(),
+        slots: std::array::from_fn(|_| random.bytes()),
+        block: random.bytes(),
+        start: random.bytes(),
     }
 }
 
@@ -117,7 +104,7 @@ fn made_up_records() {
     for layout in layouts().into_iter().flat_map(with_each_f) {
         let last = [0, 1, 2, 3, 7, 15, 127, 255, 256, 511, 65_534, 65_535];
         for days in last {
-            let mut plain = random.record(layout, days);
+            let mut plain = made_up(&mut random, layout, days);
             let mut service = Service::from_bytes(plain.to_bytes());
             let piece: [u8; 150] = random.bytes();
             let piece = &piece[..random.below(151) as usize];
@@ -146,10 +133,10 @@ fn refused_calls() {
     let mut random = Random(0x9e37_79b9_7f4a_7c15);
     let long = vec![0; DAY_LIMIT as usize + 1];
     for layout in [Layout::black(1, 1), Layout::tile(2, 3), Layout::tree(4)] {
-        let mut none = random.record(layout, 3);
+        let mut none = made_up(&mut random, layout, 3);
         none.layout.n = 3;
         for (refusal, plain) in [
-            (Refusal::BookFull, random.record(layout, 65_536)),
+            (Refusal::BookFull, made_up(&mut random, layout, 65_536)),
             (Refusal::BadRecord, none),
         ] {
             let mut service = Service::from_bytes(plain.to_bytes());
@@ -157,7 +144,7 @@ fn refused_calls() {
             assert_eq!(service.close(&mut [0; PART]), Err(refusal));
             assert_eq!(service.to_bytes(), plain.to_bytes());
         }
-        let plain = random.record(layout, 3);
+        let plain = made_up(&mut random, layout, 3);
         let mut service = Service::from_bytes(plain.to_bytes());
         assert_eq!(service.add(&long), Err(Refusal::DayTooLong));
         assert_eq!(service.close(&mut [0; 31]), Err(Refusal::ShortBuffer));

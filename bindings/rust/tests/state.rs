@@ -1,8 +1,9 @@
 //! The state folder: `open`, `add`, `close`, `status`, and files that do not fit each other.
 
 mod common;
+#[path = "common/folders.rs"]
+mod folders;
 
-use std::collections::BTreeMap;
 use std::fs::{self, File};
 use std::io::Write;
 use std::path::Path;
@@ -10,6 +11,7 @@ use std::process::{Command, Stdio};
 
 use common::{book, days, digest, hex, Folder};
 use daybook::{Layout, Service};
+use folders::{record_file, tree, Tree};
 
 const PROGRAM: &str = env!("CARGO_BIN_EXE_daybook");
 
@@ -64,23 +66,6 @@ fn refused(folder: &Folder, line: &str, number: u32) {
         "{line}: {messages}"
     );
     assert_eq!(tree(folder.path()), before, "{line}");
-}
-
-/// Every file below a folder with its bytes, and every folder.
-fn tree(path: &Path) -> BTreeMap<String, Option<Vec<u8>>> {
-    let mut all = BTreeMap::new();
-    for entry in fs::read_dir(path).unwrap() {
-        let entry = entry.unwrap().path();
-        let name = entry.strip_prefix(path).unwrap().display().to_string();
-        if entry.is_dir() {
-            let below = tree(&entry).into_iter();
-            all.extend(below.map(|(below, bytes)| (format!("{name}/{below}"), bytes)));
-            all.insert(name, None);
-        } else {
-            all.insert(name, Some(fs::read(&entry).unwrap()));
-        }
-    }
-    all
 }
 
 fn names(path: &Path) -> Vec<String> {
@@ -374,21 +359,6 @@ fn a_day_too_long() {
     assert!(index.ends_with(&line), "{index}");
 }
 
-/// The file `record`, from docs/SERVICE.md and not by the program.
-fn record(service: &Service, book: &[u8], index: &[u8], day: &[u8], names: &str) -> Vec<u8> {
-    let mut bytes = b"daybook record 2\n".to_vec();
-    bytes.extend(service.to_bytes());
-    for file in [book, index, day] {
-        bytes.extend((file.len() as u64).to_le_bytes());
-        bytes.extend(digest(file));
-    }
-    bytes.extend((names.len() as u32).to_le_bytes());
-    bytes.extend(names.as_bytes());
-    let checksum = digest(&bytes);
-    bytes.extend(checksum);
-    bytes
-}
-
 #[test]
 fn the_form_of_the_record() {
     let folder = state("form", 2);
@@ -402,7 +372,12 @@ fn the_form_of_the_record() {
     service.add(&days[3]).unwrap();
     let sealed = book(Layout::tile(2, 1), &days[..2]);
     let lines = index(&days[..2]);
-    let expected = record(&service, &sealed, lines.as_bytes(), &days[3], "d4");
+    let expected = record_file(
+        2,
+        &service.to_bytes(),
+        [&sealed, lines.as_bytes(), &days[3]],
+        "d4",
+    );
     assert_eq!(read(&folder, "s/record"), expected);
 }
 
@@ -419,7 +394,7 @@ fn the_last_day_of_a_book() {
     fs::write(folder.file("s/layout"), layout).unwrap();
     fs::write(folder.file("s/book"), &made).unwrap();
     fs::write(folder.file("s/index"), &lines).unwrap();
-    let bytes = record(&service, &made, lines.as_bytes(), &[], "");
+    let bytes = record_file(2, &service.to_bytes(), [&made, lines.as_bytes(), &[]], "");
     fs::write(folder.file("s/record"), bytes).unwrap();
     said(&folder, "add s --day 65536 --at 0 d2", "day 65536 has");
     said(
@@ -526,7 +501,7 @@ fn a_record_that_the_service_cannot_go_on_from() {
     let folder = state("six", 0);
     let mut service = Service::open(Layout::tile(2, 1)).unwrap().to_bytes();
     service[4] = 3;
-    let bytes = record(&Service::from_bytes(service), &[], &[], &[], "");
+    let bytes = record_file(2, &service, [&[], &[], &[]], "");
     fs::write(folder.file("s/record"), bytes).unwrap();
     refused(&folder, "status s", 6);
     refused(&folder, "close s --day 1 d1", 6);
@@ -624,7 +599,7 @@ fn nothing_is_written_when_the_disk_is_full() {
         let messages = String::from_utf8(output.stderr).unwrap();
         assert_eq!(output.status.code(), Some(3), "{messages}");
         assert!(messages.contains("cannot be written"), "{messages}");
-        let record = |tree: &BTreeMap<String, Option<Vec<u8>>>| tree["s/record"].clone();
+        let record = |tree: &Tree| tree["s/record"].clone();
         assert_eq!(record(&tree(folder.path())), record(&before));
         assert!(status(&folder).contains("days 4\nopen 11\n"));
     }

@@ -7,6 +7,7 @@ use std::fs;
 use daybook::Layout;
 
 use crate::common::{book_before, digest, hex, Folder};
+use crate::folders::record_file;
 use crate::record::{Record, START_AT};
 
 /// A service of before: its layout, its closed days and the bytes of the open one.
@@ -49,17 +50,13 @@ impl Before {
     /// The file `record` of the format version 1, or of another one with this service's record.
     pub fn record(&self, version: u32, service: &[u8]) -> Vec<u8> {
         let names = if self.open.is_empty() { "" } else { "noon" };
-        let mut bytes = format!("daybook record {version}\n").into_bytes();
-        bytes.extend(service);
-        for file in [&self.book()[..], self.index().as_bytes(), &self.open] {
-            bytes.extend((file.len() as u64).to_le_bytes());
-            bytes.extend(digest(file));
-        }
-        bytes.extend((names.len() as u32).to_le_bytes());
-        bytes.extend(names.as_bytes());
-        let checksum = digest(&bytes);
-        bytes.extend(checksum);
-        bytes
+        let (book, index) = (self.book(), self.index());
+        record_file(
+            version,
+            service,
+            [&book, index.as_bytes(), &self.open],
+            names,
+        )
     }
 
     /// Writes the folder.

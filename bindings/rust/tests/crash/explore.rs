@@ -6,7 +6,8 @@ use std::fs;
 use std::path::PathBuf;
 use std::process::{self, Command, Stdio};
 
-use crate::model::{plain, put, tree, Call, Disk, Tree};
+use crate::folders::{tree, Tree};
+use crate::model::{plain, put, Call, Disk};
 
 /// The system calls that write, rename, truncate, sync, make or remove.
 const TRACED: &str = "trace=open,openat,openat2,creat,write,writev,pwrite64,pwritev,pwritev2,\
@@ -197,7 +198,7 @@ impl Bench {
             let ends = |tree: &Tree| {
                 put(&self.root, tree);
                 let ran = self.run(other);
-                (ran.status, crate::model::tree(&self.root))
+                (ran.status, crate::folders::tree(&self.root))
             };
             let expected = [ends(start), ends(after)];
             for stopped in left {

@@ -7,8 +7,12 @@ mod common;
 mod explore;
 #[path = "../common/folder_before.rs"]
 mod folder_before;
+#[path = "../common/folders.rs"]
+mod folders;
 mod model;
 mod plain;
+#[path = "../common/random.rs"]
+mod random;
 #[path = "../common/record.rs"]
 mod record;
 
@@ -20,8 +24,10 @@ use common::{book, book_before, digest};
 use daybook::Layout;
 use explore::{Bench, Step};
 use folder_before::Before;
-use model::{put, tree, Call, Tree};
+use folders::{tree, Tree};
+use model::{put, Call};
 use plain::{Asked, Plain};
+use random::Random;
 
 const PROGRAM: &str = env!("CARGO_BIN_EXE_daybook");
 
@@ -469,18 +475,6 @@ fn syncs_count(bench: &Bench, start: &Tree, step: &Step, syncs: &[&str]) -> Tree
     let found = bench.power_cuts_after_repeats(start, step, &calls, &after, flushed);
     assert!(!found.is_empty(), "{line}: a repeat's flush has no weight");
     after
-}
-
-/// Numbers from a fixed seed (xorshift).
-struct Random(u64);
-
-impl Random {
-    fn below(&mut self, end: u64) -> u64 {
-        self.0 ^= self.0 << 13;
-        self.0 ^= self.0 >> 7;
-        self.0 ^= self.0 << 17;
-        self.0 % end
-    }
 }
 
 /// Commands at random, many of them killed, against a plain account of what they are to do.

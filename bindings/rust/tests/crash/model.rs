@@ -5,8 +5,7 @@ use std::collections::{BTreeMap, BTreeSet};
 use std::fs;
 use std::path::Path;
 
-/// Every file with its bytes and every folder, by their paths below a root.
-pub type Tree = BTreeMap<String, Option<Vec<u8>>>;
+use crate::folders::Tree;
 
 /// A call as the shim wrote it down.
 #[derive(Clone, Debug, PartialEq, Eq)]
@@ -353,23 +352,6 @@ impl Node {
             Node::Folder { now, disk } => disk.clone_from(now),
         }
     }
-}
-
-/// The files below a folder.
-pub fn tree(root: &Path) -> Tree {
-    let mut all = Tree::new();
-    for entry in fs::read_dir(root).unwrap() {
-        let entry = entry.unwrap().path();
-        let name = entry.strip_prefix(root).unwrap().display().to_string();
-        if entry.is_dir() {
-            let below = tree(&entry).into_iter();
-            all.extend(below.map(|(below, bytes)| (format!("{name}/{below}"), bytes)));
-            all.insert(name, None);
-        } else {
-            all.insert(name, Some(fs::read(&entry).unwrap()));
-        }
-    }
-    all
 }
 
 /// Puts a tree into a folder, in the place of all that is there.
