@@ -1,14 +1,17 @@
 -- A book checked under another layout: no value that was sealed passes.
 use mathlib.Core.Path.{_≡_, sym, ap, _∙_}
+use mathlib.Core.Logic.{inl, inr}
 use mathlib.Core.Bool.{true}
 use mathlib.Core.List.{List, []}
 use Prim.Native.Nat.{ℕ, _*_, _<_}
 use native.Mathlib.Omega.{arith}
 use lib.ListN.{length, getD, take, drop}
 use Rattle.lists.proofs.Laws.{getD-mem}
+use Rattle.evidence.proofs.Collisions.{collide-or-not}
 use Rattle.layouts.specs.Layouts.{allowedN, chains}
 use Rattle.layouts.proofs.AllowedLaws.{setup-is}
 use Rattle.ledger.proofs.DayLaws.{part-front}
+use Rattle.sha256.specs.Sha256.{sha256}
 use Rattle.chains.proofs.BookLaws.{book-at, book-length}
 use Rattle.chains.proofs.Apart.{layouts-apart}
 use Rattle.service.proofs.CallLaws.{opened-number}
@@ -18,7 +21,7 @@ use Rattle.checking.proofs.RefusalLaws.{check-ready}
 use Rattle.checking.proofs.Statements.{answer-none, passes-if-stored}
 use Rattle.daybook.specs.Detection.{ledgerDays, checking}
 use Rattle.daybook.specs.Claim.{sealed, wrote}
-use Rattle.daybook.specs.OtherLayout.{OtherLayoutFails}
+use Rattle.daybook.specs.OtherLayout.{atSealing, atChecking, OtherLayoutFails, FailsOrCollides}
 
 pub other-layout-fails : OtherLayoutFails
 unfolding checked
@@ -54,3 +57,9 @@ other-layout-fails s n f opens cs t m f₂ d differ x done nc =
     in-front begins i l =
         let size = ap length (open-book s n f opens cs) ∙ book-length s n E in
         sym (part-front 32 (32 * i) (length W) (x .book) (omega arith)) ∙ ap (λ (w : List ℕ). take 32 (drop (32 * i) w)) begins
+
+pub fails-or-collides : FailsOrCollides
+fails-or-collides s n f opens cs t m f₂ d differ x done = elim (collide-or-not sha256 (atSealing s n f cs t m f₂ d x) (atChecking s n f cs t m f₂ d x)) [
+  | inl nc ↦ inl (other-layout-fails s n f opens cs t m f₂ d differ x done nc)
+  | inr c ↦ inr c
+]

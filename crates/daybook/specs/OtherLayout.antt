@@ -1,11 +1,12 @@
 -- 02's book under another layout (C-17, SPEC 22.4): whatever the ledger, no value that was sealed passes.
 use mathlib.Core.Path.{_≡_}
+use mathlib.Core.Logic.{_⊎_}
 use mathlib.Core.List.{List}
 use Prim.Native.Nat.{ℕ, _*_, _<_}
 use lib.ListN.{length, getD, take, drop}
 use Rattle.refusals.specs.Refusals.{numberOf}
 use Rattle.refusals.specs.declared.Answer.the-variants.{Done}
-use Rattle.evidence.specs.Evidence.{NoCollision}
+use Rattle.evidence.specs.Evidence.{NoCollision, Collision}
 use Rattle.layouts.specs.Layouts.{chains}
 use Rattle.sha256.specs.Sha256.{sha256}
 use Rattle.chains.specs.Book.{inputsOf}
@@ -14,14 +15,22 @@ use Rattle.journal.specs.Run.{Call}
 use Rattle.daybook.specs.Detection.{Handed, ledgerDays, checking}
 use Rattle.daybook.specs.Claim.{sealed, wrote}
 
+-- another layout: another scheme or another N
+abbrev pub Another : ℕ → ℕ → ℕ → ℕ → Type 0
+Another scheme n scheme₂ n₂ = (scheme ≡ scheme₂) × (n ≡ n₂) → ⊥
+
 -- the calls cs sealed under scheme, n and f; check is handed x under scheme₂, n₂, f₂ and d
 module _ (scheme n f : ℕ) (cs : List Call) (scheme₂ n₂ f₂ d : ℕ) (x : Handed) where
-  -- no two different inputs, one hashed at sealing and one at checking, each for its own layout and days, share a
-  -- SHA-256 value
+  -- the inputs hashed at sealing and at checking, each for its own layout and days
+  abbrev pub atSealing : List (List ℕ)
+  atSealing = inputsOf scheme n (length (sealed scheme n cs)) (sealed scheme n cs)
+
+  abbrev pub atChecking : List (List ℕ)
+  atChecking = inputsOf scheme₂ n₂ d (ledgerDays d x)
+
+  -- no two different ones, one of each, share a SHA-256 value
   abbrev pub LayoutsApart : Type 0
-  LayoutsApart =
-      NoCollision sha256 (inputsOf scheme n (length (sealed scheme n cs)) (sealed scheme n cs))
-      (inputsOf scheme₂ n₂ d (ledgerDays d x))
+  LayoutsApart = NoCollision sha256 atSealing atChecking
 
   pub record NonePasses : Type 0 where
     -- a value that was written, the j-th, wherever it stands in the book handed in, at place i
@@ -39,6 +48,15 @@ module _ (scheme n f : ℕ) (cs : List Call) (scheme₂ n₂ f₂ d : ℕ) (x : 
 abbrev pub OtherLayoutFails : Type 0
 OtherLayoutFails =
     (scheme n f : ℕ) → numberOf (opened scheme n f .answer) ≡ 0 → (cs : List Call) →
-    (scheme₂ n₂ f₂ d : ℕ) → ((scheme ≡ scheme₂) × (n ≡ n₂) → ⊥) → (x : Handed) →
+    (scheme₂ n₂ f₂ d : ℕ) → Another scheme n scheme₂ n₂ → (x : Handed) →
     checking scheme₂ n₂ f₂ d x .answer ≡ Done → LayoutsApart scheme n f cs scheme₂ n₂ f₂ d x →
     NonePasses scheme n f cs scheme₂ n₂ f₂ d x
+
+-- and without the premise on collisions: this, or two inputs that collide, given explicitly
+abbrev pub FailsOrCollides : Type 0
+FailsOrCollides =
+    (scheme n f : ℕ) → numberOf (opened scheme n f .answer) ≡ 0 → (cs : List Call) →
+    (scheme₂ n₂ f₂ d : ℕ) → Another scheme n scheme₂ n₂ → (x : Handed) →
+    checking scheme₂ n₂ f₂ d x .answer ≡ Done →
+    NonePasses scheme n f cs scheme₂ n₂ f₂ d x ⊎
+    Collision sha256 (atSealing scheme n f cs scheme₂ n₂ f₂ d x) (atChecking scheme n f cs scheme₂ n₂ f₂ d x)
