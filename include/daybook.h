@@ -37,7 +37,8 @@ extern "C" {
  *           84  17 times 8 words: tile chains c(0) .. c(8), or tree levels 0 .. 16
  *          628  64 bytes: block of the open day
  *          692  8 words: the start of a chain, worked out by daybook_open
- * A record of an earlier version has no start and other bytes: its days are sealed again.
+ * Before version 0.8.0 a record had 692 bytes and no start: such a one cannot be gone on with, and its
+ * days are sealed again.
  */
 #define DAYBOOK_RECORD 724
 
