@@ -59,7 +59,7 @@ other-layout-fails s n f opens cs t m f₂ d differ x done nc =
         sym (part-front 32 (32 * i) (length W) (x .book) (omega arith)) ∙ ap (λ (w : List ℕ). take 32 (drop (32 * i) w)) begins
 
 pub fails-or-collides : FailsOrCollides
-fails-or-collides s n f opens cs t m f₂ d differ x done = elim (collide-or-not sha256 (atSealing s n f cs t m f₂ d x) (atChecking s n f cs t m f₂ d x)) [
+fails-or-collides s n f opens cs t m f₂ d differ x done = elim (collide-or-not sha256 (atSealing s n cs) (atChecking t m d x)) [
   | inl nc ↦ inl (other-layout-fails s n f opens cs t m f₂ d differ x done nc)
   | inr c ↦ inr c
 ]

@@ -19,37 +19,33 @@ use Rattle.daybook.specs.Claim.{sealed, wrote}
 abbrev pub Another : ℕ → ℕ → ℕ → ℕ → Type 0
 Another scheme n scheme₂ n₂ = (scheme ≡ scheme₂) × (n ≡ n₂) → ⊥
 
+-- the inputs hashed at sealing and at checking, each for its own layout and days
+abbrev pub atSealing : ℕ → ℕ → List Call → List (List ℕ)
+atSealing scheme n cs = inputsOf scheme n (length (sealed scheme n cs)) (sealed scheme n cs)
+
+abbrev pub atChecking : ℕ → ℕ → ℕ → Handed → List (List ℕ)
+atChecking scheme n d x = inputsOf scheme n d (ledgerDays d x)
+
 -- the calls cs sealed under scheme, n and f; check is handed x under scheme₂, n₂, f₂ and d
-module _ (scheme n f : ℕ) (cs : List Call) (scheme₂ n₂ f₂ d : ℕ) (x : Handed) where
-  -- the inputs hashed at sealing and at checking, each for its own layout and days
-  abbrev pub atSealing : List (List ℕ)
-  atSealing = inputsOf scheme n (length (sealed scheme n cs)) (sealed scheme n cs)
-
-  abbrev pub atChecking : List (List ℕ)
-  atChecking = inputsOf scheme₂ n₂ d (ledgerDays d x)
-
-  -- no two different ones, one of each, share a SHA-256 value
-  abbrev pub LayoutsApart : Type 0
-  LayoutsApart = NoCollision sha256 atSealing atChecking
-
-  pub record NonePasses : Type 0 where
-    -- a value that was written, the j-th, wherever it stands in the book handed in, at place i
-    pub anywhere : (i j : ℕ) → i < length (chains scheme₂ n₂ d) →
-        j < length (chains scheme n (length (sealed scheme n cs))) →
-        take 32 (drop (32 * i) (x .book)) ≡ take 32 (drop (32 * j) (wrote scheme n f cs)) →
-        getD (checking scheme₂ n₂ f₂ d x .outcomes) i 0 ≡ 0
-    -- so in a book that begins with the one written each of them, as far as check looks
-    pub in-place : take (length (wrote scheme n f cs)) (x .book) ≡ wrote scheme n f cs →
-        (i : ℕ) → i < length (chains scheme₂ n₂ d) → i < length (chains scheme n (length (sealed scheme n cs))) →
-        getD (checking scheme₂ n₂ f₂ d x .outcomes) i 0 ≡ 0
+pub record NonePasses (scheme n f : ℕ) (cs : List Call) (scheme₂ n₂ f₂ d : ℕ) (x : Handed) : Type 0 where
+  -- a value that was written, the j-th, wherever it stands in the book handed in, at place i
+  pub anywhere : (i j : ℕ) → i < length (chains scheme₂ n₂ d) →
+      j < length (chains scheme n (length (sealed scheme n cs))) →
+      take 32 (drop (32 * i) (x .book)) ≡ take 32 (drop (32 * j) (wrote scheme n f cs)) →
+      getD (checking scheme₂ n₂ f₂ d x .outcomes) i 0 ≡ 0
+  -- so in a book that begins with the one written each of them, as far as check looks
+  pub in-place : take (length (wrote scheme n f cs)) (x .book) ≡ wrote scheme n f cs →
+      (i : ℕ) → i < length (chains scheme₂ n₂ d) → i < length (chains scheme n (length (sealed scheme n cs))) →
+      getD (checking scheme₂ n₂ f₂ d x .outcomes) i 0 ≡ 0
 
 -- from an accepted open, for every list of calls, every layout of another scheme or another N, and every check that is
--- not refused
+-- not refused: if no two different inputs, one of each side, share a SHA-256 value
 abbrev pub OtherLayoutFails : Type 0
 OtherLayoutFails =
     (scheme n f : ℕ) → numberOf (opened scheme n f .answer) ≡ 0 → (cs : List Call) →
     (scheme₂ n₂ f₂ d : ℕ) → Another scheme n scheme₂ n₂ → (x : Handed) →
-    checking scheme₂ n₂ f₂ d x .answer ≡ Done → LayoutsApart scheme n f cs scheme₂ n₂ f₂ d x →
+    checking scheme₂ n₂ f₂ d x .answer ≡ Done →
+    NoCollision sha256 (atSealing scheme n cs) (atChecking scheme₂ n₂ d x) →
     NonePasses scheme n f cs scheme₂ n₂ f₂ d x
 
 -- and without the premise on collisions: this, or two inputs that collide, given explicitly
@@ -59,4 +55,4 @@ FailsOrCollides =
     (scheme₂ n₂ f₂ d : ℕ) → Another scheme n scheme₂ n₂ → (x : Handed) →
     checking scheme₂ n₂ f₂ d x .answer ≡ Done →
     NonePasses scheme n f cs scheme₂ n₂ f₂ d x ⊎
-    Collision sha256 (atSealing scheme n f cs scheme₂ n₂ f₂ d x) (atChecking scheme n f cs scheme₂ n₂ f₂ d x)
+    Collision sha256 (atSealing scheme n cs) (atChecking scheme₂ n₂ d x)
