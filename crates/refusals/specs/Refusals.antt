@@ -14,6 +14,10 @@ bookLimit = 65536
 abbrev pub dayLimit : ℕ
 dayLimit = 16777216
 
+-- 02's last season (SPEC 23.1); the first is 0
+abbrev pub lastSeason : ℕ
+lastSeason = 65535
+
 -- a test of a call (SPEC 11): whether it passes, and the number of the refusal where it does not
 infix 70 _orRefuse_
 pub data Test : Type 0 where

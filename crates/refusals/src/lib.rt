@@ -11,6 +11,9 @@ pub enum Answer {
 // The days that a book holds at most.
 pub const BOOK_LIMIT: u32 = 65536;
 
+// The last season of a service; the first is 0.
+pub const LAST_SEASON: u32 = 65535;
+
 // The bytes that a day holds at most.
 pub const DAY_LIMIT: u32 = 16777216;
 

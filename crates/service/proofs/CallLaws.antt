@@ -17,57 +17,68 @@ use Rattle.service.specs.declared.Writing.the-variants as writing
 use Rattle.service.specs.declared.Opened.{Opened}
 use Rattle.service.specs.declared.Added.{Added}
 use Rattle.service.specs.declared.Closed.{Closed}
-use Rattle.service.specs.Contract.{fresh, zeros, opened, recordTests, addTests, addRefusal, grown, grownBlocks, added, dayCount, closeTests, closeRefusal}
+use Rattle.service.specs.Contract.{fresh, zeros, opened, current, recordTests, addTests, addRefusal, grown, grownBlocks, added, dayCount, closeTests, closeRefusal}
 use Rattle.service.specs.Contract.{dayBytes, nextDay, closedBlocks, writingOf, writingNumber, closing}
-use Rattle.service.specs.Private.{recordRefusal}
-use Rattle.service.proofs.RecordLaws.{record-passes}
+use Rattle.service.specs.Private.{recordRefusal, Open}
+use Rattle.service.proofs.RecordLaws.{record-passes, record-open, current-bytes, current-scheme, current-n}
 
 -- ---- add
 
 module _ (r : Record) (size : ℕ) {x : ℕ} (e : x ≡ recordRefusal r) where
   pub add-early : (x ≡ 0 → ⊥) → x ≡ addRefusal r size
   unfolding recordRefusal addRefusal
-  add-early h = refused-before (recordTests r) (leb (r .bytes + size) dayLimit orRefuse 4 ∷ []) e h
+  add-early h = refused-before (recordTests r) (leb (current r .bytes + size) dayLimit orRefuse 4 ∷ []) e h
 
+  -- the bytes that are left are those of the record handed in: at a turn it has none open
   module _ (z : x ≡ 0) {left : ℕ} (q : left ≡ dayLimit - r .bytes) where
+    same-bytes : current r .bytes ≡ r .bytes
+    same-bytes = current-bytes r (record-passes r e z .0)
+
     pub add-4 : left < size → 4 ≡ addRefusal r size
     unfolding recordRefusal addRefusal
-    add-4 h = last-fails (recordTests r) (leb (r .bytes + size) dayLimit) 4 refl e z (lt-leb (r .bytes + size) dayLimit (omega arith))
+    add-4 h = last-fails (recordTests r) (leb (current r .bytes + size) dayLimit) 4 refl e z (lt-leb (current r .bytes + size) dayLimit (omega (arith, same-bytes)))
 
     pub add-0 : size ≤ left → 0 ≡ addRefusal r size
     unfolding recordRefusal addRefusal
-    add-0 h = let b = record-passes r e z .0 .bytes-most in last-passes (recordTests r) (leb (r .bytes + size) dayLimit) 4 refl e z (le-leb (r .bytes + size) dayLimit (omega arith))
+    add-0 h =
+        let b = record-passes r e z .0 .bytes-most in
+        last-passes (recordTests r) (leb (current r .bytes + size) dayLimit) 4 refl e z (le-leb (current r .bytes + size) dayLimit (omega (arith, same-bytes)))
 
--- what no refusal says
-pub add-fits : (r : Record) (size : ℕ) {x : ℕ} → x ≡ addRefusal r size → x ≡ 0 → r .bytes + size ≤ dayLimit
+-- what no refusal says, of the record that the call is made on
+pub add-fits : (r : Record) (size : ℕ) {x : ℕ} → x ≡ addRefusal r size → x ≡ 0 → {made : Record} → made ≡ current r → made .bytes + size ≤ dayLimit
 unfolding addRefusal
-add-fits r size e z = leb-true (r .bytes + size) dayLimit (none-fails (addTests r size) refl (sym e ∙ z) .1 .1 .0)
+add-fits r size e z m = rw m (leb-true (current r .bytes + size) dayLimit (none-fails (addTests r size) refl (sym e ∙ z) .1 .1 .0))
 
 -- ---- close
 
 module _ (r : Record) (size : ℕ) {x : ℕ} (e : x ≡ recordRefusal r) where
   pub close-early : (x ≡ 0 → ⊥) → x ≡ closeRefusal r size
   unfolding recordRefusal closeRefusal
-  close-early h = refused-before (recordTests r) (leb (32 * dayCount r) size orRefuse 8 ∷ []) e h
+  close-early h = refused-before (recordTests r) (leb (32 * dayCount (current r)) size orRefuse 8 ∷ []) e h
 
-  module _ (z : x ≡ 0) {k w : ℕ} (c : k ≡ length (chainsOfDay (r .scheme) (r .n) (r .days + 1))) (q : w ≡ k) where
-    count-is : w ≡ dayCount r
-    count-is = q ∙ c ∙ ap (λ (g : ℕ). length (chainsOfDay (r .scheme) (r .n) g)) (add-one (r .days))
+  module _ (z : x ≡ 0) {g k w : ℕ} (d : g ≡ suc (current r .days)) (c : k ≡ length (chainsOfDay (r .scheme) (r .n) g)) (q : w ≡ k) where
+    count-is : w ≡ dayCount (current r)
+    count-is =
+        q ∙ c ∙ ap (λ (y : ℕ). length (chainsOfDay (r .scheme) (r .n) y)) d ∙
+        ap₂ (λ (s n : ℕ). length (chainsOfDay s n (suc (current r .days)))) (sym (current-scheme r)) (sym (current-n r))
 
     pub close-8 : size < 32 * w → 8 ≡ closeRefusal r size
     unfolding recordRefusal closeRefusal
-    close-8 h = last-fails (recordTests r) (leb (32 * dayCount r) size) 8 refl e z (lt-leb (32 * dayCount r) size (omega (arith, count-is)))
+    close-8 h = last-fails (recordTests r) (leb (32 * dayCount (current r)) size) 8 refl e z (lt-leb (32 * dayCount (current r)) size (omega (arith, count-is)))
 
     pub close-0 : 32 * w ≤ size → 0 ≡ closeRefusal r size
     unfolding recordRefusal closeRefusal
-    close-0 h = last-passes (recordTests r) (leb (32 * dayCount r) size) 8 refl e z (le-leb (32 * dayCount r) size (omega (arith, count-is)))
+    close-0 h = last-passes (recordTests r) (leb (32 * dayCount (current r)) size) 8 refl e z (le-leb (32 * dayCount (current r)) size (omega (arith, count-is)))
 
--- what no refusal says
-pub close-passes : (r : Record) (size : ℕ) {x : ℕ} → x ≡ closeRefusal r size → x ≡ 0 → (recordRefusal r ≡ 0) × (32 * dayCount r ≤ size)
-unfolding recordRefusal closeRefusal
-close-passes r size e z =
-    let p = none-fails (closeTests r size) refl (sym e ∙ z) in
-    (rw (p .0, p .1 .0), leb-true (32 * dayCount r) size (p .1 .1 .0))
+-- what no refusal says, of the record that the call is made on
+module _ (r : Record) (size : ℕ) {x : ℕ} (e : x ≡ closeRefusal r size) (z : x ≡ 0) {made : Record} (m : made ≡ current r) where
+  pub close-open : Open made
+  unfolding recordRefusal closeRefusal
+  close-open = let p = none-fails (closeTests r size) refl (sym e ∙ z) in rw m (record-open r refl (rw (p .0, p .1 .0)))
+
+  pub close-room : 32 * dayCount made ≤ size
+  unfolding closeRefusal
+  close-room = rw m (leb-true (32 * dayCount (current r)) size (none-fails (closeTests r size) refl (sym e ∙ z) .1 .1 .0))
 
 -- ---- what a call gives, refused and not
 
@@ -83,23 +94,24 @@ module _ (s n f : ℕ) {x : ℕ} {state : Record} (e : x ≡ setupRefusal s n f)
 module _ (r : Record) (piece : List ℕ) {x : ℕ} (e : x ≡ addRefusal r (length piece)) where
   pub added-refused : (x ≡ 0 → ⊥) → record { answer = Refused x; state = r; blocks = 0 } ≡ added r piece
   unfolding added
-  added-refused h = rw (← e) (refused x h (grown r piece) (grownBlocks r piece))
+  added-refused h = rw (← e) (refused x h (grown (current r) piece) (grownBlocks (current r) piece))
     where
       refused : (x : ℕ) → (x ≡ 0 → ⊥) → (state : Record) (k : ℕ) →
           _≡_ {A = Added} record { answer = Refused x; state = r; blocks = 0 } record { answer = answerOf x; state = unlessRefused x state r; blocks = unlessRefused x k 0 }
       refused zero h state k = absurd (h refl)
       refused (suc x) h state k = refl
 
-  pub added-done : {state : Record} {k : ℕ} → x ≡ 0 → state ≡ grown r piece → k ≡ grownBlocks r piece → record { answer = Done; state = state; blocks = k } ≡ added r piece
+  pub added-done : {made state : Record} {k : ℕ} → x ≡ 0 → made ≡ current r → state ≡ grown made piece → k ≡ grownBlocks made piece →
+      record { answer = Done; state = state; blocks = k } ≡ added r piece
   unfolding added
-  added-done z q b = rw (← e, z, q, b)
+  added-done z m q b = rw (← e, z, q, b, m)
 
 module _ (r : Record) (part : List ℕ) {x : ℕ} (e : x ≡ closeRefusal r (length part)) where
   pub closing-refused : (x ≡ 0 → ⊥) → (record { answer = writing.Refused x; state = r; blocks = 0 } ≡ closing r part .result) × (part ≡ closing r part .part)
   unfolding closing
   closing-refused h = (
-    rw (← e) (refused x h (dayCount r) (nextDay r) (closedBlocks r)),
-    old-stays (closeRefusal r (length part)) (dayBytes r ++ drop (length (dayBytes r)) part) part e h,
+    rw (← e) (refused x h (dayCount (current r)) (nextDay (current r)) (closedBlocks (current r))),
+    old-stays (closeRefusal r (length part)) (dayBytes (current r) ++ drop (length (dayBytes (current r))) part) part e h,
   )
     where
       refused : (x : ℕ) → (x ≡ 0 → ⊥) → (count : ℕ) (state : Record) (k : ℕ) →
@@ -107,11 +119,14 @@ module _ (r : Record) (part : List ℕ) {x : ℕ} (e : x ≡ closeRefusal r (len
       refused zero h count state k = absurd (h refl)
       refused (suc x) h count state k = refl
 
-  pub closing-done : {k m : ℕ} {state : Record} {next : List ℕ} → x ≡ 0 → k ≡ dayCount r → state ≡ nextDay r → m ≡ closedBlocks r → Wrote 0 (dayBytes r) part (32 * k) next →
+  pub closing-done : {k m : ℕ} {made state : Record} {next : List ℕ} → x ≡ 0 → made ≡ current r → k ≡ dayCount made → state ≡ nextDay made → m ≡ closedBlocks made →
+      Wrote 0 (dayBytes made) part (32 * k) next →
       (record { answer = writing.Wrote k; state = state; blocks = m } ≡ closing r part .result) × (next ≡ closing r part .part)
   unfolding closing
-  closing-done {k} {next = next} z c q b w =
-      (rw (← e, z, c, q, b), front-stands (closeRefusal r (length part)) (dayBytes r) part next (32 * k) e z (omega (arith, w .count)) (w .list))
+  closing-done {k} {made = made} {next = next} z p c q b w = (
+    rw (← e, z, c, q, b, p),
+    front-stands (closeRefusal r (length part)) (dayBytes (current r)) part next (32 * k) e z (let v = rw p at w in omega (arith, v .count)) (rw p at w .list),
+  )
 
 -- ---- the number of each answer is the refusal's
 
@@ -133,4 +148,4 @@ added-number r piece = answer-number (addRefusal r (length piece))
 
 pub closing-number : (r : Record) (part : List ℕ) → writingNumber (closing r part .result .answer) ≡ closeRefusal r (length part)
 unfolding closing
-closing-number r part = writing-number (closeRefusal r (length part)) (dayCount r)
+closing-number r part = writing-number (closeRefusal r (length part)) (dayCount (current r))

@@ -21,16 +21,18 @@ use Rattle.chains.specs.Step.{valueBytes}
 use Rattle.chains.proofs.Values.{day-few, chainsOfDay-length}
 use Rattle.service.specs.declared.Record.{Record}
 use Rattle.service.specs.Contract.{dayCount, dayBytes, nextDay}
-use Rattle.service.specs.Private.{recordRefusal, StepOf}
-use Rattle.service.proofs.RecordLaws.{record-passes}
+use Rattle.service.specs.Private.{Open, StepOf}
+use Rattle.service.proofs.RecordLaws.{Allowed, allowed-is}
 
--- what the layouts ask of the open day
-pub day-asks : (r : Record) {x : ℕ} → x ≡ recordRefusal r → x ≡ 0 →
+-- what the layouts ask of a record, and of its open day
+pub setup-asks : (r : Record) → Allowed r → (allowedScheme (r .scheme) ≡ true) × (allowedN (r .n) ≡ true)
+setup-asks r a = let u = setup-is (r .scheme) (r .n) (r .f) (a .setup) in (u .scheme-ok, u .n-ok)
+
+pub day-asks : (r : Record) → Open r →
     (allowedScheme (r .scheme) ≡ true) × (allowedN (r .n) ≡ true) × (1 ≤ r .days + 1) × (r .days + 1 ≤ bookLimit)
-day-asks r e z =
-    let p = record-passes r e z in
-    let u = setup-is (r .scheme) (r .n) (r .f) (p .0 .setup) in
-    (u .scheme-ok, u .n-ok, omega arith, omega (arith, p .1))
+day-asks r o =
+    let u = setup-asks r (allowed-is r (o .allowed)) in
+    (u .0, u .1, omega arith, omega (arith, o .day-left))
 
 -- ---- the step of the day
 
@@ -45,13 +47,13 @@ module _ (r : Record) (d : DayStep) (s : StepOf r d) where
   step-bytes = rw (s .values-are, add-one (r .days))
 
   pub step-next : {h : Hasher} → h ≡ begun (0 ∷ []) →
-      record { scheme = r .scheme; n = r .n; f = r .f; days = r .days + 1; bytes = 0; hash = h .words; block = h .block; black = d .black; running = d .slots; start = r .start } ≡ nextDay r
+      record { scheme = r .scheme; n = r .n; f = r .f; days = r .days + 1; bytes = 0; hash = h .words; block = h .block; black = d .black; running = d .slots; start = r .start; season = r .season } ≡ nextDay r
   unfolding nextDay
   step-next e = rw (e, s .black-is, s .slots-are, add-one (r .days))
 
-  pub step-fits : (size : ℕ) → recordRefusal r ≡ 0 → 32 * dayCount r ≤ size → (d .count ≤ 17) × (32 * d .count ≤ size)
-  step-fits size z room =
-      let a = day-asks r refl z in
+  pub step-fits : (size : ℕ) → Open r → 32 * dayCount r ≤ size → (d .count ≤ 17) × (32 * d .count ≤ size)
+  step-fits size o room =
+      let a = day-asks r o in
       let few = day-few (r .scheme) (r .n) (r .days + 1) (a .0) (a .1) (a .2) (a .3) in
       (omega (arith, s .count-is), omega (arith, step-count))
 

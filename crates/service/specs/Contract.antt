@@ -1,12 +1,12 @@
 -- What open, add and close answer, give back and write, for every record, whatever its words, block bytes and start
 -- (SPEC 5.1). Definitions only.
-use mathlib.Core.Bool.{Bool, _&&_}
+use mathlib.Core.Bool.{Bool, _&&_, _||_, cond}
 use mathlib.Core.List.{List, [], _∷_, _++_}
 use Prim.Native.Nat.{ℕ, zero, suc, _+_, _*_}
-use lib.Dec.{leb, ltb}
+use lib.Dec.{eqb, leb, ltb}
 use lib.ListN.{length, replicate}
-use Rattle.refusals.specs.Refusals.{bookLimit, dayLimit, Test, _orRefuse_, firstRefusal, answerOf, unlessRefused}
-use Rattle.refusals.specs.Refusals.{frontWritten}
+use Rattle.refusals.specs.Refusals.{bookLimit, dayLimit, lastSeason, Test, _orRefuse_, firstRefusal, answerOf}
+use Rattle.refusals.specs.Refusals.{unlessRefused, frontWritten}
 use Rattle.hasher.specs.declared.Hasher.{Hasher}
 use Rattle.hasher.specs.Hasher.{begun, absorbed, absorbedBlocks, finished, finishedBlocks}
 use Rattle.layouts.specs.Layouts.{allowedScheme, allowedN, allowedF, setupRefusal, chainsOfDay, chains}
@@ -23,7 +23,7 @@ use Rattle.service.specs.declared.Closed.{Closed}
 -- ---- open (SPEC 5.2): 01's tests 1 2 3 (SPEC 11.1)
 
 -- 01's fresh service (SPEC 5.2): scheme, n and f, no day closed, no byte in the open day, each chain at its start; 02:
--- the start, worked out here and kept (SPEC 22.2)
+-- the start, worked out here and kept (SPEC 22.2), and season 0 (SPEC 23.1)
 unfoldable pub fresh : ℕ → ℕ → ℕ → Record
 fresh scheme n f =
     record {
@@ -37,6 +37,7 @@ fresh scheme n f =
       black = startValue scheme n;
       running = replicate 17 (startValue scheme n);
       start = startValue scheme n;
+      season = 0;
     }
 
 -- 01's record of zeros, of a refused open (SPEC 5.2)
@@ -56,6 +57,7 @@ zeros =
       black = noValue;
       running = replicate 17 noValue;
       start = noValue;
+      season = 0;
     }
 
 -- what open gives
@@ -64,21 +66,51 @@ opened scheme n f =
     let refusal = setupRefusal scheme n f in
     record { answer = answerOf refusal; state = unlessRefused refusal (fresh scheme n f) zeros }
 
+-- ---- the turn (02, SPEC 23.2)
+
+-- whether the season is full, and not the last
+abbrev pub turns : Record → Bool
+turns r = leb bookLimit (r .days) && ltb (r .season) lastSeason
+
+-- the next season: the record of an accepted open, with the scheme, n, f and start of the one handed in
+unfoldable pub turned : Record → Record
+turned r =
+    record {
+      scheme = r .scheme;
+      n = r .n;
+      f = r .f;
+      days = 0;
+      bytes = 0;
+      hash = begun (0 ∷ []) .words;
+      block = begun (0 ∷ []) .block;
+      black = r .start;
+      running = replicate 17 (r .start);
+      start = r .start;
+      season = suc (r .season);
+    }
+
+-- the record that a call is tested and made on
+unfoldable pub current : Record → Record
+current r = cond (turns r) (turned r) r
+
 -- ---- add (SPEC 5.3): 01's tests 6 5 4 (SPEC 11.2)
 
--- 01's cause 6 (SPEC 10.6) is not there: scheme, n and f are allowed, days closed and open bytes within their limits
+-- the cause of 6 (SPEC 10.6) is not there. 01: scheme, n and f are allowed, days closed and open bytes within their
+-- limits. 02: so is the season, and beside 65,536 closed days no byte is open
 abbrev pub allowedRecord : Record → Bool
 allowedRecord r =
     allowedScheme (r .scheme) && allowedN (r .n) && allowedF (r .scheme) (r .f)
     && leb (r .days) bookLimit && leb (r .bytes) dayLimit
+    && leb (r .season) lastSeason && (ltb (r .days) bookLimit || eqb (r .bytes) 0)
 
--- 01's tests 6 5 (SPEC 10.5), with which add and close begin
+-- the tests with which add and close begin: 6 of the record handed in; then 5 (SPEC 10.5), and all others, of the one
+-- that the call is made on
 abbrev pub recordTests : Record → List Test
-recordTests r = allowedRecord r orRefuse 6 ∷ ltb (r .days) bookLimit orRefuse 5 ∷ []
+recordTests r = allowedRecord r orRefuse 6 ∷ ltb (current r .days) bookLimit orRefuse 5 ∷ []
 
 -- then test 4 (SPEC 10.4), for a piece of size bytes
 abbrev pub addTests : Record → ℕ → List Test
-addTests r size = recordTests r ++ (leb (r .bytes + size) dayLimit orRefuse 4 ∷ [])
+addTests r size = recordTests r ++ (leb (current r .bytes + size) dayLimit orRefuse 4 ∷ [])
 
 unfoldable pub addRefusal : Record → ℕ → ℕ
 addRefusal r size = firstRefusal (addTests r size)
@@ -101,20 +133,21 @@ grown r piece =
       black = r .black;
       running = r .running;
       start = r .start;
+      season = r .season;
     }
 
 -- 02's blocks that the piece fills (SPEC 17.3): those that its end of the open day compresses
 unfoldable pub grownBlocks : Record → List ℕ → ℕ
 grownBlocks r piece = absorbedBlocks (openDay r) (r .bytes + 1) piece
 
--- what add gives
+-- what add gives; a refusal gives back the record handed in, its season too
 unfoldable pub added : Record → List ℕ → Added
 added r piece =
     let refusal = addRefusal r (length piece) in
     record {
       answer = answerOf refusal;
-      state = unlessRefused refusal (grown r piece) r;
-      blocks = unlessRefused refusal (grownBlocks r piece) 0;
+      state = unlessRefused refusal (grown (current r) piece) r;
+      blocks = unlessRefused refusal (grownBlocks (current r) piece) 0;
     }
 
 -- ---- close (SPEC 5.4): 01's tests 6 5 8 (SPEC 11.3)
@@ -125,7 +158,7 @@ dayCount r = length (chainsOfDay (r .scheme) (r .n) (suc (r .days)))
 
 -- then test 8 (SPEC 10.8), for a part of size bytes
 abbrev pub closeTests : Record → ℕ → List Test
-closeTests r size = recordTests r ++ (leb (32 * dayCount r) size orRefuse 8 ∷ [])
+closeTests r size = recordTests r ++ (leb (32 * dayCount (current r)) size orRefuse 8 ∷ [])
 
 unfoldable pub closeRefusal : Record → ℕ → ℕ
 closeRefusal r size = firstRefusal (closeTests r size)
@@ -157,6 +190,7 @@ nextDay r =
       black = linked (r .black) (digestOf r);
       running = restarted (r .scheme) (r .n) (suc (r .days)) (r .start) (linkedOf r);
       start = r .start;
+      season = r .season;
     }
 
 -- 02's blocks of a close (SPEC 17.3): those that the day's end, its link to black and its links to slots compress
@@ -190,14 +224,14 @@ closing r part =
     record {
       result =
           record {
-            answer = writingOf refusal (dayCount r);
-            state = unlessRefused refusal (nextDay r) r;
-            blocks = unlessRefused refusal (closedBlocks r) 0;
+            answer = writingOf refusal (dayCount (current r));
+            state = unlessRefused refusal (nextDay (current r)) r;
+            blocks = unlessRefused refusal (closedBlocks (current r)) 0;
           };
-      part = frontWritten refusal (dayBytes r) part;
+      part = frontWritten refusal (dayBytes (current r)) part;
     }
 
--- ---- our own call (SPEC 15.5): the number of values of the days closed; test 6
+-- ---- our own call (SPEC 15.5): the number of values of the days closed in the season; test 6
 
 unfoldable pub writtenSoFar : Record → Writing
 writtenSoFar r =

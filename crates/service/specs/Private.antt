@@ -1,14 +1,21 @@
 -- What the steps of the calls give. Definitions only; private contracts cite them.
-use Prim.Native.Nat.{ℕ, _+_}
-use Rattle.refusals.specs.Refusals.{firstRefusal}
+use mathlib.Core.Path.{_≡_}
+use mathlib.Core.Bool.{true}
+use Prim.Native.Nat.{ℕ, _+_, _<_}
+use Rattle.refusals.specs.Refusals.{bookLimit, firstRefusal}
 use Rattle.chains.specs.declared.DayStep.{DayStep}
 use Rattle.chains.specs.Private.{Stepped}
 use Rattle.service.specs.declared.Record.{Record}
-use Rattle.service.specs.Contract.{recordTests, digestOf}
+use Rattle.service.specs.Contract.{allowedRecord, recordTests, digestOf}
 
 -- tests 6 5
 unfoldable pub recordRefusal : Record → ℕ
 recordRefusal r = firstRefusal (recordTests r)
+
+-- a record whose open day can be closed: test 6 finds no cause, and the season is not full
+pub record Open (r : Record) : Type 0 where
+  pub allowed : allowedRecord r ≡ true
+  pub day-left : r .days < bookLimit
 
 -- what the digest of the open day does to the chains
 abbrev pub StepOf : Record → DayStep → Type 0

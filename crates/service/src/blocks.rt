@@ -4,7 +4,7 @@ ghost use mathlib.Core.Path.{_≡_};
 ghost use Prim.Native.Nat.{_+_, _*_, _/_, _%_, _≤_};
 ghost use Rattle.refusals.specs.Refusals.{dayLimit};
 ghost use Rattle.service.specs.Contract.{closedBlocks};
-ghost use Rattle.service.specs.Private.{recordRefusal};
+ghost use Rattle.service.specs.Private.{Open};
 
 // Those that a piece of size bytes fills: the first byte of the open day, 00, is in front of its bytes.
 pub fn of_add(state: Record, size: usize) -> u32
@@ -16,7 +16,7 @@ pub fn of_add(state: Record, size: usize) -> u32
 
 // Those of the day's end, padding included, and two for each link.
 pub fn of_close(state: Record) -> u32
-    requires { ⌜ recordRefusal state ≡ 0 ⌝ }
+    requires { ⌜ Open state ⌝ }
     ensures { λ r. ⌜ r ≡ closedBlocks state ⌝ }
 {
     let links = chains::link_count(state.scheme, state.n, state.days + 1);

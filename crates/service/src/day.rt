@@ -10,7 +10,7 @@ ghost use Rattle.refusals.specs.Refusals.{dayLimit};
 ghost use Rattle.buffers.specs.Private.{Wrote};
 ghost use Rattle.chains.specs.Step.{valueBytes};
 ghost use Rattle.service.specs.Contract.{grown, digestOf, nextDay};
-ghost use Rattle.service.specs.Private.{recordRefusal, StepOf};
+ghost use Rattle.service.specs.Private.{Open, StepOf};
 
 // The record with the piece in its open day.
 pub fn grow(state: Record, piece: &[u8]) -> Record
@@ -36,6 +36,7 @@ pub fn grow(state: Record, piece: &[u8]) -> Record
         black,
         running,
         start,
+        season: state.season,
     }
 }
 
@@ -50,7 +51,7 @@ fn digest(state: Record) -> [u32; 8]
 
 // What the day's digest does to the chains.
 pub fn step(state: Record) -> DayStep
-    requires { ⌜ recordRefusal state ≡ 0 ⌝ }
+    requires { ⌜ Open state ⌝ }
     ensures { λ r. ⌜ StepOf state r ⌝ }
 {
     let h = digest(state);
@@ -85,7 +86,7 @@ pub fn write(part: &mut [u8], values: [Value; 17], k: u32)
 
 // The record with the day closed and the next one open.
 pub fn next(state: Record, step: DayStep) -> Record
-    requires { ⌜ (recordRefusal state ≡ 0) × StepOf state step ⌝ }
+    requires { ⌜ Open state × StepOf state step ⌝ }
     ensures { λ r. ⌜ r ≡ nextDay state ⌝ }
 {
     let day = hasher::begin(0);
@@ -105,5 +106,6 @@ pub fn next(state: Record, step: DayStep) -> Record
         black,
         running,
         start,
+        season: state.season,
     }
 }

@@ -1,5 +1,5 @@
 // The service: open, add to the open day, close the day. A record goes in by value and comes back; a refused call gives
-// it back as it came.
+// it back as it came. Where a season is full and not the last, add and close are made on the next (SPEC 23.2).
 mod blocks;
 mod day;
 mod records;
@@ -10,7 +10,8 @@ ghost use mathlib.Core.Path.{_≡_};
 ghost use Rattle.service.specs.Contract.{opened, addRefusal, added, closeRefusal, closing, writingNumber};
 ghost use Rattle.service.specs.Contract.{countOf, writtenSoFar};
 
-// 01's five numbers, the running hashes, of the open day (hash, block) and of the chains, and the start of a chain.
+// 01's five numbers, the running hashes, of the open day (hash, block) and of the chains, the start of a chain, and the
+// season.
 pub struct Record {
     pub scheme: u32,
     pub n: u32,
@@ -22,6 +23,7 @@ pub struct Record {
     pub black: Value,
     pub running: [Value; 17],
     pub start: Value,
+    pub season: u32,
 }
 
 // The number of values written, by a close or so far; or the refusal.
@@ -110,10 +112,11 @@ pub fn add(state: Record, piece: &[u8]) -> Added
             blocks: 0,
         };
     }
+    let made = records::current(state);
     Added {
         answer: Answer::Done,
-        state: day::grow(state, piece),
-        blocks: blocks::of_add(state, piece.len()),
+        state: day::grow(made, piece),
+        blocks: blocks::of_add(made, piece.len()),
     }
 }
 
@@ -125,7 +128,7 @@ fn close_refusal(state: Record, size: usize) -> u32
     if x != 0 {
         return x;
     }
-    let k = layouts::values_of_day(state.scheme, state.n, state.days + 1);
+    let k = layouts::values_of_day(state.scheme, state.n, records::open_day(state));
     if size < 32 * buffers::wide(k) {
         return 8;
     }
@@ -145,14 +148,15 @@ pub fn close(state: Record, part: &mut [u8]) -> Closed
             blocks: 0,
         };
     }
-    let step = day::step(state);
+    let made = records::current(state);
+    let step = day::step(made);
     let values = step.values;
     let k = step.count;
     day::write(part, values, k);
     Closed {
         answer: Writing::Wrote(k),
-        state: day::next(state, step),
-        blocks: blocks::of_close(state),
+        state: day::next(made, step),
+        blocks: blocks::of_close(made),
     }
 }
 

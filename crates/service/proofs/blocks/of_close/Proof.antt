@@ -1,25 +1,25 @@
 -- `service::blocks::of_close` meets its contract.
-use mathlib.Core.Path.{refl, sym, _∙_}
+use mathlib.Core.Path.{sym, _∙_}
 use Prim.Native.Nat.{ℕ, _+_}
 use native.Mathlib.Omega.{arith}
 use lib.ListN.{length-map}
 use borrow.Author.Needs.{needs, length-unmapped}
 use Rattle.chains.proofs.Value.{the-field}
 use Rattle.chains.proofs.BlockLaws.{links-most}
-use Rattle.service.proofs.RecordLaws.{record-passes}
+use Rattle.service.proofs.RecordLaws.{allowed-is}
 use Rattle.service.proofs.DayLaws.{day-asks}
 use Rattle.service.proofs.BlockLaws.{eights-of, counted-blocks}
 use Rattle.service.proofs.blocks.of_close.Statement.{statement}
 use Rattle.service.proofs.blocks.of_close.Tie as tie
 
 add-link-count : tie.Need-add-link-count
-add-link-count c = record { fits = omega (arith, record-passes (c .before .args .state) refl (c .before .pre) .1) }
+add-link-count c = record { fits = omega (arith, c .before .pre .day-left) }
 
 link-count-requires : tie.Need-link-count-requires
-link-count-requires c κs = let a = day-asks (c .before .args .state) refl (c .before .pre) in (a .1, a .2)
+link-count-requires c κs = let a = day-asks (c .before .args .state) (c .before .pre) in (a .1, a .2)
 
 add-result : tie.Need-add-result
-add-result c = let e = c .before .before .before in record { fits = omega (arith, record-passes (e .args .state) refl (e .pre) .0 .bytes-most) }
+add-result c = let e = c .before .before .before in record { fits = omega (arith, allowed-is (e .args .state) (e .pre .allowed) .bytes-most) }
 
 mul-result : tie.Need-mul-result
 mul-result c =

@@ -1,5 +1,4 @@
 -- `service::day::next` meets its contract.
-use mathlib.Core.Path.{refl}
 use native.Mathlib.Omega.{arith}
 use borrow.Author.Needs.{needs}
 use Rattle.service.proofs.DayLaws.{day-asks, step-next}
@@ -7,7 +6,7 @@ use Rattle.service.proofs.day.next.Statement.{statement}
 use Rattle.service.proofs.day.next.Tie as tie
 
 add-t9 : tie.Need-add-t9
-add-t9 c = let a = day-asks (c .before .before .before .before .before .before .before .args .state) refl (c .before .before .before .before .before .before .before .pre .0) in omega (arith, a .3)
+add-t9 c = let a = day-asks (c .before .before .before .before .before .before .before .args .state) (c .before .before .before .before .before .before .before .pre .0) in omega (arith, a .3)
 
 returns : tie.Need-returns
 returns c =
