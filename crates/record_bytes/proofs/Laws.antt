@@ -10,7 +10,7 @@ use lib.Seq.{take-all, take-at, drop-at, drop-drop, drop-cons, take-add, getD-ap
 use Rattle.chains.specs.declared.Value.{Value}
 use Rattle.service.specs.Contract.{noValue, zeros}
 use Rattle.service.specs.declared.Record.{Record}
-use Rattle.record_bytes.specs.Bytes.{hashAt, blackAt, runningAt, blockAt, startAt, recordSize, numbersBytes, slotsBytes, recordBytes, numberAt, numbersAt, valueAt, slotsAt, recordOf, Words, Slots, Fits}
+use Rattle.record_bytes.specs.Bytes.{hashAt, blackAt, runningAt, blockAt, startAt, seasonAt, recordSize, numbersBytes, slotsBytes, recordBytes, numberAt, numbersAt, valueAt, slotsAt, recordOf, Words, Slots, Fits}
 
 -- ---- bytes, to a record and back
 
@@ -75,7 +75,8 @@ module _ (b : List ℕ) (below : Below b) where
   pub bytes-round-trip : length b ≡ recordSize → recordBytes (recordOf b) ≡ b
   unfolding recordBytes recordOf valueAt
   bytes-round-trip l =
-      let e₆ = numbers-run 8 startAt (omega arith) ∙ take-all 32 (drop startAt b) (omega (arith, length-drop startAt b)) in
+      let e₇ = number-run seasonAt (omega arith) ∙ take-all 4 (drop seasonAt b) (omega (arith, length-drop seasonAt b)) in
+      let e₆ = run-and-rest startAt 32 (numbers-run 8 startAt (omega arith)) e₇ in
       let e₅ = run-and-rest blockAt 64 refl e₆ in
       let e₄ = run-and-rest runningAt 544 (slots-run 17 runningAt (omega arith)) e₅ in
       let e₃ = run-and-rest blackAt 32 (numbers-run 8 blackAt (omega arith)) e₄ in
@@ -138,9 +139,9 @@ slots-read (v ∷ vs) pre post h =
 
 same-record : (b : List ℕ) (r : Record) → numberAt b 0 ≡ r .scheme → numberAt b 4 ≡ r .n → numberAt b 8 ≡ r .f → numberAt b 12 ≡ r .days → numberAt b 16 ≡ r .bytes
     → numbersAt 8 b hashAt ≡ r .hash → take 64 (drop blockAt b) ≡ r .block → valueAt b blackAt ≡ r .black → slotsAt 17 b runningAt ≡ r .running → valueAt b startAt ≡ r .start
-    → recordOf b ≡ r
+    → numberAt b seasonAt ≡ r .season → recordOf b ≡ r
 unfolding recordOf
-same-record b r e₁ e₂ e₃ e₄ e₅ e₆ e₇ e₈ e₉ e₁₀ = rw (e₁, e₂, e₃, e₄, e₅, e₆, e₇, e₈, e₉, e₁₀)
+same-record b r e₁ e₂ e₃ e₄ e₅ e₆ e₇ e₈ e₉ e₁₀ e₁₁ = rw (e₁, e₂, e₃, e₄, e₅, e₆, e₇, e₈, e₉, e₁₀, e₁₁)
 
 length-slots : (vs : List Value) → Slots vs → length (slotsBytes vs) ≡ length vs * 32
 unfolding slotsBytes
@@ -170,7 +171,9 @@ record-round-trip r fits =
     let ks = numbersBytes (r .black .words) in
     let ss = slotsBytes (r .running) in
     let ts = numbersBytes (r .start .words) in
-    let x₅ = r .block ++ ts in
+    let us = numbersBytes (r .season ∷ []) in
+    let x₆ = ts ++ us in
+    let x₅ = r .block ++ x₆ in
     let x₄ = ss ++ x₅ in
     let x₃ = ks ++ x₄ in
     let b = recordBytes r in
@@ -179,19 +182,23 @@ record-round-trip r fits =
     let lc : length cs ≡ hashAt = length-numbers five in
     let lh : length hs ≡ 32 = length-numbers (r .hash) ∙ ap (λ (k : ℕ). k * 4) (fits .hash-fits .0) in
     let lk : length ks ≡ 32 = length-numbers (r .black .words) ∙ ap (λ (k : ℕ). k * 4) (fits .black-fits .0) in
+    let lt : length ts ≡ 32 = length-numbers (r .start .words) ∙ ap (λ (k : ℕ). k * 4) (fits .start-fits .0) in
     let ls : length ss ≡ 544 = length-slots (r .running) (fits .running-fit) ∙ ap (λ (k : ℕ). k * 32) (fits .running-many) in
     let f₂ = cs ++ hs in
     let f₃ = f₂ ++ ks in
     let f₄ = f₃ ++ ss in
     let f₅ = f₄ ++ r .block in
+    let f₆ = f₅ ++ ts in
     let p₂ : length f₂ ≡ blackAt = length-append cs hs ∙ omega arith in
     let p₃ : length f₃ ≡ runningAt = length-append f₂ ks ∙ omega arith in
     let p₄ : length f₄ ≡ blockAt = length-append f₃ ss ∙ omega arith in
     let p₅ : length f₅ ≡ startAt = length-append f₄ (r .block) ∙ omega (arith, fits .block-many) in
+    let p₆ : length f₆ ≡ seasonAt = length-append f₅ ts ∙ omega arith in
     let b₂ : f₂ ++ x₃ ≡ b = append-assoc cs hs x₃ in
     let b₃ : f₃ ++ x₄ ≡ b = append-assoc f₂ ks x₄ ∙ b₂ in
     let b₄ : f₄ ++ x₅ ≡ b = append-assoc f₃ ss x₅ ∙ b₃ in
-    let b₅ : f₅ ++ ts ≡ b = append-assoc f₄ (r .block) ts ∙ b₄ in
+    let b₅ : f₅ ++ x₆ ≡ b = append-assoc f₄ (r .block) x₆ ∙ b₄ in
+    let b₆ : f₆ ++ us ≡ b = append-assoc f₅ ts us ∙ b₅ in
     let hash : numbersAt 8 b hashAt ≡ r .hash =
     sym (ap₂ (λ (k i : ℕ). numbersAt k b i) (fits .hash-fits .0) lc) ∙ numbers-read (r .hash) cs x₃ (fits .hash-fits .1) in
     let black : valueAt b blackAt ≡ r .black = sym (ap₂ (λ (l : List ℕ) (i : ℕ). valueAt l i) b₂ p₂) ∙ value-read f₂ x₄ (r .black) (fits .black-fits) in
@@ -199,10 +206,12 @@ record-round-trip r fits =
     ap (λ (k : ℕ). slotsAt k b runningAt) (sym (fits .running-many)) ∙ sym (ap₂ (λ (l : List ℕ) (i : ℕ). slotsAt (length (r .running)) l i) b₃ p₃)
     ∙ slots-read (r .running) f₃ x₅ (fits .running-fit) in
     let block : take 64 (drop blockAt b) ≡ r .block =
-    ap (λ (l : List ℕ). take 64 (drop blockAt l)) (sym b₄) ∙ ap (take 64) (drop-at f₄ x₅ blockAt p₄) ∙ take-at (r .block) ts 64 (fits .block-many) in
+    ap (λ (l : List ℕ). take 64 (drop blockAt l)) (sym b₄) ∙ ap (take 64) (drop-at f₄ x₅ blockAt p₄) ∙ take-at (r .block) x₆ 64 (fits .block-many) in
     let start : valueAt b startAt ≡ r .start =
-    sym (ap₂ (λ (l : List ℕ) (i : ℕ). valueAt l i) (ap (λ (l : List ℕ). f₅ ++ l) (append-nil ts) ∙ b₅) p₅) ∙ value-read f₅ [] (r .start) (fits .start-fits) in
-    same-record b r (n .0) (n .1) (n .2) (n .3) (n .4) hash block black running start
+    sym (ap₂ (λ (l : List ℕ) (i : ℕ). valueAt l i) b₅ p₅) ∙ value-read f₅ us (r .start) (fits .start-fits) in
+    let season : numberAt b seasonAt ≡ r .season =
+    sym (ap₂ (λ (l : List ℕ) (i : ℕ). numberAt l i) (ap (λ (l : List ℕ). f₆ ++ l) (append-nil us) ∙ b₆) p₆) ∙ number-read f₆ [] (r .season) (fits .season-fits) in
+    same-record b r (n .0) (n .1) (n .2) (n .3) (n .4) hash block black running start season
 
 -- a refused open's record, as bytes
 pub zeros-bytes : recordBytes zeros ≡ replicate recordSize 0

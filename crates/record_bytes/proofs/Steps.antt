@@ -9,7 +9,7 @@ use lib.ListN.{length, getD, take, drop, set, length-append}
 use lib.Seq.{lt-length-set, take-suc, take-suc-set, take-all, take-at, sets, sets-eq, length-take-le}
 use Rattle.chains.specs.declared.Value.{Value}
 use Rattle.service.specs.declared.Record.{Record}
-use Rattle.record_bytes.specs.Bytes.{hashAt, blackAt, runningAt, blockAt, startAt, recordSize, numbersBytes, slotsBytes, numberAt, numbersAt, valueAt, slotsAt, recordOf, recordBytes}
+use Rattle.record_bytes.specs.Bytes.{hashAt, blackAt, runningAt, blockAt, startAt, seasonAt, recordSize, numbersBytes, slotsBytes, numberAt, numbersAt, valueAt, slotsAt, recordOf, recordBytes}
 
 -- ---- reading
 
@@ -107,12 +107,12 @@ slots-filled p b w k l h e q =
     let n : k ≡ 17 = omega arith in
     (rw (n, take-all 17 w (omega arith)) at q)
 
-pub record-of : (b : List ℕ) (v : Value) {scheme n f days bytes : ℕ} {block : List ℕ} {black start : Value} {running : List Value}
+pub record-of : (b : List ℕ) (v : Value) {scheme n f days bytes season : ℕ} {block : List ℕ} {black start : Value} {running : List Value}
     → v ≡ valueAt b hashAt → scheme ≡ numberAt b 0 → n ≡ numberAt b 4 → f ≡ numberAt b 8 → days ≡ numberAt b 12 → bytes ≡ numberAt b 16
-    → block ≡ take 64 (drop blockAt b) → black ≡ valueAt b blackAt → running ≡ slotsAt 17 b runningAt → start ≡ valueAt b startAt
-    → _≡_ {A = Record} record { scheme = scheme; n = n; f = f; days = days; bytes = bytes; hash = v .words; block = block; black = black; running = running; start = start } (recordOf b)
+    → block ≡ take 64 (drop blockAt b) → black ≡ valueAt b blackAt → running ≡ slotsAt 17 b runningAt → start ≡ valueAt b startAt → season ≡ numberAt b seasonAt
+    → _≡_ {A = Record} record { scheme = scheme; n = n; f = f; days = days; bytes = bytes; hash = v .words; block = block; black = black; running = running; start = start; season = season } (recordOf b)
 unfolding recordOf valueAt
-record-of b v e₁ e₂ e₃ e₄ e₅ e₆ e₇ e₈ e₉ e₁₀ = rw (e₁, e₂, e₃, e₄, e₅, e₆, e₇, e₈, e₉, e₁₀)
+record-of b v e₁ e₂ e₃ e₄ e₅ e₆ e₇ e₈ e₉ e₁₀ e₁₁ = rw (e₁, e₂, e₃, e₄, e₅, e₆, e₇, e₈, e₉, e₁₀, e₁₁)
 
 pub counts-of : {p q r s : List ℕ} (b : List ℕ) (t : Record) → p ≡ numbersBytes (t .scheme ∷ []) → q ≡ p ++ numbersBytes (t .n ∷ []) → r ≡ q ++ numbersBytes (t .f ∷ []) → s ≡ r ++ numbersBytes
     (t .days ∷ [])
@@ -120,8 +120,8 @@ pub counts-of : {p q r s : List ℕ} (b : List ℕ) (t : Record) → p ≡ numbe
 unfolding numbersBytes
 counts-of b t e₁ e₂ e₃ e₄ e₅ = rw (e₅, e₄, e₃, e₂, e₁)
 
-pub record-put : {p q r s u : List ℕ} (b : List ℕ) (t : Record) → p ≡ numbersBytes (t .scheme ∷ t .n ∷ t .f ∷ t .days ∷ t .bytes ∷ []) → q ≡ p ++ numbersBytes (t .hash)
-    → r ≡ q ++ numbersBytes (t .black .words) → s ≡ r ++ slotsBytes (t .running) → u ≡ s ++ t .block → length b ≡ recordSize → take recordSize b ≡ u ++ numbersBytes (t .start .words)
-    → b ≡ recordBytes t
+pub record-put : {p q r s u v : List ℕ} (b : List ℕ) (t : Record) → p ≡ numbersBytes (t .scheme ∷ t .n ∷ t .f ∷ t .days ∷ t .bytes ∷ []) → q ≡ p ++ numbersBytes (t .hash)
+    → r ≡ q ++ numbersBytes (t .black .words) → s ≡ r ++ slotsBytes (t .running) → u ≡ s ++ t .block → v ≡ u ++ numbersBytes (t .start .words) → length b ≡ recordSize
+    → take recordSize b ≡ v ++ numbersBytes (t .season ∷ []) → b ≡ recordBytes t
 unfolding recordBytes
-record-put b t e₁ e₂ e₃ e₄ e₅ l e₆ = sym (take-all recordSize b (omega arith)) ∙ (rw (e₆, e₅, e₄, e₃, e₂, e₁) (simp append-assoc))
+record-put b t e₁ e₂ e₃ e₄ e₅ e₆ l e₇ = sym (take-all recordSize b (omega arith)) ∙ (rw (e₇, e₆, e₅, e₄, e₃, e₂, e₁) (simp append-assoc))

@@ -8,7 +8,7 @@ use Rattle.chains.specs.declared.Value.{Value}
 use Rattle.service.specs.declared.Record.{Record}
 
 -- where the parts begin after 01's five numbers: the open day's hash, black, the running hashes, the open day's block,
--- the start of a chain
+-- the start of a chain, the season
 abbrev pub hashAt : ℕ
 hashAt = 20
 
@@ -24,9 +24,12 @@ blockAt = 628
 abbrev pub startAt : ℕ
 startAt = 692
 
+abbrev pub seasonAt : ℕ
+seasonAt = 724
+
 -- the record's size in bytes
 abbrev pub recordSize : ℕ
-recordSize = 724
+recordSize = 728
 
 -- numbers as bytes, end to end
 unfoldable pub numbersBytes : List ℕ → List ℕ
@@ -42,7 +45,7 @@ unfoldable pub recordBytes : Record → List ℕ
 recordBytes r =
     numbersBytes (r .scheme ∷ r .n ∷ r .f ∷ r .days ∷ r .bytes ∷ [])
     ++ (numbersBytes (r .hash) ++ (numbersBytes (r .black .words) ++ (slotsBytes (r .running) ++ (r .block
-    ++ numbersBytes (r .start .words)))))
+    ++ (numbersBytes (r .start .words) ++ numbersBytes (r .season ∷ []))))))
 
 -- the number at place i
 unfoldable pub numberAt : List ℕ → ℕ → ℕ
@@ -76,6 +79,7 @@ recordOf b =
       black = valueAt b blackAt;
       running = slotsAt 17 b runningAt;
       start = valueAt b startAt;
+      season = numberAt b seasonAt;
     }
 
 -- a record of the sizes and numbers that its type has: 32-bit numbers, 8 to a hash and to the start, 17 running hashes,
@@ -95,3 +99,4 @@ pub record Fits (r : Record) : Type 0 where
   pub running-fit : Slots (r .running)
   pub block-many : length (r .block) ≡ 64
   pub start-fits : Words (r .start .words)
+  pub season-fits : r .season < 2 ^ 32

@@ -23,8 +23,11 @@ const BLOCK_AT: usize = 628;
 // Where the start of a chain begins.
 const START_AT: usize = 692;
 
+// Where the season stands.
+const SEASON_AT: usize = 724;
+
 // The record's size.
-pub const RECORD_BYTES: usize = 724;
+pub const RECORD_BYTES: usize = 728;
 
 // ---- from bytes
 
@@ -97,6 +100,7 @@ pub fn decode(b: [u8; RECORD_BYTES]) -> Record
         black: value_at(&b, BLACK_AT),
         running: slots_at(&b),
         start: value_at(&b, START_AT),
+        season: number_at(&b, SEASON_AT),
     }
 }
 
@@ -166,5 +170,6 @@ pub fn encode(state: Record) -> [u8; RECORD_BYTES]
     let start = state.start;
     let last = start.words;
     put_words(&mut b, START_AT, last);
+    put_number(&mut b, SEASON_AT, state.season);
     b
 }

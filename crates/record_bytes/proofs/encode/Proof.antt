@@ -19,18 +19,20 @@ put-requires c κs =
 
 returns : tie.Need-returns
 returns c =
-    let put = c .before .before .before .before .before .before in
+    let last = c .before .before .before .before in
+    let put = last .before .before .before .before .before in
     let slots = put .before .before .before .before .before in
     let counts = slots .before .before .before .before .before .before .before .before .before .before .before .before .before in
     let all : length (slots .put-slots .last .0) ≡ recordSize = search needs in
-    let size : length (c .before .put-words3 .last .0) ≡ recordSize = search needs in
+    let size : length (c .before .put-number .last .0) ≡ recordSize = search needs in
     record-put _ (counts .before .before .args .state) (counts .put-counts .ensures)
     (slots .before .before .before .before .before .before .before .before .before .put-words .ensures)
     (slots .before .before .before .before .put-words2 .ensures) (slots .put-slots .ensures)
-    (wrote-through startAt (put .put .ensures) (omega (arith, all)) (omega (arith, block-size (put .before)))) size
-    (c .before .put-words3 .ensures)
+    (wrote-through startAt (put .put .ensures) (omega (arith, all)) (omega (arith, block-size (put .before))))
+    (last .put-words3 .ensures) size (c .before .put-number .ensures)
 
 pub encode-spec : {M : Type 1} → statement M
 encode-spec = tie.close (tie.spec (λ c. search needs) (λ c κs. search needs) (λ c. search needs)
     (λ c κs. search needs) (λ c. search needs) (λ c κs. search needs) (λ c. search needs) (λ c κs. search needs)
-    (λ c. search needs) (λ c. search needs) put-requires (λ c. search needs) (λ c κs. search needs) returns)
+    (λ c. search needs) (λ c. search needs) put-requires (λ c. search needs) (λ c κs. search needs)
+    (λ c. search needs) (λ c κs. search needs) returns)
