@@ -1,14 +1,14 @@
--- Every list of calls: after each call the record holds what the journal says, and the book is its entries'.
+-- One season: the record holds what the journal says, and goes on holding it by each call that is made on it.
 use mathlib.Core.Path.{_≡_, refl, sym, ap, ap₂, _∙_}
 use mathlib.Core.Bool.{true}
-use mathlib.Core.List.{List, [], _∷_, _++_, map, append-assoc, append-nil}
-use Prim.Native.Nat.{ℕ, zero, suc, _+_, _*_, _%_, _≤_, _<_}
+use mathlib.Core.List.{List, [], _∷_, _++_, append-nil}
+use Prim.Native.Nat.{ℕ, suc, _+_, _*_, _%_, _≤_, _<_}
 use native.Mathlib.Omega.{arith}
 use lib.ListN.{length, take, drop, length-append}
 use lib.Seq.{take-at}
 use borrow.Author.Tests.{leb-true, ltb-true}
 use Rattle.evidence.specs.Evidence.{digest, values}
-use Rattle.refusals.specs.Refusals.{bookLimit, dayLimit, numberOf, unlessRefused, frontWritten}
+use Rattle.refusals.specs.Refusals.{bookLimit, dayLimit, lastSeason}
 use Rattle.refusals.proofs.TestLaws.{none-fails}
 use Rattle.sha256.specs.Sha256.{sha256}
 use Rattle.sha256_words.specs.Words.{bytesOf}
@@ -20,13 +20,13 @@ use Rattle.layouts.proofs.AllowedLaws.{setup-is}
 use Rattle.chains.specs.Book.{start, bookOf}
 use Rattle.chains.specs.Step.{startValue}
 use Rattle.chains.proofs.Running.{Holds, holds-fresh, holds-next, day-values-are}
-use Rattle.chains.proofs.BookLaws.{book-suc, book-none, values-of-length}
+use Rattle.chains.proofs.BookLaws.{book-suc, values-of-length}
 use Rattle.service.specs.declared.Record.{Record}
-use Rattle.service.specs.Contract.{fresh, opened, allowedRecord, addRefusal, openDay, grown, added, dayCount, closeRefusal, digestOf, dayBytes, nextDay, writingOf, countOf, closing}
-use Rattle.journal.specs.Journal.{Journal, empty, Argument, adds, closes, testsOf, refusalOf, entered, kept, journalAfter, refusals}
-use Rattle.journal.specs.Run.{Call, add, close, argumentOf, called, stateAfter, answers, bookWritten, journalOf}
-use Rattle.service.proofs.RecordLaws.{is-allowed}
-use Rattle.service.proofs.CallLaws.{opened-number, added-number, closing-number}
+use Rattle.service.specs.Contract.{fresh, opened, allowedRecord, current, addRefusal, openDay, grown, added, dayCount, closeRefusal, digestOf, dayBytes, nextDay, countOf, closing}
+use Rattle.journal.specs.Journal.{Journal, empty, Argument, adds, closes, testsOf, refusalOf, entered}
+use Rattle.journal.specs.Run.{Call, add, close, argumentOf, called}
+use Rattle.service.proofs.RecordLaws.{is-allowed, current-before}
+use Rattle.service.proofs.CallLaws.{added-number, closing-number}
 
 -- ---- the record holds what the journal says
 
@@ -39,6 +39,8 @@ pub record Keeps (s n f : ℕ) (j : Journal) (r : Record) : Type 0 where
   pub bytes-are : r .bytes ≡ length (j .day)
   pub days-most : length (j .entries) ≤ bookLimit
   pub bytes-most : length (j .day) ≤ dayLimit
+  pub season-most : r .season ≤ lastSeason
+  pub full-empty : bookLimit ≤ length (j .entries) → length (j .day) ≡ 0
   pub open-day : openDay r ≡ begun (0 ∷ j .day)
   pub start-is : r .start ≡ startValue s n
   pub chains-hold : Holds s n (j .entries) (r .black) (r .running)
@@ -55,10 +57,17 @@ keeps-fresh s n f e =
       bytes-are = refl;
       days-most = omega arith;
       bytes-most = omega arith;
+      season-most = omega arith;
+      full-empty = λ h. refl;
       open-day = refl;
       start-is = refl;
       chains-hold = holds-fresh s n (setup-is s n f e .n-ok);
     }
+
+-- a call that is taken finds a day left
+day-left : (s n : ℕ) (j : Journal) (a : Argument) → refusalOf s n j a ≡ 0 → length (j .entries) < bookLimit
+day-left s n j (adds piece) e = ltb-true (length (j .entries)) bookLimit (none-fails (testsOf s n j (adds piece)) refl e .0)
+day-left s n j (closes size) e = ltb-true (length (j .entries)) bookLimit (none-fails (testsOf s n j (closes size)) refl e .0)
 
 pub keeps-open : (s n f : ℕ) → setupRefusal s n f ≡ 0 → Keeps s n f empty (opened s n f .state)
 unfolding opened
@@ -74,31 +83,25 @@ module _ {s n f : ℕ} {j : Journal} {r : Record} (k : Keeps s n f j r) where
         setup = rw (k .scheme-is, k .n-is, k .f-is) (k .setup-ok);
         days-most = rw (k .days-are) (k .days-most);
         bytes-most = rw (k .bytes-are) (k .bytes-most);
+        season-most = k .season-most;
+        full-empty = λ h. k .bytes-are ∙ k .full-empty (rw (k .days-are) at h);
       })
 
   -- the journal's number of values for the open day is the record's
   count-kept : dayCount r ≡ length (chainsOfDay s n (suc (length (j .entries))))
   count-kept = rw (k .scheme-is, k .n-is, k .days-are)
 
-  -- ---- the same refusals
-
-  pub add-same : (piece : List ℕ) → addRefusal r (length piece) ≡ refusalOf s n j (adds piece)
-  unfolding addRefusal
-  add-same piece = rw (record-allowed, k .days-are, k .bytes-are)
-
-  pub close-same : (size : ℕ) → closeRefusal r size ≡ refusalOf s n j (closes size)
-  unfolding closeRefusal
-  close-same size = rw (record-allowed, count-kept, k .days-are)
-
   -- ---- an add that is taken
 
   hashed-count : r .bytes + 1 ≡ length (0 ∷ j .day)
   hashed-count = omega (arith, k .bytes-are)
 
-  keeps-grown : (piece : List ℕ) → refusalOf s n j (adds piece) ≡ 0 → Keeps s n f (entered j (adds piece)) (grown r piece)
+  pub keeps-grown : (piece : List ℕ) → refusalOf s n j (adds piece) ≡ 0 → Keeps s n f (entered j (adds piece)) (grown r piece)
   unfolding grown
   keeps-grown piece e =
-      let fits = leb-true (length (j .day) + length piece) dayLimit (none-fails (testsOf s n j (adds piece)) refl e .1 .0) in
+      let passed = none-fails (testsOf s n j (adds piece)) refl e in
+      let left = ltb-true (length (j .entries)) bookLimit (passed .0) in
+      let fits = leb-true (length (j .day) + length piece) dayLimit (passed .1 .0) in
       record {
         setup-ok = k .setup-ok;
         scheme-is = k .scheme-is;
@@ -108,6 +111,8 @@ module _ {s n f : ℕ} {j : Journal} {r : Record} (k : Keeps s n f j r) where
         bytes-are = ap (λ (x : ℕ). x + length piece) (k .bytes-are) ∙ sym (length-append (j .day) piece);
         days-most = k .days-most;
         bytes-most = rw (length-append (j .day) piece) fits;
+        season-most = k .season-most;
+        full-empty = λ h. absurd (omega arith);
         open-day =
             ap (λ (h : Hasher). absorbed h (r .bytes + 1) piece) (k .open-day) ∙
             absorbed-begun (0 ∷ j .day) piece (r .bytes + 1) (ap (λ (x : ℕ). x % 64) hashed-count);
@@ -121,14 +126,11 @@ module _ {s n f : ℕ} {j : Journal} {r : Record} (k : Keeps s n f j r) where
   unfolding sha256
   digest-is = ap bytesOf (ap₂ finished (k .open-day) hashed-count ∙ finished-begun (0 ∷ j .day))
 
-  day-left : (size : ℕ) → refusalOf s n j (closes size) ≡ 0 → length (j .entries) < bookLimit
-  day-left size e = ltb-true (length (j .entries)) bookLimit (none-fails (testsOf s n j (closes size)) refl e .0)
-
-  keeps-next : (size : ℕ) → refusalOf s n j (closes size) ≡ 0 → Keeps s n f (entered j (closes size)) (nextDay r)
+  pub keeps-next : (size : ℕ) → refusalOf s n j (closes size) ≡ 0 → Keeps s n f (entered j (closes size)) (nextDay r)
   unfolding nextDay
   keeps-next size e =
       let more = length-append (j .entries) (j .day ∷ []) in
-      let left = day-left size e in
+      let left = day-left s n j (closes size) e in
       record {
         setup-ok = k .setup-ok;
         scheme-is = k .scheme-is;
@@ -138,6 +140,8 @@ module _ {s n f : ℕ} {j : Journal} {r : Record} (k : Keeps s n f j r) where
         bytes-are = refl;
         days-most = omega arith;
         bytes-most = omega arith;
+        season-most = k .season-most;
+        full-empty = λ h. refl;
         open-day = refl;
         start-is = k .start-is;
         chains-hold =
@@ -151,99 +155,72 @@ module _ {s n f : ℕ} {j : Journal} {r : Record} (k : Keeps s n f j r) where
   unfolding dayBytes
   day-bytes-are size e =
       rw (k .scheme-is, k .n-is, k .days-are)
-      (day-values-are s n (j .entries) (j .day) n-allowed (r .black) (r .running) (digestOf r) (k .chains-hold) digest-is (day-left size e))
+      (day-values-are s n (j .entries) (j .day) n-allowed (r .black) (r .running) (digestOf r) (k .chains-hold) digest-is (day-left s n j (closes size) e))
 
   pub day-bytes-length : (size : ℕ) → refusalOf s n j (closes size) ≡ 0 → length (dayBytes r) ≡ 32 * dayCount r
   day-bytes-length size e =
       ap length (day-bytes-are size e) ∙ values-of-length s n (j .entries ++ (j .day ∷ [])) (chainsOfDay s n (suc (length (j .entries)))) ∙
       ap (λ (x : ℕ). 32 * x) (sym count-kept)
 
-  -- ---- one call, taken or refused
+-- ---- a call of the service: tested by 6 on its record, and made on the current one, which holds the journal
 
-  keeps-unless : (x : ℕ) (a : Argument) (next : Record) → (x ≡ 0 → Keeps s n f (entered j a) next) → Keeps s n f (unlessRefused x (entered j a) j) (unlessRefused x next r)
-  keeps-unless zero a next h = h refl
-  keeps-unless (suc x) a next h = k
+module _ {s n f : ℕ} {j : Journal} (r : Record) (a : allowedRecord r ≡ true) (k : Keeps s n f j (current r)) where
+  -- the same refusals
+  pub add-same : (piece : List ℕ) → addRefusal r (length piece) ≡ refusalOf s n j (adds piece)
+  unfolding addRefusal
+  add-same piece = rw (a, k .days-are, k .bytes-are)
 
-  pub keeps-added : (piece : List ℕ) → Keeps s n f (kept s n j (adds piece)) (added r piece .state)
-  unfolding added
-  keeps-added piece = rw (add-same piece) (keeps-unless (refusalOf s n j (adds piece)) (adds piece) (grown r piece) (keeps-grown piece))
+  pub close-same : (size : ℕ) → closeRefusal r size ≡ refusalOf s n j (closes size)
+  unfolding closeRefusal
+  close-same size = rw (a, count-kept k, k .days-are)
 
-  pub keeps-closed : (part : List ℕ) → Keeps s n f (kept s n j (closes (length part))) (closing r part .result .state)
-  unfolding closing
-  keeps-closed part =
-      rw (close-same (length part)) (keeps-unless (refusalOf s n j (closes (length part))) (closes (length part)) (nextDay r) (keeps-next (length part)))
-
-  book-added : (x : ℕ) (piece : List ℕ) → bookOf s n (j .entries) ++ [] ≡ bookOf s n (unlessRefused x (entered j (adds piece)) j .entries)
-  book-added zero piece = append-nil (bookOf s n (j .entries))
-  book-added (suc x) piece = append-nil (bookOf s n (j .entries))
-
-  book-closed : (x : ℕ) (part : List ℕ) → refusalOf s n j (closes (length part)) ≡ x →
-      bookOf s n (j .entries) ++ take (32 * countOf (writingOf x (dayCount r))) (frontWritten x (dayBytes r) part) ≡ bookOf s n (unlessRefused x (entered j (closes (length part))) j .entries)
-  book-closed zero part e =
-      ap (λ (l : List ℕ). bookOf s n (j .entries) ++ l)
-      (take-at (dayBytes r) (drop (length (dayBytes r)) part) (32 * dayCount r) (day-bytes-length (length part) e) ∙ day-bytes-are (length part) e) ∙
-      sym (book-suc s n (j .entries) (j .day))
-  book-closed (suc x) part e = append-nil (bookOf s n (j .entries))
-
-  pub keeps-called : (c : Call) → Keeps s n f (kept s n j (argumentOf c)) (called r c .state)
-  keeps-called (add piece) = keeps-added piece
-  keeps-called (close part) = keeps-closed part
-
-  number-called : (c : Call) → called r c .number ≡ refusalOf s n j (argumentOf c)
+  pub number-called : (c : Call) → called r c .number ≡ refusalOf s n j (argumentOf c)
   number-called (add piece) = added-number r piece ∙ add-same piece
   number-called (close part) = closing-number r part ∙ close-same (length part)
 
-  book-called : (c : Call) → bookOf s n (j .entries) ++ called r c .wrote ≡ bookOf s n (kept s n j (argumentOf c) .entries)
+  -- the record after a call that is taken
+  pub keeps-called : (c : Call) → refusalOf s n j (argumentOf c) ≡ 0 → Keeps s n f (entered j (argumentOf c)) (called r c .state)
+  unfolding added closing
+  keeps-called (add piece) e = rw (add-same piece, e) (keeps-grown k piece e)
+  keeps-called (close part) e = rw (close-same (length part), e) (keeps-next k (length part) e)
+
+  -- the book of the season with what it wrote
+  pub book-called : (c : Call) → refusalOf s n j (argumentOf c) ≡ 0 → bookOf s n (j .entries) ++ called r c .wrote ≡ bookOf s n (entered j (argumentOf c) .entries)
   unfolding closing
-  book-called (add piece) = book-added (refusalOf s n j (adds piece)) piece
-  book-called (close part) = rw (close-same (length part)) (book-closed (refusalOf s n j (closes (length part))) part refl)
+  book-called (add piece) e = append-nil (bookOf s n (j .entries))
+  book-called (close part) e =
+      let made = current r in
+      rw (close-same (length part), e)
+      (ap (λ (l : List ℕ). bookOf s n (j .entries) ++ l)
+      (take-at (dayBytes made) (drop (length (dayBytes made)) part) (32 * dayCount made) (day-bytes-length k (length part) e) ∙ day-bytes-are k (length part) e) ∙
+      sym (book-suc s n (j .entries) (j .day)))
 
--- ---- every list of calls
-
--- from a journal and a record that holds it
-pub record From (s n f : ℕ) (j : Journal) (r : Record) (cs : List Call) : Type 0 where
-  pub refused : answers r cs ≡ refusals s n j (map argumentOf cs)
-  pub book : bookOf s n (j .entries) ++ bookWritten r cs ≡ bookOf s n (journalAfter s n j (map argumentOf cs) .entries)
-  pub state : Keeps s n f (journalAfter s n j (map argumentOf cs)) (stateAfter r cs)
-
-pub all-calls : {s n f : ℕ} {j : Journal} {r : Record} → Keeps s n f j r → (cs : List Call) → From s n f j r cs
-all-calls {s} {n} {j = j} k [] = record { refused = refl; book = append-nil (bookOf s n (j .entries)); state = k }
-all-calls {s} {n} {j = j} {r = r} k (c ∷ cs) =
-    let later = all-calls (keeps-called k c) cs in
-    record {
-      refused = ap₂ (λ (x : ℕ) (l : List ℕ). x ∷ l) (number-called k c) (later .refused);
-      book =
-          sym (append-assoc (bookOf s n (j .entries)) (called r c .wrote) (bookWritten (called r c .state) cs)) ∙
-          ap (λ (l : List ℕ). l ++ bookWritten (called r c .state) cs) (book-called k c) ∙ later .book;
-      state = later .state;
-    }
-
-pub from-open : (s n f : ℕ) → numberOf (opened s n f .answer) ≡ 0 → (cs : List Call) → From s n f empty (opened s n f .state) cs
-from-open s n f e cs = all-calls (keeps-open s n f (sym (opened-number s n f) ∙ e)) cs
-
--- and the book that they wrote
-pub open-book : (s n f : ℕ) → numberOf (opened s n f .answer) ≡ 0 → (cs : List Call) →
-    bookWritten (opened s n f .state) cs ≡ bookOf s n (journalOf s n cs .entries)
-open-book s n f e cs =
-    ap (λ (l : List ℕ). l ++ bookWritten (opened s n f .state) cs) (sym (book-none s n)) ∙ from-open s n f e cs .book
-
--- ---- a call that the journal takes
+-- ---- with a day left in the season
 
 module _ {s n f : ℕ} {j : Journal} {r : Record} (k : Keeps s n f j r) where
+  stays : (a : Argument) → refusalOf s n j a ≡ 0 → current r ≡ r
+  stays a e = current-before r (rw (k .days-are) (day-left s n j a e))
+
+  keeps-current : (a : Argument) → refusalOf s n j a ≡ 0 → Keeps s n f j (current r)
+  keeps-current a e = rw (stays a e) k
+
   pub taken-add : (piece : List ℕ) → refusalOf s n j (adds piece) ≡ 0 → Keeps s n f (entered j (adds piece)) (added r piece .state)
-  taken-add piece e = rw e at (keeps-added k piece)
+  taken-add piece e = keeps-called r (record-allowed k) (keeps-current (adds piece) e) (add piece) e
 
   module _ (part : List ℕ) (e : refusalOf s n j (closes (length part)) ≡ 0) where
+    made-on : Keeps s n f j (current r)
+    made-on = keeps-current (closes (length part)) e
+
     pub taken-close : Keeps s n f (entered j (closes (length part))) (closing r part .result .state)
-    taken-close = rw e at (keeps-closed k part)
+    taken-close = keeps-called r (record-allowed k) made-on (close part) e
 
     pub taken-count : countOf (closing r part .result .answer) ≡ length (chainsOfDay s n (suc (length (j .entries))))
     unfolding closing
-    taken-count = rw (close-same k (length part), e) (count-kept k)
+    taken-count = rw (close-same r (record-allowed k) made-on (length part), e) (count-kept made-on)
 
     pub taken-part : closing r part .part ≡ values sha256 (start s n) (j .entries ++ (j .day ∷ [])) (chainsOfDay s n (suc (length (j .entries)))) ++ drop
         (32 * length (chainsOfDay s n (suc (length (j .entries))))) part
     unfolding closing
     taken-part =
-        rw (close-same k (length part), e)
-        (ap₂ (λ (x : List ℕ) (y : ℕ). x ++ drop y part) (day-bytes-are k (length part) e) (day-bytes-length k (length part) e ∙ ap (λ (x : ℕ). 32 * x) (count-kept k)))
+        rw (close-same r (record-allowed k) made-on (length part), e)
+        (ap₂ (λ (x : List ℕ) (y : ℕ). x ++ drop y part) (day-bytes-are made-on (length part) e) (day-bytes-length made-on (length part) e ∙ ap (λ (x : ℕ). 32 * x) (count-kept made-on)))

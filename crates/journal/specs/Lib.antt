@@ -1,2 +1,3 @@
 pub mod Journal
+pub mod Seasons
 pub mod Run

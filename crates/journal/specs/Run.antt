@@ -1,12 +1,15 @@
 -- 01's lists of add and close calls (SPEC 5.6), by what the calls' contracts say. Definitions only; the claim on every
 -- such list is in daybook.
+use mathlib.Core.Bool.{cond}
 use mathlib.Core.List.{List, [], _∷_, _++_, map}
 use Prim.Native.Nat.{ℕ, zero, suc, _+_, _-_, _*_}
+use lib.Dec.{eqb}
 use lib.ListN.{length, take}
 use Rattle.refusals.specs.Refusals.{numberOf, unlessRefused}
 use Rattle.service.specs.declared.Record.{Record}
 use Rattle.service.specs.Contract.{writingNumber, countOf, added, closing}
 use Rattle.journal.specs.Journal.{Journal, empty, Argument, adds, closes, journalAfter}
+use Rattle.journal.specs.Seasons.{Seasons, first, seasonsAfter}
 
 -- a call: add with its piece, close with the part lent to it, whatever it holds
 pub data Call : Type 0 where
@@ -69,3 +72,19 @@ blocksTo (c ∷ made) (suc d) = c .blocks + blocksTo made (suc d - c .closed)
 -- the journal of the list, from no entry and an empty open day
 abbrev pub journalOf : ℕ → ℕ → List Call → Journal
 journalOf scheme n cs = journalAfter scheme n empty (map argumentOf cs)
+
+-- ---- 02's seasons (SPEC 23.3, 23.4)
+
+-- the calls of season t: those whose record given back has its number
+abbrev pub madeIn : ℕ → List Called → List Called
+madeIn t [] = []
+madeIn t (c ∷ made) = cond (eqb (c .state .season) t) (c ∷ madeIn t made) (madeIn t made)
+
+-- what calls wrote, end to end; of the calls of a season this is its book
+abbrev pub wroteAll : List Called → List ℕ
+wroteAll [] = []
+wroteAll (c ∷ made) = c .wrote ++ wroteAll made
+
+-- the seasons of the list, from season 0 with no entry and an empty open day
+abbrev pub seasonsOf : ℕ → ℕ → List Call → Seasons
+seasonsOf scheme n cs = seasonsAfter scheme n first (map argumentOf cs)
