@@ -1,4 +1,6 @@
 pub mod Claim
+pub mod Fronts
+pub mod OneSeason
 pub mod Concrete
 pub mod Detection
 pub mod Meets

@@ -15,7 +15,7 @@ use Rattle.sha256.specs.Sha256.{sha256}
 use Rattle.chains.proofs.BookLaws.{book-at, book-length}
 use Rattle.chains.proofs.Apart.{layouts-apart}
 use Rattle.service.proofs.CallLaws.{opened-number}
-use Rattle.journal.proofs.RunLaws.{open-book}
+use Rattle.journal.proofs.SeasonLaws.{open-book}
 use Rattle.checking.specs.Contract.{checkRefusal, checked}
 use Rattle.checking.proofs.RefusalLaws.{check-ready}
 use Rattle.checking.proofs.Statements.{answer-none, passes-if-stored}
@@ -25,14 +25,14 @@ use Rattle.daybook.specs.OtherLayout.{atSealing, atChecking, OtherLayout
 
 pub other-layout-fails : OtherLayoutFails
 unfolding checked
-other-layout-fails s n f opens cs t m f₂ d differ x done nc =
+other-layout-fails s n f opens cs season t m f₂ d differ x done nc =
     record { anywhere = anywhere; in-place = λ begins i h l. anywhere i i h l (in-front begins i l) }
   where
     E : List (List ℕ)
-    E = sealed s n cs
+    E = sealed s n cs season
 
     W : List ℕ
-    W = wrote s n f cs
+    W = wrote s n f cs season
 
     n-ok : allowedN n ≡ true
     n-ok = setup-is s n f (sym (opened-number s n f) ∙ opens) .n-ok
@@ -49,17 +49,17 @@ other-layout-fails s n f opens cs t m f₂ d differ x done nc =
         (λ q.
         layouts-apart s n t m n-ok m-ok differ (length E) d E (ledgerDays d x) nc (getD (chains s n (length E)) j []) (getD (chains t m d) i [])
         (getD-mem (chains s n (length E)) j [] l) (getD-mem (chains t m d) i [] h)
-        (sym (e ∙ ap (λ (w : List ℕ). take 32 (drop (32 * j) w)) (open-book s n f opens cs) ∙ book-at s n E j l) ∙ q))
+        (sym (e ∙ ap (λ (w : List ℕ). take 32 (drop (32 * j) w)) (open-book s n f opens cs season) ∙ book-at s n E j l) ∙ q))
 
     -- what stands in the front that was written stands in the book
     in-front : take (length W) (x .book) ≡ W → (i : ℕ) → i < length (chains s n (length E)) →
         take 32 (drop (32 * i) (x .book)) ≡ take 32 (drop (32 * i) W)
     in-front begins i l =
-        let size = ap length (open-book s n f opens cs) ∙ book-length s n E in
+        let size = ap length (open-book s n f opens cs season) ∙ book-length s n E in
         sym (part-front 32 (32 * i) (length W) (x .book) (omega arith)) ∙ ap (λ (w : List ℕ). take 32 (drop (32 * i) w)) begins
 
 pub fails-or-collides : FailsOrCollides
-fails-or-collides s n f opens cs t m f₂ d differ x done = elim (collide-or-not sha256 (atSealing s n cs) (atChecking t m d x)) [
-  | inl nc ↦ inl (other-layout-fails s n f opens cs t m f₂ d differ x done nc)
+fails-or-collides s n f opens cs season t m f₂ d differ x done = elim (collide-or-not sha256 (atSealing s n cs season) (atChecking t m d x)) [
+  | inl nc ↦ inl (other-layout-fails s n f opens cs season t m f₂ d differ x done nc)
   | inr c ↦ inr c
 ]

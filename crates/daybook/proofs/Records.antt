@@ -18,13 +18,15 @@ use Rattle.chains.specs.Step.{startValue, linked, each, linksSlot, storesSlot, 
 use Rattle.chains.specs.Book.{bookOf}
 use Rattle.chains.proofs.BookLaws.{book-length}
 use Rattle.service.specs.declared.Record.{Record}
-use Rattle.service.specs.Contract.{fresh, opened, grown, digestOf, nextDay, added, addRefusal, closing, closeRefusal, writtenSoFar}
+use Rattle.service.specs.Contract.{fresh, opened, turns, turned, current, grown, digestOf, nextDay, added, addRefusal, closing, closeRefusal, writtenSoFar}
 use Rattle.service.proofs.CallLaws.{opened-number}
 use Rattle.journal.specs.Journal.{Journal}
-use Rattle.journal.specs.Run.{Call, add, close, called, stateAfter}
-use Rattle.journal.proofs.RunLaws.{Keeps, record-allowed, from-open, open-book}
+use Rattle.journal.specs.Run.{Call, add, close, called, stateAfter, seasonsOf}
+use Rattle.journal.proofs.RunLaws.{Keeps, record-allowed}
+use Rattle.journal.proofs.SeasonLaws.{entries-present, from-open, open-book}
 use Rattle.record_bytes.specs.Bytes.{Words, Slots, Fits}
 use Rattle.record_bytes.proofs.Laws.{record-round-trip}
+use Rattle.daybook.specs.Claim.{wrote}
 use Rattle.daybook.specs.Records.{Told, RecordsTold}
 
 -- ---- words that a hash value has
@@ -117,15 +119,27 @@ chained-next r c =
       start-fits = c .start-fits;
     }
 
+-- a new season has the start in each chain
+pub chained-current : (r : Record) → Chained r → Chained (current r)
+unfolding current turned
+chained-current r c = elim (turns r) as (λ b. Chained (cond b (turned r) r)) [
+  | true ↦ record { black-fits = c .start-fits; running-fit = same-slots 17 (r .start) (c .start-fits); start-fits = c .start-fits }
+  | false ↦ c
+]
+
+chained-grown : (r : Record) (piece : List ℕ) → Chained r → Chained (grown r piece)
+unfolding grown
+chained-grown r piece c = record { black-fits = c .black-fits; running-fit = c .running-fit; start-fits = c .start-fits }
+
 chained-unless : (x : ℕ) (new old : Record) → Chained new → Chained old → Chained (unlessRefused x new old)
 chained-unless zero new old n o = n
 chained-unless (suc x) new old n o = o
 
 pub chained-called : (r : Record) (c : Call) → Chained r → Chained (called r c .state)
-unfolding added closing grown
+unfolding added closing
 chained-called r (add piece) h =
-    chained-unless (addRefusal r (length piece)) (grown r piece) r (record { black-fits = h .black-fits; running-fit = h .running-fit; start-fits = h .start-fits }) h
-chained-called r (close part) h = chained-unless (closeRefusal r (length part)) (nextDay r) r (chained-next r h) h
+    chained-unless (addRefusal r (length piece)) (grown (current r) piece) r (chained-grown (current r) piece (chained-current r h)) h
+chained-called r (close part) h = chained-unless (closeRefusal r (length part)) (nextDay (current r)) r (chained-next (current r) (chained-current r h)) h
 
 chained-after : (r : Record) (cs : List Call) → Chained r → Chained (stateAfter r cs)
 chained-after r [] h = h
@@ -164,6 +178,7 @@ module _ {s n f : ℕ} {j : Journal} {r : Record} (k : Keeps s n f j r) (c : Cha
         running-fit = c .running-fit;
         block-many = ap (λ (h : Hasher). length (h .block)) (k .open-day) ∙ begun-block (0 ∷ j .day);
         start-fits = c .start-fits;
+        season-fits = omega (arith, k .season-most);
       }
 
   told-kept : (written : List ℕ) → written ≡ bookOf s n (j .entries) → Told r written
@@ -179,4 +194,7 @@ module _ {s n f : ℕ} {j : Journal} {r : Record} (k : Keeps s n f j r) (c : Cha
 
 pub records-told : RecordsTold
 records-told s n f opens cs =
-    told-kept (from-open s n f opens cs .state) (chained-after (opened s n f .state) cs (chained-open s n f opens)) _ (open-book s n f opens cs)
+    let r = stateAfter (opened s n f .state) cs in
+    let here = from-open s n f opens cs .state in
+    told-kept (here .keeps) (chained-after (opened s n f .state) cs (chained-open s n f opens)) (wrote s n f cs (r .season))
+    (open-book s n f opens cs (r .season) ∙ ap (bookOf s n) (entries-present (seasonsOf s n cs) (r .season) (sym (here .season-is))))

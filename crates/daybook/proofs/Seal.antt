@@ -15,21 +15,19 @@ use Rattle.layouts.proofs.Coverage.{chains-suc, chains-front}
 use Rattle.ledger.specs.Ledger.{dayAt, daysOf}
 use Rattle.ledger.proofs.DayLaws.{days-none, days-snoc, days-length, days-at, days-at-length}
 use Rattle.chains.specs.Book.{bookOf}
-use Rattle.journal.specs.Journal.{Journal, empty, Argument, adds, closes, testsOf, refusalOf, entered, kept, journalAfter}
+use Rattle.journal.specs.Journal.{Journal, empty, Argument, adds, closes, testsOf, refusalOf, entered}
+use Rattle.journal.specs.Seasons.{Seasons, first, keptIn, seasonsAfter, entriesOf}
 use Rattle.journal.specs.Run.{argumentOf}
+use Rattle.journal.proofs.SeasonLaws.{only, taken-only}
 use Rattle.service.proofs.CallLaws.{opened-number}
 use Rattle.sealing.specs.Contract.{sealRefusal, sealedBook}
 use Rattle.sealing.proofs.SealLaws.{Sealable, sealable}
 use Rattle.daybook.specs.Claim.{sealed, wrote, dayCalls, sealCalls, SealClaim}
 use Rattle.daybook.proofs.Claim.{demand-3}
 
-journal-append : (s n : ℕ) (xs ys : List Argument) (j : Journal) → journalAfter s n j (xs ++ ys) ≡ journalAfter s n (journalAfter s n j xs) ys
-journal-append s n [] ys j = refl
-journal-append s n (a ∷ xs) ys j = journal-append s n xs ys (kept s n j a)
-
--- a call that the journal takes
-taken : (s n : ℕ) (j : Journal) (a : Argument) → refusalOf s n j a ≡ 0 → kept s n j a ≡ entered j a
-taken s n j a e = rw e
+seasons-append : (s n : ℕ) (xs ys : List Argument) (d : Seasons) → seasonsAfter s n d (xs ++ ys) ≡ seasonsAfter s n (seasonsAfter s n d xs) ys
+seasons-append s n [] ys d = refl
+seasons-append s n (a ∷ xs) ys d = seasons-append s n xs ys (keptIn s n d a)
 
 module _ (s n f d : ℕ) (ledger ends book : List ℕ) (ok : Sealable s n f d ledger ends book) where
   abbrev D : List (List ℕ)
@@ -77,10 +75,10 @@ module _ (s n f d : ℕ) (ledger ends book : List ℕ) (ok : Sealable s n f d le
       (le-leb (32 * length (chainsOfDay s n (suc (length (daysOf ledger ends i))))) (length (rest i)) room, tt),
     )
 
-    day-more : journalAfter s n (sealedTo i) (map argumentOf (dayCalls s n D book (suc i))) ≡ sealedTo (suc i)
+    day-more : seasonsAfter s n (only (sealedTo i)) (map argumentOf (dayCalls s n D book (suc i))) ≡ only (sealedTo (suc i))
     day-more =
-        ap (λ (j : Journal). kept s n j (closes (length (rest i)))) (taken s n (sealedTo i) (adds day) add-taken) ∙ taken s n grown (closes (length (rest i))) close-taken ∙
-        ap (λ (l : List (List ℕ)). record { entries = l; day = [] }) (ap (λ (b : List ℕ). daysOf ledger ends i ++ (b ∷ [])) day-is ∙ sym (days-snoc ledger ends i))
+        ap (λ (d : Seasons). keptIn s n d (closes (length (rest i)))) (taken-only s n (sealedTo i) (adds day) add-taken) ∙ taken-only s n grown (closes (length (rest i))) close-taken ∙
+        ap (λ (l : List (List ℕ)). only (record { entries = l; day = [] })) (ap (λ (b : List ℕ). daysOf ledger ends i ++ (b ∷ [])) day-is ∙ sym (days-snoc ledger ends i))
 
   calls-more : (i : ℕ) → argumentsTo (suc i) ≡ argumentsTo i ++ map argumentOf (dayCalls s n D book (suc i))
   unfolding flatMap
@@ -90,15 +88,15 @@ module _ (s n f d : ℕ) (ledger ends book : List ℕ) (ok : Sealable s n f d le
       ap (map argumentOf) (flatMap-append (dayCalls s n D book) (days i) (suc i ∷ []) ∙ ap (λ l. flatMap (dayCalls s n D book) (days i) ++ l) (append-nil (dayCalls s n D book (suc i)))) ∙
       map-append argumentOf (flatMap (dayCalls s n D book) (days i)) (dayCalls s n D book (suc i))
 
-  sealed-to : (i : ℕ) → i ≤ d → journalAfter s n empty (argumentsTo i) ≡ sealedTo i
+  sealed-to : (i : ℕ) → i ≤ d → seasonsAfter s n first (argumentsTo i) ≡ only (sealedTo i)
   unfolding flatMap
-  sealed-to zero h = ap (λ (l : List (List ℕ)). record { entries = l; day = [] }) (sym (days-none ledger ends))
+  sealed-to zero h = ap (λ (l : List (List ℕ)). only (record { entries = l; day = [] })) (sym (days-none ledger ends))
   sealed-to (suc i) h =
-      ap (journalAfter s n empty) (calls-more i) ∙ journal-append s n (argumentsTo i) (map argumentOf (dayCalls s n D book (suc i))) empty ∙
-      ap (λ (j : Journal). journalAfter s n j (map argumentOf (dayCalls s n D book (suc i)))) (sealed-to i (omega arith)) ∙ day-more i h
+      ap (seasonsAfter s n first) (calls-more i) ∙ seasons-append s n (argumentsTo i) (map argumentOf (dayCalls s n D book (suc i))) first ∙
+      ap (λ (e : Seasons). seasonsAfter s n e (map argumentOf (dayCalls s n D book (suc i)))) (sealed-to i (omega arith)) ∙ day-more i h
 
-  days-are : sealed s n (sealCalls s n d D book) ≡ D
-  days-are = ap (λ (j : Journal). j .entries) (sealed-to d (omega arith))
+  days-are : sealed s n (sealCalls s n d D book) 0 ≡ D
+  days-are = ap (λ (e : Seasons). entriesOf e 0) (sealed-to d (omega arith))
 
 not-refused : (s n f d : ℕ) (ledger ends book : List ℕ) → sealedBook s n f d ledger ends book .answer ≡ Done → sealRefusal s n f d ends (length ledger) (length book) ≡ 0
 unfolding sealedBook
@@ -120,5 +118,5 @@ seal-claim s n f d ledger ends book e =
     let cs = sealCalls s n d (daysOf ledger ends d) book in
     let g = demand-3 s n f (opened-number s n f ∙ ok .setup) cs in
     let days-are = days-are s n f d ledger ends book ok in
-    let w : wrote s n f cs ≡ bookOf s n (daysOf ledger ends d) = g .book ∙ ap (bookOf s n) days-are in
+    let w : wrote s n f cs 0 ≡ bookOf s n (daysOf ledger ends d) = g .season 0 .book ∙ ap (bookOf s n) days-are in
     record { days-sealed = days-are; book-written = book-of-seal s n f d ledger ends book z ∙ ap (λ (b : List ℕ). b ++ drop (length b) book) (sym w); guarantee = g }

@@ -67,5 +67,5 @@ module _ (n f d : ℕ) (E : List (List ℕ)) (W : List ℕ) (x : Handed) (fit : 
       none-left u z = keep-all (λ g. leb g (d - u)) X (λ g m. let w = changed-within d E (ledgerDays d x) g m in le-leb g (d - u) (omega arith))
 
 pub search-claim : SearchClaim
-search-claim n f opens cs d x fit apart limit =
-    sought n f d (sealed 3 n cs) (wrote 3 n f cs) x fit (demand-3 3 n f opens cs .every d x fit apart) limit
+search-claim n f opens cs t d x fit apart limit =
+    sought n f d (sealed 3 n cs t) (wrote 3 n f cs t) x fit (demand-3 3 n f opens cs .season t .every d x fit apart) limit

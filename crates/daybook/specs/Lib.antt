@@ -1,4 +1,5 @@
 pub mod Claim
+pub mod OneSeason
 pub mod Detection
 pub mod Records
 pub mod Sizing

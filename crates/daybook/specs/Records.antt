@@ -1,5 +1,5 @@
 -- The record that any list of calls leaves (SPEC 15.4, 15.5): its bytes say it again, and it knows how many values the
--- calls have written.
+-- calls of its season have written.
 use mathlib.Core.Path.{_≡_}
 use mathlib.Core.List.{List}
 use Prim.Native.Nat.{ℕ, _*_}
@@ -7,8 +7,9 @@ use lib.ListN.{length}
 use Rattle.refusals.specs.Refusals.{numberOf}
 use Rattle.service.specs.declared.Record.{Record}
 use Rattle.service.specs.Contract.{opened, writingNumber, countOf, writtenSoFar}
-use Rattle.journal.specs.Run.{Call, stateAfter, bookWritten}
+use Rattle.journal.specs.Run.{Call, stateAfter}
 use Rattle.record_bytes.specs.Bytes.{Fits, recordBytes, recordOf}
+use Rattle.daybook.specs.Claim.{wrote}
 
 pub record Told (r : Record) (written : List ℕ) : Type 0 where
   -- sizes and numbers are those of the record's type, so decoding undoes encoding
@@ -21,4 +22,4 @@ pub record Told (r : Record) (written : List ℕ) : Type 0 where
 abbrev pub RecordsTold : Type 0
 RecordsTold =
     (scheme n f : ℕ) → numberOf (opened scheme n f .answer) ≡ 0 → (cs : List Call) →
-    Told (stateAfter (opened scheme n f .state) cs) (bookWritten (opened scheme n f .state) cs)
+    let r = stateAfter (opened scheme n f .state) cs in Told r (wrote scheme n f cs (r .season))

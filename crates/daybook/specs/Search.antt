@@ -42,10 +42,10 @@ pub record Sought (n f : ℕ) (sealedDays : List (List ℕ)) (d : ℕ) (x : Hand
   pub all-found : progress .undecided ≡ 0 → daysFound n f d x limit progress ≡ changedDays sealedDays d x
   pub bound : progress .undecided ≡ 0 → progress .looked ≤ ones d + 2 * length (changedDays sealedDays d x) * lg d
 
--- from an accepted open of the tree, for every list of calls and every limit; search takes no P, and the premises' P
+-- from an accepted open of the tree, for every list of calls, every season and every limit; search takes no P, and the premises' P
 -- may be any that 19 lets pass
 abbrev pub SearchClaim : Type 0
 SearchClaim =
-    (n f : ℕ) → numberOf (opened 3 n f .answer) ≡ 0 → (cs : List Call) (d : ℕ) (x : Handed) →
-    Premises 3 n f (sealed 3 n cs) (wrote 3 n f cs) d x → SealedApart 3 n (sealed 3 n cs) d x →
-    (limit : ℕ) → Sought n f (sealed 3 n cs) d x limit
+    (n f : ℕ) → numberOf (opened 3 n f .answer) ≡ 0 → (cs : List Call) (t d : ℕ) (x : Handed) →
+    Premises 3 n f (sealed 3 n cs t) (wrote 3 n f cs t) d x → SealedApart 3 n (sealed 3 n cs t) d x →
+    (limit : ℕ) → Sought n f (sealed 3 n cs t) d x limit

@@ -95,4 +95,4 @@ countsAfter (case-of-counting.Refused number) counts = counts
 
 -- the version of the calls: 10000 · major + 100 · minor + patch
 abbrev pub version : ℕ
-version = 800
+version = 900

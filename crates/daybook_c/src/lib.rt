@@ -300,5 +300,5 @@ pub extern "C" fn daybook_tile_counts(n: u32, k: u32, counts: &mut [u32; 2]) -> 
 pub extern "C" fn daybook_version() -> u32
     ensures { λ r. ⌜ r ≡ version ⌝ }
 {
-    800
+    900
 }

@@ -45,19 +45,19 @@ entries-other (x ∷ l) E F zero h = refl
 entries-other (x ∷ l) E F (suc t) h = entries-other l E F t (λ e. h (ap suc e))
 
 -- the present season's are those of its number
-entries-present : (d : Seasons) (t : ℕ) → length (d .past) ≡ t → entriesOf d t ≡ d .present .entries
+pub entries-present : (d : Seasons) (t : ℕ) → length (d .past) ≡ t → entriesOf d t ≡ d .present .entries
 entries-present d t e = rw (← e) (getD-append-seam (d .past) (d .present .entries) [] [])
 
 -- ---- the turn of the diary
 
-abbrev next : Seasons → Seasons
+abbrev pub next : Seasons → Seasons
 next d = record { past = d .past ++ (d .present .entries ∷ []); present = empty }
 
-current-next : (d : Seasons) → turns d ≡ true → current d ≡ next d
+pub current-next : (d : Seasons) → turns d ≡ true → current d ≡ next d
 unfolding current
 current-next d e = rw e
 
-current-stays : (d : Seasons) → turns d ≡ false → current d ≡ d
+pub current-stays : (d : Seasons) → turns d ≡ false → current d ≡ d
 unfolding current
 current-stays d e = rw e
 
@@ -176,7 +176,7 @@ module _ {s n f : ℕ} {d : Seasons} {r : Record} (k : InSeason s n f d r) where
       either true = refl
       either false = refl
 
-  taken-entries : (c : Call) (t : ℕ) → (length (current d .past) ≡ t → ⊥) → entriesOf (enteredIn (current d) (argumentOf c)) t ≡ entriesOf d t
+  pub taken-entries : (c : Call) (t : ℕ) → (length (current d .past) ≡ t → ⊥) → entriesOf (enteredIn (current d) (argumentOf c)) t ≡ entriesOf d t
   taken-entries c t h = entries-other (current d .past) (entered (current d .present) (argumentOf c) .entries) (current d .present .entries) t h ∙ entries-current d t
 
   book-taken : (c : Call) (t : ℕ) → refusalIn s n d (argumentOf c) ≡ 0 →
@@ -274,7 +274,7 @@ pub from-open : (s n f : ℕ) → numberOf (opened s n f .answer) ≡ 0 → (cs 
 from-open s n f e cs = all-calls (in-open s n f e) cs
 
 -- the book of season t, and all books end to end
-no-entries : (t : ℕ) → entriesOf first t ≡ []
+pub no-entries : (t : ℕ) → entriesOf first t ≡ []
 no-entries zero = refl
 no-entries (suc t) = refl
 
@@ -296,7 +296,7 @@ full-5 : (s n : ℕ) (j : Journal) (a : Argument) → bookLimit ≤ length (j .e
 full-5 s n j (adds piece) h = rw (le-ltb (length (j .entries)) bookLimit h)
 full-5 s n j (closes size) h = rw (le-ltb (length (j .entries)) bookLimit h)
 
-abbrev only : Journal → Seasons
+abbrev pub only : Journal → Seasons
 only j = record { past = []; present = j }
 
 module _ (s n : ℕ) where
@@ -312,6 +312,9 @@ module _ (s n : ℕ) where
       go : (x : ℕ) → unlessRefused x (enteredIn (only j) a) (only j) ≡ only (unlessRefused x (entered j a) j)
       go zero = refl
       go (suc x) = refl
+
+  pub taken-only : (j : Journal) (a : Argument) → refusalOf s n j a ≡ 0 → keptIn s n (only j) a ≡ only (entered j a)
+  taken-only j a e = kept-only j a (none-left j a (λ q. let z : _≡_ {A = ℕ} 5 0 = q ∙ e in absurd (omega arith))) ∙ rw e
 
   pub stays-first : (j : Journal) (args : List Argument) → (5 among refusals s n j args → ⊥) →
       (seasonsAfter s n (only j) args ≡ only (journalAfter s n j args)) × (refusalsIn s n (only j) args ≡ refusals s n j args)
