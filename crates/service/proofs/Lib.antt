@@ -2,3 +2,4 @@ pub mod RecordLaws
 pub mod CallLaws
 pub mod DayLaws
 pub mod BlockLaws
+pub mod Statements

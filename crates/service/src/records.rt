@@ -105,9 +105,10 @@ pub fn turned(state: Record) -> Record
     requires { ⌜ state .season < lastSeason ⌝ }
     ensures { λ r. ⌜ r ≡ spec.turned state ⌝ }
 {
-    let day = hasher::begin(0);
-    let hash = day.words;
-    let block = day.block;
+    let empty = hasher::begin(0);
+    let hash = empty.words;
+    let block = empty.block;
+    let black = state.start;
     let start = state.start;
     Record {
         scheme: state.scheme,
@@ -117,7 +118,7 @@ pub fn turned(state: Record) -> Record
         bytes: 0,
         hash,
         block,
-        black: start,
+        black,
         running: [start; 17],
         start,
         season: state.season + 1,
