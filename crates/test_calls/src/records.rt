@@ -2,25 +2,34 @@
 use crate::lines;
 use test_samples::days;
 
-// The lowest bytes of the five numbers.
-fn print_numbers(state: &[u8; 724]) {
-    lines::bytes(&[state[0], state[4], state[8], state[12], state[16]]);
+// The lowest bytes of the six numbers.
+fn print_numbers(state: &[u8; 728]) {
+    lines::bytes(
+        &[
+            state[0],
+            state[4],
+            state[8],
+            state[12],
+            state[16],
+            state[724],
+        ],
+    );
 }
 
 // The start of a chain.
-fn print_start(state: &[u8; 724]) {
+fn print_start(state: &[u8; 728]) {
     let all = &state[..];
     lines::bytes(&all[692..724]);
 }
 
-fn open(state: &mut [u8; 724]) {
+fn open(state: &mut [u8; 728]) {
     lines::head(b"open", daybook_c::daybook_open(2, 8, 3, state));
     print_numbers(state);
     print_start(state);
     lines::end();
 }
 
-fn add(state: &mut [u8; 724], g: usize) {
+fn add(state: &mut [u8; 728], g: usize) {
     let piece = days::bytes(g);
     let mut blocks = 97u32;
     lines::head(b"add", daybook_c::daybook_add(state, &piece, &mut blocks));
@@ -30,7 +39,7 @@ fn add(state: &mut [u8; 724], g: usize) {
 }
 
 // The part has more than the five values of a whole tile.
-fn close(state: &mut [u8; 724]) {
+fn close(state: &mut [u8; 728]) {
     let mut part = [170u8; 200];
     let mut values = 99u32;
     let mut blocks = 97u32;
@@ -43,7 +52,7 @@ fn close(state: &mut [u8; 724]) {
     lines::end();
 }
 
-fn days(state: &mut [u8; 724]) {
+fn days(state: &mut [u8; 728]) {
     let mut g = 1usize;
     while g < 10 {
         add(state, g);
@@ -52,7 +61,7 @@ fn days(state: &mut [u8; 724]) {
     }
 }
 
-fn record_values(state: &[u8; 724]) {
+fn record_values(state: &[u8; 728]) {
     let mut values = 99u32;
     lines::head(
         b"record_values",
@@ -63,7 +72,7 @@ fn record_values(state: &[u8; 724]) {
 }
 
 pub fn run() {
-    let mut state = [170u8; 724];
+    let mut state = [170u8; 728];
     open(&mut state);
     days(&mut state);
     record_values(&state);

@@ -33,6 +33,7 @@ fn record(
     black: Value,
     running: [Value; 17],
     start: Value,
+    season: u32,
 ) -> Record {
     let day = hasher::begin(0);
     let hash = day.words;
@@ -48,12 +49,46 @@ fn record(
         black,
         running,
         start,
+        season,
     }
 }
 
 // A record with any numbers and with values of its own: black 0, slot i the value i + 1, the start the value 18.
-pub fn made_up(scheme: u32, n: u32, f: u32, days: u32, bytes: u32) -> Record {
-    record(scheme, n, f, days, bytes, value(0), slots(), value(18))
+pub fn made_up(scheme: u32, n: u32, f: u32, season: u32, days: u32, bytes: u32) -> Record {
+    record(
+        scheme,
+        n,
+        f,
+        days,
+        bytes,
+        value(0),
+        slots(),
+        value(18),
+        season,
+    )
+}
+
+// The record that a call is made on: the next season's, each chain at the record's start, where the season is full and
+// not the last.
+pub fn current(state: Record) -> Record {
+    if state.days < 65536 {
+        return state;
+    }
+    if 65535 <= state.season {
+        return state;
+    }
+    let v = state.start;
+    record(
+        state.scheme,
+        state.n,
+        state.f,
+        0,
+        0,
+        v,
+        [v; 17],
+        v,
+        state.season + 1,
+    )
 }
 
 // lg of the allowed N, as a byte.
@@ -77,5 +112,5 @@ pub fn fresh(scheme: u32, n: u32, f: u32) -> Record {
     let v = Value {
         words: hasher::digest(2, &layout),
     };
-    record(scheme, n, f, 0, 0, v, [v; 17], v)
+    record(scheme, n, f, 0, 0, v, [v; 17], v, 0)
 }

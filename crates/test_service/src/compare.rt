@@ -1,11 +1,11 @@
 // Records compared, by their bytes: the open day's hash at 20, the running hashes at 52, the open day's block at 628,
-// the start at 692.
+// the start at 692, the season at 724.
 use service::Record;
 use test_samples::records;
 ghost use Prim.Native.Nat.{_≤_};
 
 fn same_part(a: Record, b: Record, from: usize, to: usize) -> bool
-    requires { ⌜ (from ≤ to) × (to ≤ 724) ⌝ }
+    requires { ⌜ (from ≤ to) × (to ≤ 728) ⌝ }
 {
     let x = record_bytes::encode(a);
     let y = record_bytes::encode(b);
@@ -13,7 +13,7 @@ fn same_part(a: Record, b: Record, from: usize, to: usize) -> bool
 }
 
 pub fn same(a: Record, b: Record) -> bool {
-    same_part(a, b, 0, 724)
+    same_part(a, b, 0, 728)
 }
 
 fn same_chains(a: Record, b: Record) -> bool {
@@ -21,7 +21,7 @@ fn same_chains(a: Record, b: Record) -> bool {
 }
 
 fn same_start(a: Record, b: Record) -> bool {
-    same_part(a, b, 692, 724)
+    same_part(a, b, 692, 728)
 }
 
 fn same_day(a: Record, b: Record) -> bool {
@@ -31,12 +31,14 @@ fn same_day(a: Record, b: Record) -> bool {
 // Whether it is the record of zeros that a refused open gives.
 pub fn zeros(a: Record) -> bool {
     let x = record_bytes::encode(a);
-    let z = [0u8; 724];
+    let z = [0u8; 728];
     check::same(&x, &z)
 }
 
-// Whether next has len bytes more in its open day, and the chains and the start as before.
-pub fn grown(state: Record, next: Record, len: usize) -> bool {
+// Whether next has len bytes more in its open day than the record that the call is made on, and the chains, the start
+// and the season of that.
+pub fn grown(handed: Record, next: Record, len: usize) -> bool {
+    let state = records::current(handed);
     if next.bytes < state.bytes {
         return false;
     }
@@ -46,8 +48,10 @@ pub fn grown(state: Record, next: Record, len: usize) -> bool {
     next.days == state.days && same_chains(next, state)
 }
 
-// Whether next has one day more closed and an empty open day, and the start as before.
-pub fn next_day(state: Record, next: Record) -> bool {
+// Whether next has one day more closed than the record that the call is made on and an empty open day, and the start
+// and the season of that.
+pub fn next_day(handed: Record, next: Record) -> bool {
+    let state = records::current(handed);
     if next.days == 0 {
         return false;
     }

@@ -1,5 +1,6 @@
-// The close of day 65,536 of a made-up record, for each scheme and N 1, 8, 256. Writes, a line each: the number of
-// values (or 'NO,' and the refusal), the SHA-256 of what was written, the answers of one more add and one more close.
+// The close of day 65,536 of a made-up record, for each scheme, N 1, 8, 256 and the seasons 0, 65,534 and 65,535. Writes,
+// a line each: the number of values (or 'NO,' and the refusal) and the SHA-256 of what was written; then the answer of
+// one more add, which opens the next season but in the last; then the same two lines of one more close.
 // reference/last_day.py writes what they must be.
 use service::Record;
 use service::Writing;
@@ -21,7 +22,7 @@ fn print_close(answer: Writing, part: &[u8]) {
     print::digest_line(&part[0..n]);
 }
 
-// Writes the answers of one more add and one more close.
+// Writes the answer of one more add, and what one more close answered.
 fn print_next(state: Record, part: &mut [u8]) {
     let added = service::add(state, b"abc");
     let answer = added.answer;
@@ -29,12 +30,12 @@ fn print_next(state: Record, part: &mut [u8]) {
     let next = added.state;
     let closed = service::close(next, part);
     let writing = closed.answer;
-    print::number_line(service::writing_number(writing));
+    print_close(writing, part);
 }
 
-fn lines(scheme: u32, n: u32) {
+fn lines(scheme: u32, n: u32, season: u32) {
     let mut part = [0u8; 576];
-    let state = records::made_up(scheme, n, 1, 65535, 0);
+    let state = records::made_up(scheme, n, 1, season, 65535, 0);
     let added = service::add(state, b"abc");
     let open = added.state;
     let closed = service::close(open, &mut part);
@@ -44,10 +45,16 @@ fn lines(scheme: u32, n: u32) {
     print_next(last, &mut part);
 }
 
+fn season_lines(scheme: u32, n: u32) {
+    lines(scheme, n, 0);
+    lines(scheme, n, 65534);
+    lines(scheme, n, 65535);
+}
+
 fn scheme_lines(scheme: u32) {
-    lines(scheme, 1);
-    lines(scheme, 8);
-    lines(scheme, 256);
+    season_lines(scheme, 1);
+    season_lines(scheme, 8);
+    season_lines(scheme, 256);
 }
 
 pub fn run() {

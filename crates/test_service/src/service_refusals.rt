@@ -1,6 +1,6 @@
 // Every refusal of open, add and close, and every pair of causes at once in each call. Standard input has a line for
-// each call: its name and the numbers handed to it, which are scheme, N, F; for add and close also a record's days
-// and bytes, and the length of the piece or the part. The line is written again with the answer's number, 0 for done;
+// each call: its name and the numbers handed to it, which are scheme, N, F; for add and close also a record's season,
+// days and bytes, and the length of the piece or the part. The line is written again with the answer's number, 0 for done;
 // 'changed' stands before that number where the record or the part that comes back is not the one due.
 // reference/service_refusals.py writes both.
 use crate::compare;
@@ -62,18 +62,18 @@ fn close_part(state: Record, part: &mut [u8]) {
 }
 
 fn record(c: [u32; 11]) -> Record {
-    records::made_up(c[0], c[1], c[2], c[3], c[4])
+    records::made_up(c[0], c[1], c[2], c[3], c[4], c[5])
 }
 
 fn add(c: [u32; 11]) {
     let piece = [97u8; 4];
-    let n = input::at_most(c[5], 4);
+    let n = input::at_most(c[6], 4);
     add_piece(record(c), &piece[0..n]);
 }
 
 fn close(c: [u32; 11]) {
     let mut part = [170u8; 576];
-    let n = input::at_most(c[5], 576);
+    let n = input::at_most(c[6], 576);
     close_part(record(c), &mut part[0..n]);
 }
 
