@@ -109,6 +109,7 @@ pub fn turned(state: Record) -> Record
     let hash = empty.words;
     let block = empty.block;
     let black = state.start;
+    let slot = state.start;
     let start = state.start;
     Record {
         scheme: state.scheme,
@@ -119,7 +120,7 @@ pub fn turned(state: Record) -> Record
         hash,
         block,
         black,
-        running: [start; 17],
+        running: [slot; 17],
         start,
         season: state.season + 1,
     }

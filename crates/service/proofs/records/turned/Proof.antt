@@ -7,7 +7,7 @@ use Rattle.service.proofs.records.turned.Tie as tie
 
 returns : tie.Need-returns
 unfolding turned
-returns c = rw (c .before .before .before .before .before .begin .ensures, add-one)
+returns c = rw (c .before .before .before .before .before .before .begin .ensures, add-one)
 
 pub turned-spec : {M : Type 1} → statement M
 turned-spec = tie.close (tie.spec (λ c κs. search needs) (λ c. search needs) returns)
