@@ -14,14 +14,14 @@ are counted, and those of 4 in a tile of 2, which is refused.  Last the
 version.
 
 A line is the call, what it returned and what it wrote: of a record the lowest
-bytes of its five numbers, the blocks of an add, of a close the number of
-values, the blocks and the first 32 bytes of a part of 200, the three sizes,
-the four numbers of a chain, a position, of a book of 500 bytes and of a work
-buffer of 800 the first 32, all 20 outcomes, the five numbers and all 30 places
-of a list, the three numbers of a search and all places of its list, 30 and 9,
-the two counts.  A byte not written is 170 (aa), a number 99, one of the five
-98, of blocks 97, a size 96, one of the four 95, one of the three 94, a count
-93.
+bytes of its six numbers, the season last, and at open its start, the blocks of
+an add, of a close the number of values, the blocks and the first 32 bytes of a
+part of 200, the three sizes, the four numbers of a chain, a position, of a
+book of 500 bytes and of a work buffer of 800 the first 32, all 20 outcomes,
+the five numbers and all 30 places of a list, the three numbers of a search and
+all places of its list, 30 and 9, the two counts.  A byte not written is 170
+(aa), a number 99, one of the five 98, of blocks 97, a size 96, one of the four
+95, one of the three 94, a count 93.
 """
 
 import daybook
@@ -40,13 +40,19 @@ def line(name, returned, *written):
         for x in written)])
 
 
+def numbers_of(data):
+    """The lowest bytes of the record's numbers."""
+    return bytes(x % 256 for x in record.fields(data))
+
+
 def record_lines():
     refusal, data = record.open_service(*SETTINGS)
-    out = [line("open", refusal, data[:20:4], data[record.START:])]
+    out = [line("open", refusal, numbers_of(data),
+                data[record.START:record.SEASON])]
     for g in range(1, 10):
         blocks = record.add_blocks(data, day_bytes(g, 130))
         refusal, data = record.add(data, day_bytes(g, 130))
-        out.append(line("add", refusal, data[:20:4], blocks))
+        out.append(line("add", refusal, numbers_of(data), blocks))
         blocks = record.close_blocks(data)
         refusal, data, values = record.close(data, 200)
         part = b"".join(values) + bytes([170]) * 200

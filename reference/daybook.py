@@ -16,13 +16,14 @@ from functools import lru_cache
 from itertools import accumulate, combinations, islice
 
 DAY_LIMIT = 16_777_216      # bytes in a day
-DAYS_LIMIT = 65_536         # days in a book
+DAYS_LIMIT = 65_536         # days in a season, and so in a book
+LAST_SEASON = 65_535        # seasons count from 0
 SLOTS = 17                  # running tile or tree chains in a record
 SUBSETS_LIMIT = 12          # up to this D, reading tries every set of days
 MASKS_LIMIT = 512           # up to this D, it has the chains as masks
 TILE_LIMIT = 64             # days of a tile whose sets are counted
 SET_LIMIT = 3               # offsets in such a set
-VERSION = 800               # 10000 major + 100 minor + patch: 0.8.0
+VERSION = 900               # 10000 major + 100 minor + patch: 0.9.0
 
 BLACK, TILE, TREE = "black", "tile", "tree"
 
@@ -214,6 +215,11 @@ def days_refusal(n, f, d):
     return 0 if 1 <= d <= DAYS_LIMIT and d % (f * n) == 0 else 7
 
 
+def largest_days(n, f):
+    """The largest D that is allowed, for allowed n and f."""
+    return DAYS_LIMIT - DAYS_LIMIT % (f * n)
+
+
 def days_call_refusal(scheme, n, f, d):
     """Refusals 1 2 3 7, with which every call for D days begins."""
     return settings_refusal(scheme, n, f) or days_refusal(n, f, d)
@@ -358,7 +364,8 @@ class Record:
     level L; slots without a chain are carried along unchanged.  open_day
     holds the bytes of the open day in place of a hasher's state, so a record
     that is not refused has open_bytes == len(open_day).  start is what a slot
-    starts again with, in a record made up by hand any 32 bytes.
+    starts again with, in a record made up by hand any 32 bytes.  days are
+    those of the season alone.
     """
     scheme: int = 0
     n: int = 0
@@ -368,23 +375,32 @@ class Record:
     running: tuple = (bytes(32),) * (1 + SLOTS)
     open_day: bytes = b""
     start: bytes = bytes(32)
+    season: int = 0
 
 
-def made_up(scheme, n, f, days, running, first, open_day=b""):
-    """A record with any days closed, any running values and any start."""
+def made_up(scheme, n, f, days, running, first, open_day=b"", season=0):
+    """A record with any days closed, running values, start and season."""
     running = tuple(bytes(v) for v in running)
     assert len(running) == 1 + SLOTS
     assert all(len(v) == 32 for v in (*running, first))
     return Record(scheme, n, f, days, len(open_day), running, bytes(open_day),
-                  bytes(first))
+                  bytes(first), season)
 
 
 def record_refusal(record):
     """Refusal 6."""
     if (settings_refusal(record.scheme, record.n, record.f) != 0
-            or record.days > DAYS_LIMIT or record.open_bytes > DAY_LIMIT):
+            or record.days > DAYS_LIMIT or record.open_bytes > DAY_LIMIT
+            or record.season > LAST_SEASON
+            or (record.days == DAYS_LIMIT and record.open_bytes > 0)):
         return 6
     return 0
+
+
+def fresh(scheme, n, f, first, season):
+    """The record of a season with no day closed and an empty open day."""
+    return Record(scheme, n, f, running=(first,) * (1 + SLOTS), start=first,
+                  season=season)
 
 
 def open_service(scheme, n, f):
@@ -392,35 +408,46 @@ def open_service(scheme, n, f):
     refusal = settings_refusal(scheme, n, f)
     if refusal:
         return refusal, Record()
-    first = start(scheme, n)
-    return 0, Record(scheme, n, f, running=(first,) * (1 + SLOTS),
-                     start=first)
+    return 0, fresh(scheme, n, f, start(scheme, n), 0)
+
+
+def made_on(record):
+    """The record that an add or a close is tested and made on.
+
+    Where the season is full and not the last, it is that of the next one,
+    with the start of the record handed in.
+    """
+    if record.days == DAYS_LIMIT and record.season < LAST_SEASON:
+        return fresh(record.scheme, record.n, record.f, record.start,
+                     record.season + 1)
+    return record
 
 
 def add(record, piece):
     """(refusal, record) after a piece of the open day."""
     if record_refusal(record):
         return 6, record
-    if record.days == DAYS_LIMIT:
+    now = made_on(record)
+    if now.days == DAYS_LIMIT:
         return 5, record
-    if record.open_bytes + len(piece) > DAY_LIMIT:
+    if now.open_bytes + len(piece) > DAY_LIMIT:
         return 4, record
-    return 0, replace(record,
-                      open_bytes=record.open_bytes + len(piece),
-                      open_day=record.open_day + bytes(piece))
+    return 0, replace(now, open_bytes=now.open_bytes + len(piece),
+                      open_day=now.open_day + bytes(piece))
 
 
 def add_blocks(record, piece):
     """The blocks that an accepted add of the piece fills."""
-    hashed = 1 + record.open_bytes      # byte 00 is in front
+    hashed = 1 + made_on(record).open_bytes     # byte 00 is in front
     return (hashed + len(piece)) // 64 - hashed // 64
 
 
 def close_blocks(record):
     """The blocks that an accepted close compresses."""
-    hashed = 1 + record.open_bytes
+    now = made_on(record)
+    hashed = 1 + now.open_bytes
     return (message_blocks(hashed) - hashed // 64 + LINK_BLOCKS
-            * links(record.scheme, record.n, record.days + 1))
+            * links(now.scheme, now.n, now.days + 1))
 
 
 def close(record, part):
@@ -430,14 +457,15 @@ def close(record, part):
     """
     if record_refusal(record):
         return 6, record, 0
-    if record.days == DAYS_LIMIT:
+    now = made_on(record)
+    if now.days == DAYS_LIMIT:
         return 5, record, 0
-    scheme, n, g = record.scheme, record.n, record.days + 1
+    scheme, n, g = now.scheme, now.n, now.days + 1
     ended = names(scheme, n, g)
     if len(part) < 32 * len(ended):
         return 8, record, 0
-    h = digest(record.open_day)
-    black, slots = record.running[0], list(record.running[1:])
+    h = digest(now.open_day)
+    black, slots = now.running[0], list(now.running[1:])
     black = link(black, h)
     if scheme == 2:
         slots[0] = link(slots[0], h)
@@ -451,46 +479,70 @@ def close(record, part):
             v = black
         else:
             v = slots[index]
-            slots[index] = record.start
+            slots[index] = now.start
         part[32 * position:32 * position + 32] = v
-    return 0, replace(record, days=g, open_bytes=0,
+    return 0, replace(now, days=g, open_bytes=0,
                       running=(black, *slots), open_day=b""), len(ended)
 
 
 def record_values(record):
-    """(refusal, number of values of the days closed): refusal 6."""
+    """(refusal, number of values of its season's days closed): refusal 6."""
     if record_refusal(record):
         return 6, 0
     return 0, values_closed(record.scheme, record.n, record.days)
 
 
 class Diary:
-    """The plain account of a list of calls, fed with arguments only."""
+    """The plain account of a list of calls, fed with arguments only.
 
-    def __init__(self, scheme, n, f):
+    seasons has the entries of each season so far, season the number of the
+    present one.  A diary that starts late, in another season than 0 or with
+    entries in it, is for made-up records.
+    """
+
+    def __init__(self, scheme, n, f, season=0, entries=()):
         self.scheme, self.n, self.f = scheme, n, f
-        self.entries = []
+        self.season = season
+        self.seasons = {season: list(entries)}
         self.open_day = b""
+
+    @property
+    def entries(self):
+        """The entries of the present season."""
+        return self.seasons[self.season]
+
+    def due(self):
+        """(season, its entries, its open day) that a call is made on."""
+        entries = self.seasons[self.season]
+        if len(entries) == DAYS_LIMIT and self.season < LAST_SEASON:
+            return self.season + 1, [], b""
+        return self.season, entries, self.open_day
 
     def add(self, piece):
         """The refusal of an add."""
-        if len(self.entries) == DAYS_LIMIT:
+        season, entries, day = self.due()
+        if len(entries) == DAYS_LIMIT:
             return 5
-        if len(self.open_day) + len(piece) > DAY_LIMIT:
+        if len(day) + len(piece) > DAY_LIMIT:
             return 4
-        self.open_day += bytes(piece)
+        self._take(season, entries, day + bytes(piece))
         return 0
 
     def close(self, part_length):
         """The refusal of a close that is lent part_length bytes."""
-        if len(self.entries) == DAYS_LIMIT:
+        season, entries, day = self.due()
+        if len(entries) == DAYS_LIMIT:
             return 5
-        day = len(self.entries) + 1
-        if part_length < 32 * len(_closing(self.scheme, self.n, day)):
+        closed = _closing(self.scheme, self.n, len(entries) + 1)
+        if part_length < 32 * len(closed):
             return 8
-        self.entries.append(self.open_day)
-        self.open_day = b""
+        entries.append(day)
+        self._take(season, entries, b"")
         return 0
+
+    def _take(self, season, entries, day):
+        self.season, self.open_day = season, day
+        self.seasons[season] = entries
 
 
 def seal_refusal(scheme, n, f, d, ledger, ends, room):

@@ -1,9 +1,10 @@
-"""The service over the 724 bytes of a record.
+"""The service over the 728 bytes of a record.
 
 The record's numbers are 32 bits, little-endian: scheme, N, F, days closed,
 bytes in the open day, 8 words of the open day's hash, 8 words of the black
 chain, 17 times 8 words of tile or tree chains; then the 64 bytes of the open
-day's block; then 8 words of the start.  Every 724 bytes are a record.
+day's block; then 8 words of the start; then the season.  Every 728 bytes are
+a record.
 
 The open day's hash is SHA-256 of byte 00 and the day's bytes, stopped after
 the last full block.  hashlib cannot go on from such a state, so the
@@ -17,11 +18,12 @@ from math import isqrt
 
 import daybook
 
-SIZE = 724
+SIZE = 728
 WORDS = 20                  # offset of the hash words
 CHAINS = 52                 # offset of black, the slots follow
 BLOCK = 628                 # offset of the block
 START = 692                 # offset of the start
+SEASON = 724                # offset of the season
 MASK = 0xFFFFFFFF
 
 _LITTLE = struct.Struct("<8I")
@@ -106,8 +108,9 @@ def swap(value):
 
 
 def fields(record):
-    """scheme, N, F, days closed, bytes in the open day."""
-    return struct.unpack_from("<5I", record)
+    """scheme, N, F, days closed, bytes in the open day, season."""
+    return (*struct.unpack_from("<5I", record),
+            *struct.unpack_from("<I", record, SEASON))
 
 
 def words_of(record):
@@ -122,14 +125,18 @@ def running_of(record):
 
 def start_of(record):
     """The record's start, as a value of 32 bytes."""
-    return swap(record[START:])
+    return swap(record[START:SEASON])
 
 
 def pack(numbers, words, running, rest, first):
-    """A record; the block is rest and then zeros, first is the start."""
-    return b"".join([struct.pack("<5I", *numbers), _LITTLE.pack(*words),
+    """A record of these six numbers, as fields gives them.
+
+    The block is rest and then zeros, first is the start.
+    """
+    *five, season = numbers
+    return b"".join([struct.pack("<5I", *five), _LITTLE.pack(*words),
                      *map(swap, running), rest, bytes(64 - len(rest)),
-                     swap(first)])
+                     swap(first), struct.pack("<I", season)])
 
 
 def digest_of(record):
@@ -142,11 +149,22 @@ def digest_of(record):
 
 def refusal_of(record):
     """Refusals 6 and 5, which add and close have in common."""
-    scheme, n, f, days, count = fields(record)
+    scheme, n, f, days, count, season = fields(record)
     if (daybook.settings_refusal(scheme, n, f)
-            or days > daybook.DAYS_LIMIT or count > daybook.DAY_LIMIT):
+            or days > daybook.DAYS_LIMIT or count > daybook.DAY_LIMIT
+            or season > daybook.LAST_SEASON):
         return 6
-    return 5 if days == daybook.DAYS_LIMIT else 0
+    if days < daybook.DAYS_LIMIT:
+        return 0
+    if count:
+        return 6
+    return 5 if season == daybook.LAST_SEASON else 0
+
+
+def fresh(scheme, n, f, season, first):
+    """The record with which a season begins; first is its start."""
+    return pack((scheme, n, f, 0, 0, season), FIRST, [first] * 18, b"\0",
+                first)
 
 
 def open_service(scheme, n, f):
@@ -154,18 +172,30 @@ def open_service(scheme, n, f):
     refusal = daybook.settings_refusal(scheme, n, f)
     if refusal:
         return refusal, bytes(SIZE)
-    first = daybook.start(scheme, n)
-    return 0, pack((scheme, n, f, 0, 0), FIRST, [first] * 18, b"\0", first)
+    return 0, fresh(scheme, n, f, 0, daybook.start(scheme, n))
 
 
-def add(record, piece):
+def present(record):
+    """The record that a call goes on from, where neither 6 nor 5 is due.
+
+    Of a full season it is the next one's, of whose words and block bytes none
+    is the full season's but for the start.
+    """
+    scheme, n, f, days, _, season = fields(record)
+    if days < daybook.DAYS_LIMIT:
+        return record
+    return fresh(scheme, n, f, season + 1, start_of(record))
+
+
+def add(old, piece):
     """(refusal, record) after a piece of the open day."""
-    refusal = refusal_of(record)
+    refusal = refusal_of(old)
     if refusal:
-        return refusal, record
-    scheme, n, f, days, count = fields(record)
+        return refusal, old
+    record = present(old)
+    scheme, n, f, days, count, _ = fields(record)
     if count + len(piece) > daybook.DAY_LIMIT:
-        return 4, record
+        return 4, old
     fill = (count + 1) % 64
     words, rest = absorb(words_of(record), record[BLOCK:BLOCK + fill] + piece)
     return 0, b"".join([
@@ -176,12 +206,13 @@ def add(record, piece):
 
 def add_blocks(record, piece):
     """The blocks that an accepted add compresses: those that absorb takes."""
-    return (_fill(record) + len(piece)) // 64
+    return (_fill(present(record)) + len(piece)) // 64
 
 
 def close_blocks(record):
     """The blocks that an accepted close compresses: see finish and link."""
-    scheme, n, _, days, _ = fields(record)
+    record = present(record)
+    scheme, n, _, days, _, _ = fields(record)
     fill = _fill(record)
     ending = fill + 1 + (55 - fill) % 64 + 8
     return ending // 64 + 2 * (1 + len(linked(scheme, n, days + 1)))
@@ -193,10 +224,10 @@ def _fill(record):
 
 
 def record_values(record):
-    """(refusal, number of values of the days closed)."""
+    """(refusal, number of values of its season's days closed)."""
     if refusal_of(record) == 6:
         return 6, 0
-    scheme, n, _, days, _ = fields(record)
+    scheme, n, _, days, _, _ = fields(record)
     return 0, daybook.values_closed(scheme, n, days)
 
 
@@ -221,16 +252,17 @@ def stored(scheme, n, g):
     return list(slots), at_interval
 
 
-def close(record, room):
+def close(old, room):
     """(refusal, record, values) after the close, lent room bytes."""
-    refusal = refusal_of(record)
+    refusal = refusal_of(old)
     if refusal:
-        return refusal, record, []
-    scheme, n, f, days, _ = fields(record)
+        return refusal, old, []
+    record = present(old)
+    scheme, n, f, days, _, season = fields(record)
     g = days + 1
     slots, with_black = stored(scheme, n, g)
     if room < 32 * (len(slots) + with_black):
-        return 8, record, []
+        return 8, old, []
     h = digest_of(record)
     black, *chains = running_of(record)
     black = daybook.link(black, h)
@@ -240,8 +272,8 @@ def close(record, room):
     first = start_of(record)
     for k in slots:
         chains[k] = first
-    return 0, pack((scheme, n, f, g, 0), FIRST, [black] + chains, b"\0",
-                   first), values
+    return 0, pack((scheme, n, f, g, 0, season), FIRST, [black] + chains,
+                   b"\0", first), values
 
 
 # ------------------------------------------------------ records of daybook.py
@@ -261,6 +293,6 @@ def from_daybook(record):
     data = b"\0" + record.open_day
     full = len(data) // 64 * 64
     return pack((record.scheme, record.n, record.f, record.days,
-                 record.open_bytes),
+                 record.open_bytes, record.season),
                 words_after(data[:full]), record.running, data[full:],
                 record.start)
