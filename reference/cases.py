@@ -7,6 +7,7 @@ numbers and the means to make a call and compare it.
 import hashlib
 import struct
 from array import array
+from dataclasses import replace
 from itertools import accumulate
 from math import comb
 
@@ -16,6 +17,7 @@ from wanted import count_of_chains, table_of, values_of, want_add, want_close
 
 LIMIT = daybook.DAY_LIMIT
 DAYS = daybook.DAYS_LIMIT
+LAST = daybook.LAST_SEASON
 TOP = 2 ** 32 - 1
 
 
@@ -483,8 +485,8 @@ def refused(case):
 class ByRecord:
     """What add and close must give, by record.py."""
 
-    def __init__(self, settings):
-        self.bytes = record.open_service(*settings)[1]
+    def __init__(self, first):
+        pass
 
     def add(self, old, piece, blocks):
         return want_add(old, piece, blocks)
@@ -494,10 +496,10 @@ class ByRecord:
 
 
 class ByDaybook:
-    """What add and close must give, by daybook.py."""
+    """What add and close must give, by daybook.py from its record first."""
 
-    def __init__(self, settings):
-        self.record = daybook.open_service(*settings)[1]
+    def __init__(self, first):
+        self.record = first
 
     def add(self, old, piece, blocks):
         before = self.record
@@ -514,21 +516,47 @@ class ByDaybook:
                          *numbers)
 
 
-class History:
-    """A list of calls from an accepted open on, with diary and book."""
+class Season:
+    """What the calls of one season gave; days of it are before the first."""
 
-    def __init__(self, case, n, f, service):
+    def __init__(self, days=0):
+        self.days = days
+        self.book = []
+        self.blocks = 0         # of its calls so far
+        self.taken = []         # of its calls up to each accepted close
+
+
+class History:
+    """A list of calls from an accepted open on, with diary and books.
+
+    With late, a season and days closed in it, it goes on from a made-up
+    record instead: any running values, and days of which nothing is known.
+    """
+
+    def __init__(self, case, n, f, service, late=None):
         self.case = case
         self.settings = case.scheme, n, f
-        answer, after = case.call("open", *self.settings,
-                                  case.rng.randbytes(record.SIZE))
-        case.claim(answer == 0, "open is refused")
-        self.record = after[-1]
-        self.service = service(self.settings)
-        self.diary = daybook.Diary(*self.settings)
-        self.book = []
-        self.blocks = 0         # of all calls so far
-        self.taken = []         # of all calls up to each accepted close
+        _, first = daybook.open_service(*self.settings)
+        season, days = late or (0, 0)
+        if late:
+            first = replace(first, season=season, days=days, running=tuple(
+                case.rng.randbytes(32) for _ in first.running))
+            self.record = record.from_daybook(first)
+        else:
+            answer, after = case.call("open", *self.settings,
+                                      case.rng.randbytes(record.SIZE))
+            case.claim(answer == 0, "open is refused")
+            self.record = after[-1]
+        self.service = service(first)
+        self.diary = daybook.Diary(*self.settings, season, [b""] * days)
+        self.seasons = {season: Season(days)}
+
+    def present(self):
+        """The season of the record."""
+        number = record.fields(self.record)[5]
+        self.case.claim(number == self.diary.season,
+                        "the seasons of record and diary differ")
+        return self.seasons.setdefault(number, Season())
 
     def add(self, piece):
         blocks = random_words(self.case.rng, 1)
@@ -539,13 +567,14 @@ class History:
         self.case.claim(answer == self.diary.add(piece),
                         "add and diary differ")
         if answer == 0:
-            self.blocks += after[2][0]
+            self.present().blocks += after[2][0]
         return answer
 
     def need(self):
         """The bytes that the next close writes."""
         scheme, n, _ = self.settings
-        return 32 * len(daybook.names(scheme, n, len(self.diary.entries) + 1))
+        _, entries, _ = self.diary.due()
+        return 32 * len(daybook.names(scheme, n, len(entries) + 1))
 
     def close(self, part):
         values, blocks = random_words(self.case.rng, 2)
@@ -557,50 +586,82 @@ class History:
         self.case.claim(answer == self.diary.close(len(part)),
                         "close and diary differ")
         if answer == 0:
-            self.book.append(after[1][:32 * after[2][0]])
-            self.blocks += after[3][0]
-            self.taken.append(self.blocks)
+            season = self.present()
+            season.book.append(after[1][:32 * after[2][0]])
+            season.blocks += after[3][0]
+            season.taken.append(season.blocks)
         return answer
 
     def count(self):
-        """The record's number of values is that of the book so far."""
+        """The record's values are those of its season's book so far."""
+        scheme, n, _ = self.settings
+        season = self.present()
+        before = daybook.values_closed(scheme, n, season.days)
         answer, after = self.case.call("record_values", self.record,
                                        random_words(self.case.rng, 1))
-        self.case.claim(answer == 0 and 32 * after[1][0]
-                        == sum(map(len, self.book)),
+        self.case.claim(answer == 0 and 32 * (after[1][0] - before)
+                        == sum(map(len, season.book)),
                         "the values of the record are not those written")
 
-    def compare_forecast(self):
-        """The blocks up to each close are the forecast; so says the call."""
-        scheme, n, f = self.settings
-        lengths = [len(day) for day in self.diary.entries]
-        due = accumulate(daybook.day_blocks(scheme, n, g, b)
-                         for g, b in enumerate(lengths, 1))
-        self.case.claim(self.taken == list(due),
+    def compare_seasons(self):
+        """Each season by itself: its book, its blocks against forecasts."""
+        self.case.claim(self.seasons.keys() == self.diary.seasons.keys(),
+                        "not the seasons of the diary")
+        for number in self.seasons:
+            self.compare_blocks(number)
+            if not self.seasons[number].days:
+                self.compare_book(number)
+                self.compare_forecast(number)
+
+    def compare_book(self, number):
+        """The book of a season is that of the diary's entries of it."""
+        scheme, n, _ = self.settings
+        days = self.diary.seasons[number]
+        make = daybook.book if len(days) <= 40 else daybook.seal_book
+        self.case.claim(b"".join(self.seasons[number].book)
+                        == make(scheme, n, days),
+                        "the book is not that of the diary's entries")
+
+    def compare_blocks(self, number):
+        """The blocks of a season up to each close are those of its days."""
+        scheme, n, _ = self.settings
+        season, entries = self.seasons[number], self.diary.seasons[number]
+        due = accumulate(
+            daybook.day_blocks(scheme, n, g, len(entries[g - 1]))
+            for g in range(season.days + 1, len(entries) + 1))
+        self.case.claim(season.taken == list(due),
                         "the blocks taken are not those of the days")
-        rng, allowed = self.case.rng, range(f * n, len(lengths) + 1, f * n)
-        for d in rng.sample(allowed, min(3, len(allowed))):
+
+    def compare_forecast(self, number):
+        """The forecast says what the calls of a season took."""
+        scheme, n, f = self.settings
+        rng, taken = self.case.rng, self.seasons[number].taken
+        lengths = [len(day) for day in self.diary.seasons[number]]
+        allowed = range(f * n, len(lengths) + 1, f * n)
+        for d in {*rng.sample(allowed, min(2, len(allowed))), *allowed[-1:]}:
             rest = random_words(rng, rng.randrange(3))
             answer, after = self.case.call(
                 "forecast", scheme, n, f, d, lengths[:d] + rest,
                 random_words(rng, 3))
-            self.case.claim(answer == 0 and after[-1][2] == self.taken[d - 1],
+            self.case.claim(answer == 0 and after[-1][2] == taken[d - 1],
                             "forecast is not what the calls took")
 
-    def compare_book(self):
-        scheme, n, _ = self.settings
-        days = self.diary.entries
-        make = daybook.book if len(days) <= 40 else daybook.seal_book
-        self.case.claim(b"".join(self.book) == make(scheme, n, days),
-                        "the book is not that of the diary's entries")
+
+def late_in_a_season(rng):
+    """(season, days closed), with a turn or the very end a few closes on."""
+    season = rng.choice((0, 0, 1, LAST - 2, LAST - 1, LAST - 1, LAST,
+                         rng.randrange(LAST)))
+    return season, DAYS - rng.choice((0, 0, 1, 1, 2, 3, 5))
 
 
 def history(case):
+    """A list of calls from an open on, or from late in a season."""
     rng = case.rng
     n = 1 << (rng.randrange(5) if rng.random() < 0.9 else rng.randrange(9))
     f = 1 if case.scheme == 3 else rng.randint(1, 64)
     service = ByRecord if rng.random() < 0.4 else ByDaybook
-    calls = History(case, n, f, service)
+    late = late_in_a_season(rng) if rng.random() < 0.4 else None
+    calls = History(case, n, f, service, late)
     calls.count()
     closing = rng.choice((0.3, 0.5, 0.8))
     for _ in range(rng.choice((4, 8, 16, 16, 30))):
@@ -610,8 +671,7 @@ def history(case):
         else:
             calls.add(rng.randbytes(day_length(rng)))
     calls.count()
-    calls.compare_book()
-    calls.compare_forecast()
+    calls.compare_seasons()
 
 
 # ------------------------------------------------------------ made-up records
@@ -625,8 +685,20 @@ def start_in(rng, scheme, n):
                        daybook.start(*others)))
 
 
+def any_season(rng):
+    """A season in a made-up record: mostly allowed, often near the last."""
+    if rng.random() < 0.08:
+        return rng.choice((LAST + 1, LAST + 1, LAST + 2, 2 * LAST + 1, TOP,
+                           rng.getrandbits(32)))
+    return rng.choice((0, 0, 1, LAST - 2, LAST - 1, LAST - 1, LAST, LAST,
+                       rng.randrange(LAST)))
+
+
 def made_up(scheme, rng):
-    """A record with fields that are allowed or just not."""
+    """A record with fields that are allowed or just not.
+
+    In a third of them the season is full or nearly so.
+    """
     data = rng.randbytes(record.SIZE)
     x = rng.random()
     if x < 0.03:
@@ -641,27 +713,47 @@ def made_up(scheme, rng):
     if x < 0.2:
         scheme, n, f, _ = bad_settings(rng, scheme, n, f, d)
     if x > 0.8:
-        days = rng.choice((DAYS, DAYS, DAYS + 1, days, TOP, days))
+        days = rng.choice((DAYS, DAYS + 1, days, TOP, days))
     if x > 0.9:
         count = rng.choice((LIMIT - 1, LIMIT, LIMIT + 1, TOP))
-    return struct.pack("<5I", scheme, n, f, days, count) \
-        + data[20:record.START] + record.swap(start_in(rng, scheme, n))
+    if 0.15 < x < 0.5:
+        days = rng.choice((DAYS - 1, DAYS, DAYS, DAYS))
+        count = count if rng.random() < 0.2 else 0
+    return record_of(rng, scheme, n, f, days, count, any_season(rng),
+                     start_in(rng, scheme, n))
+
+
+def record_of(rng, scheme, n, f, days, count=0, season=0, first=None):
+    """A record with these numbers and random words and block bytes.
+
+    Its start is first, or random too.
+    """
+    return b"".join([struct.pack("<5I", scheme, n, f, days, count),
+                     rng.randbytes(record.START - record.WORDS),
+                     record.swap(first or rng.randbytes(32)),
+                     struct.pack("<I", season)])
 
 
 def made_up_calls(case):
+    """Adds and closes; at a full season a few adds are too long."""
     rng = case.rng
     current = made_up(case.scheme, rng)
     for _ in range(rng.choice((1, 1, 2, 3))):
+        scheme, n, _, days, *_ = record.fields(current)
         if rng.random() < 0.5:
             piece = rng.randbytes(rng.choice((0, 1, 2, 63, 64, 65)) if
                                   rng.random() < 0.5 else day_length(rng))
+            if days == DAYS and rng.random() < 0.02:
+                piece = bytes(LIMIT + 1)
             _, after = case.call("add", current, piece, random_words(rng, 1))
         else:
-            scheme, n, _, days, _ = record.fields(current)
             need = 32
             if record.refusal_of(current) == 0:
-                need = 32 * len(daybook.names(scheme, n, days + 1))
-            part = rng.randbytes(room(rng, need, 0.1))
+                day = 1 if days == DAYS else days + 1
+                need = 32 * len(daybook.names(scheme, n, day))
+            part = rng.randbytes(rng.choice((need, max(need - 1, 0), 0))
+                                 if rng.random() < 0.2
+                                 else room(rng, need, 0.1))
             _, after = case.call("close", current, part, random_words(rng, 1),
                                  random_words(rng, 1))
         current = after[0]
@@ -743,17 +835,11 @@ def sizes(case):
               random_words(rng, 3))
 
 
-def record_of(rng, scheme, n, f, days, count=0):
-    """A record with these numbers and random bytes behind."""
-    return struct.pack("<5I", scheme, n, f, days, count) \
-        + rng.randbytes(record.SIZE - 20)
-
-
 def count_record(case, data):
     """The values of a record: by wanted.py, and by levels if accepted."""
     answer, after = case.call("record_values", data,
                               random_words(case.rng, 1))
-    scheme, n, _, days, _ = record.fields(data)
+    scheme, n, _, days, *_ = record.fields(data)
     case.claim(answer == 6 or
                after[1][0] == count_of_chains(scheme, n, days),
                "the values of a record are not the number of chains")
@@ -919,26 +1005,208 @@ def whole_book(case):
                    and bool(listed) == bad, "the list is not as due")
 
 
-def whole_service(case):
-    """65,536 days through add and close, and on."""
-    rng = case.rng
-    n = 1 << rng.randrange(9)
-    f = 1 if case.scheme == 3 else rng.randint(1, 64)
+def whole_seasons(case):
+    """65,536 days through add and close, as many again, and one more."""
+    n, f = {1: (1, 3), 2: (256, 63), 3: (8, 1)}[case.scheme]
+    run_seasons(case, n, f)
+    if case.scheme != 3:
+        m, v = {1: (256, 63), 2: (1, 3)}[case.scheme]
+        days = [case.rng.randbytes(case.rng.randrange(4))
+                for _ in range(DAYS)]
+        check_season(case, m, v, days, daybook.seal_book(case.scheme, m, days))
+
+
+def run_seasons(case, n, f):
+    """Two seasons and a day of a third from an open on, then each by itself.
+
+    One turn is made by an add of length 0, the other by a close.
+    """
     calls = History(case, n, f, ByDaybook)
-    for _ in range(DAYS):
+    for number in (0, 1):
+        before = fill_season(calls)
+        if number == 0:
+            end_of_all(calls, before)
+        turn(calls, (case.scheme + number) % 2 == 0)
+    case.claim([len(days) for days in calls.diary.seasons.values()]
+               == [DAYS, DAYS, 1], "not all days are closed")
+    calls.count()
+    calls.compare_seasons()
+    for number in (0, 1):
+        check_season(case, n, f, calls.diary.seasons[number],
+                     b"".join(calls.seasons[number].book), number == 0)
+
+
+def fill_season(calls):
+    """Close all days of the season; gives the record before the last."""
+    rng, entries = calls.case.rng, calls.diary.entries
+    while len(entries) < DAYS:
         if rng.random() < 0.5:
             calls.add(rng.randbytes(rng.randrange(4)))
-        part = rng.randbytes(room(rng, calls.need(), 0.01))
-        if calls.close(part):
+        before = calls.record
+        if calls.close(rng.randbytes(room(rng, calls.need(), 0.01))):
             calls.close(rng.randbytes(calls.need()))
-    case.claim(len(calls.diary.entries) == DAYS, "not all days are closed")
-    for piece in (b"", b"x", bytes(100)):
-        case.claim(calls.add(piece) == 5, "add goes on")
-    for part in (b"", bytes(600)):
-        case.claim(calls.close(part) == 5, "close goes on")
+    return before
+
+
+def turn(calls, by_add):
+    """Refused calls at a full season, then the turn and day 1."""
+    case, rng, before = calls.case, calls.case.rng, calls.record
+    number = calls.diary.season
     calls.count()
-    calls.compare_book()
-    calls.compare_forecast()
+    case.claim(calls.add(bytes(LIMIT + 1)) == 4, "4 is not said at the turn")
+    need = calls.need()
+    for short in {need - 1, 0} if need else ():
+        case.claim(calls.close(rng.randbytes(short)) == 8,
+                   "8 is not said at the turn")
+    case.claim(calls.record == before, "a refused call turns")
+    calls.count()
+    if by_add:
+        case.claim(calls.add(b"") == 0, "an empty add is refused")
+        case.claim(numbers_of(calls.record) == (number + 1, 0, 0),
+                   "an empty add does not turn")
+        calls.count()
+        calls.add(rng.randbytes(3))
+    case.claim(calls.close(rng.randbytes(need)) == 0, "close is refused")
+    case.claim(numbers_of(calls.record) == (number + 1, 1, 0),
+               "day 1 is not closed")
+
+
+def numbers_of(data):
+    """Season, days closed and bytes in the open day of a record."""
+    _, _, _, days, count, season = record.fields(data)
+    return season, days, count
+
+
+def end_of_all(calls, before):
+    """The season's last close as that of the last season, and then 5."""
+    case, rng = calls.case, calls.case.rng
+    written = calls.seasons[calls.diary.season].book[-1]
+    data = before[:record.SEASON] + struct.pack("<I", LAST)
+    answer, after = case.call("close", data, rng.randbytes(len(written)),
+                              random_words(rng, 1), random_words(rng, 1))
+    case.claim(answer == 0 and after[1] == written
+               and numbers_of(after[0]) == (LAST, DAYS, 0),
+               "the last day of all is not closed as due")
+    for piece in (b"", b"x", bytes(100), bytes(LIMIT + 1)):
+        case.claim(case.call("add", after[0], piece,
+                             random_words(rng, 1))[0] == 5, "add goes on")
+    for part in (b"", bytes(600)):
+        case.claim(case.call("close", after[0], part, random_words(rng, 1),
+                             random_words(rng, 1))[0] == 5, "close goes on")
+    case.claim(count_record(case, after[0]) == 0, "its values are refused")
+
+
+def check_season(case, n, f, days, book, twice=False):
+    """The first D days of a full season, D the largest: check and read.
+
+    Three of them are altered, and with twice also none but those past D.  The
+    book handed to check is the season's whole one.
+    """
+    rng, settings = case.rng, (case.scheme, n, f)
+    d = daybook.largest_days(n, f)
+    altered = list(days)
+    for g in rng.sample(range(d), 3):
+        altered[g] += b"\0"
+    behind = days[:d] + [day + b"x" for day in days[d:]]
+    for found in (altered, behind) if twice else (altered,):
+        ledger, ends = join_days(found)
+        answer, after = case.call(
+            "check", *settings, d, ledger, ends, book,
+            rng.randbytes(32 * d), rng.randbytes(len(book) // 32))
+        case.claim(answer == 0, "check is refused")
+        answer, after = case.call("read", *settings, d,
+                                  passed_day(rng, n, f, d), after[-1],
+                                  random_words(rng, d), random_words(rng, 5))
+        listed = set(after[-2][:after[-1][0]])
+        changed = {g for g in range(1, d + 1) if days[g - 1] != found[g - 1]}
+        case.claim(answer == 0 and changed <= listed
+                   and bool(listed) == bool(changed)
+                   and (case.scheme != 3 or changed == listed),
+                   "the list of a full season is not as due")
+    for more in range(d + 1, DAYS + 1) if d > DAYS - 3 else (d + 1, DAYS):
+        lent = *settings, more
+        for name, rest in (
+                ("values", ([9],)), ("seal", (ledger, ends, book)),
+                ("check", (ledger, ends, book, bytes(32 * more), book)),
+                ("read", (0, book, [9] * more, [9] * 5)),
+                ("forecast", ([0] * more, [9] * 3))):
+            case.claim(case.call(name, *lent, *rest)[0] == 7,
+                       "a D over the largest is allowed")
+
+
+def every_turn(case):
+    """Records at the end of a season, and about it: every add and close."""
+    rng, scheme = case.rng, case.scheme
+    for n in (1, 8, 256):
+        f = 1 if scheme == 3 else rng.choice((1, 3, 63))
+        for season in (0, 1, LAST - 2, LAST - 1, LAST, LAST + 1, LAST + 2,
+                       2 ** 24, TOP):
+            for days, count in ((DAYS - 1, 0), (DAYS - 1, 63), (DAYS, 0),
+                                (DAYS, 1), (DAYS, 63), (DAYS, LIMIT),
+                                (DAYS, LIMIT + 1), (DAYS + 1, 0)):
+                data = record_of(rng, scheme, n, f, days, count, season,
+                                 start_in(rng, scheme, n))
+                adds_about_a_turn(case, data, n == 1)
+                closes_about_a_turn(case, data)
+                count_record(case, data)
+
+
+def tested_on(data):
+    """(refusal 6 or 5, season, days, bytes) that a call is made on.
+
+    By the request's words, for a scheme, N and F that are allowed.
+    """
+    season, days, count = numbers_of(data)
+    if season > LAST or days > DAYS or count > LIMIT \
+            or (days == DAYS and count > 0):
+        return 6, season, days, count
+    if days < DAYS:
+        return 0, season, days, count
+    return (5, season, days, 0) if season == LAST else (0, season + 1, 0, 0)
+
+
+def adds_about_a_turn(case, data, long):
+    """Adds of length 0, of a few bytes and, with long, of too many."""
+    rng = case.rng
+    refusal, season, days, count = tested_on(data)
+    pieces = [b"", b"a", rng.randbytes(63), rng.randbytes(200)]
+    if long and count < 2:
+        pieces.append(bytes(LIMIT - count + 1))
+    for piece in pieces:
+        want = refusal or (4 if count + len(piece) > LIMIT else 0)
+        answer, after = case.call("add", data, piece, random_words(rng, 1))
+        case.claim(answer == want, "an add about a turn")
+        case.claim(numbers_of(after[0]) == (
+            numbers_of(data) if want
+            else (season, days, count + len(piece))), "the turn of an add")
+        if want == 0:
+            case.claim(record.fields(after[0])[:3] == record.fields(data)[:3]
+                       and record.start_of(after[0]) == record.start_of(data),
+                       "scheme, N, F or start are not kept")
+            case.call("close", after[0], rng.randbytes(600),
+                      random_words(rng, 1), random_words(rng, 1))
+
+
+def closes_about_a_turn(case, data):
+    """Closes with a part long enough, a byte too short, empty and long."""
+    rng = case.rng
+    refusal, season, days, _ = tested_on(data)
+    scheme, n, *_ = record.fields(data)
+    count = len(daybook.names(scheme, n, days + 1))
+    for length in {32 * count, max(32 * count - 1, 0), 0, 600}:
+        want = refusal or (8 if length < 32 * count else 0)
+        answer, after = case.call("close", data, rng.randbytes(length),
+                                  random_words(rng, 1), random_words(rng, 1))
+        case.claim(answer == want, "a close about a turn")
+        case.claim(numbers_of(after[0]) == (
+            numbers_of(data) if want else (season, days + 1, 0)),
+            "the turn of a close")
+        if want == 0 and days == 0:
+            first = daybook.link(record.start_of(data), daybook.digest(b""))
+            case.claim(after[1][:32 * count] == first * count,
+                       "the values of day 1, an empty day")
+            case.call("close", after[0], rng.randbytes(600),
+                      random_words(rng, 1), random_words(rng, 1))
 
 
 def high_bytes(case):
@@ -946,14 +1214,14 @@ def high_bytes(case):
     rng, scheme = case.rng, case.scheme
     for count in (LIMIT - 65, LIMIT - 2, LIMIT - 1, LIMIT, LIMIT + 1, TOP):
         for length in (0, 1, 2, 3, 64, 65, 66, 200):
-            for days in (0, DAYS - 1, DAYS, DAYS + 1):
-                data = rng.randbytes(record.SIZE)
-                data = struct.pack("<5I", scheme, 1, 1, days, count) \
-                    + data[20:]
+            for days, season in ((0, 0), (DAYS - 1, LAST - 1),
+                                 (DAYS - 1, LAST), (DAYS, 0), (DAYS, LAST),
+                                 (DAYS + 1, 0), (0, LAST + 1)):
+                data = record_of(rng, scheme, 1, 1, days, count, season)
                 answer, after = case.call("add", data, rng.randbytes(length),
                                           random_words(rng, 1))
                 case.claim(answer == (
-                    6 if count > LIMIT or days > DAYS else 5 if days == DAYS
+                    6 if count > LIMIT or days >= DAYS or season > LAST
                     else 4 if count + length > LIMIT else 0),
                     "the day's limit")
                 case.call("close", after[0], rng.randbytes(600),
@@ -962,30 +1230,37 @@ def high_bytes(case):
 
 def add_big(case, current, piece, day, want):
     """An add whose hash words are judged by the open day's digest."""
-    scheme, n, f, days, count = record.fields(current)
     after, blocks = current, random_words(case.rng, 1)
     taken = blocks
+    digest = None
     if want == 0:
+        now = record.present(current)
+        scheme, n, f, days, count, season = record.fields(now)
         taken = [record.add_blocks(current, piece)]
         count += len(piece)
         rest = day[len(day) - (count + 1) % 64:] if (count + 1) % 64 else b""
-        after = record.pack((scheme, n, f, days, count), record.FIRST,
-                            record.running_of(current), rest,
-                            record.start_of(current))
-    digest = hashlib.sha256(day).digest()
+        after = record.pack((scheme, n, f, days, count, season),
+                            record.FIRST, record.running_of(now), rest,
+                            record.start_of(now))
+        digest = hashlib.sha256(day).digest()
     answer, given = case.call("add", current, piece, blocks,
                               want=(want, (after, piece, taken)), day=digest)
     return given[0], 0 if answer else taken[0]
 
 
 def big_day(case):
-    """A day of 16,777,216 bytes, in one piece and in several."""
+    """A day of 16,777,216 bytes, in one piece and in several.
+
+    It is the first day after an open, and the first after a turn.
+    """
     rng, scheme = case.rng, case.scheme
     data = rng.randbytes(LIMIT + 1)
     cuts = sorted(rng.randrange(LIMIT) for _ in range(3))
-    for bounds in ([0, LIMIT], [0, *cuts, LIMIT]):
-        _, after = case.call("open", scheme, 1, 1, rng.randbytes(record.SIZE))
-        current, total = add_big(case, after[-1], data, b"\0", 4)
+    _, fresh = case.call("open", scheme, 1, 1, rng.randbytes(record.SIZE))
+    for bounds, first in (
+            ([0, LIMIT], fresh[-1]), ([0, *cuts, LIMIT], fresh[-1]),
+            ([0, LIMIT], record_of(rng, scheme, 1, 1, DAYS, 0, LAST - 1))):
+        current, total = add_big(case, first, data, b"\0", 4)
         for a, b in zip(bounds, bounds[1:]):
             for piece, want in ((data[a:b], 0), (b"", 0),
                                 (data[:LIMIT - b + 1], 4)):
@@ -997,7 +1272,7 @@ def big_day(case):
         answer, after = case.call("close", current, part,
                                   random_words(rng, 1), random_words(rng, 1))
         case.claim(answer == 0 and after[1][:32]
-                   == daybook.link(daybook.start(scheme, 1), h),
+                   == daybook.link(record.start_of(first), h),
                    "the value of a big day")
         case.claim(total + after[3][0]
                    == daybook.forecast_blocks(scheme, 1, [LIMIT]),
@@ -1060,11 +1335,25 @@ def record_grid(case):
         count_record(case, record_of(rng, other, 4, 1, 5))
     for n in (1, 2, 16, 256):
         for days in [*range(1030), *range(DAYS - 520, DAYS + 520), TOP]:
-            answer = count_record(case, record_of(rng, scheme, n, 1, days))
+            answer = count_record(case, record_of(
+                rng, scheme, n, 1, days, 0, rng.randrange(LAST + 1)))
             case.claim(answer == (6 if days > DAYS else 0), "the days' limit")
-    for count in (1, LIMIT - 1, LIMIT, LIMIT + 1, TOP):
-        answer = count_record(case, record_of(rng, scheme, 4, 1, 5, count))
-        case.claim(answer == (6 if count > LIMIT else 0), "the day's limit")
+    for count in (0, 1, 63, LIMIT - 1, LIMIT, LIMIT + 1, TOP):
+        for season in (0, 1, LAST - 1, LAST, LAST + 1, TOP):
+            for days in (5, DAYS - 1, DAYS):
+                answer = count_record(case, record_of(
+                    rng, scheme, 4, 1, days, count, season))
+                case.claim(answer == (
+                    6 if count > LIMIT or season > LAST
+                    or (days == DAYS and count) else 0),
+                    "the limits of day and season")
+    for season in (*range(300), *range(LAST - 300, LAST + 300),
+                   *(1 << weight for weight in range(32)),
+                   *((1 << weight) + 1 for weight in range(16, 32))):
+        answer = count_record(case, record_of(rng, scheme, 4, 1, 5, 0,
+                                              season))
+        case.claim(answer == (6 if season > LAST else 0),
+                   "the limit of the seasons")
 
 
 def wide_arrays(case):
@@ -1079,6 +1368,9 @@ def wide_arrays(case):
     settings = scheme, n, f, d
     _, fresh = record.open_service(scheme, 1, 1)
     case.call("add", fresh, b"abc", [9], want=(4, (fresh, b"abc", [9])),
+              wide="piece")
+    full = record_of(rng, scheme, 1, 1, DAYS)
+    case.call("add", full, b"abc", [9], want=(4, (full, b"abc", [9])),
               wide="piece")
     answer, _ = case.call("close", fresh, rng.randbytes(64),
                           random_words(rng, 1), random_words(rng, 1),
@@ -1269,8 +1561,8 @@ def long_table(scheme, n, days):
     return bytes(out)
 
 
-ONCE = (whole_book, whole_service, big_day, big_ledger, high_bytes,
-        settings_grid, record_grid, wide_arrays, longest_season,
+ONCE = (whole_book, whole_seasons, big_day, big_ledger, every_turn,
+        high_bytes, settings_grid, record_grid, wide_arrays, longest_season,
         every_position, longest_positions, every_search, longest_search,
         every_tile, every_layout)
 KINDS = ((round_trip, 26), (other_layout, 6), (read_table, 24),

@@ -149,6 +149,11 @@ def print_summary(counts):
                 for answer in ANSWERS[name]}
         print(f"  {name:14}" + " ".join(f"{answer}:{number}" for answer,
                                         number in seen.items()))
+    print("of these, where 65,536 days are closed:")
+    for name in ("add", "close"):
+        print(f"  {name:14}" + " ".join(
+            f"{answer}:{counts['full', name, answer]}"
+            for answer in ANSWERS[name]))
     print("null pointers: " + " ".join(
         f"{key[1]}:{number}" for key, number in sorted(
             (key, number) for key, number in counts.items()
@@ -159,6 +164,9 @@ def unseen(counts):
     """Answers and null pointers that no call had."""
     out = [f"{name} {answer}" for name in FORMS for answer in ANSWERS[name]
            if not counts["answer", name, answer]]
+    out += [f"{name} {answer} where 65,536 days are closed"
+            for name in ("add", "close") for answer in ANSWERS[name]
+            if not counts["full", name, answer]]
     out += [f"null {name}.{label}" for name, form in FORMS.items()
             for letter, label in zip(form, LABELS[name])
             if letter in "bw" and not counts["null", name + "." + label]]

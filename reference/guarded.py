@@ -217,6 +217,9 @@ class Case:
             answer, image = self.corrupt(name, answer, image, places)
         self.made += 1
         self.counts["answer", name, answer_wanted] += 1
+        if name in ("add", "close") \
+                and record.fields(arguments[0])[3] == daybook.DAYS_LIMIT:
+            self.counts["full", name, answer_wanted] += 1
         if self.verbose:
             print(f"  {brief_call(name, arguments)}\n    answer {answer}, "
                   f"expected {answer_wanted}")
