@@ -14,6 +14,7 @@ from itertools import (combinations, combinations_with_replacement,
                        permutations, product)
 from math import comb
 
+import cases as kinds
 import compare
 import daybook as db
 import last_day
@@ -24,7 +25,7 @@ import table_text_cases
 import thousand
 import wanted
 from cases import LENGTHS
-from guarded import Arena
+from guarded import Arena, Case, Different
 from pattern import day_bytes
 
 PASSED = 0
@@ -354,7 +355,8 @@ def service_bounds():
     good = dict(scheme=1, n=1, f=1, days=0, open_bytes=0)
     for field, number in [("scheme", 0), ("scheme", 4), ("n", 0), ("n", 3),
                           ("n", 512), ("f", 0), ("f", 65), ("days", 65_537),
-                          ("open_bytes", limit + 1)]:
+                          ("open_bytes", limit + 1), ("season", 65_536),
+                          ("season", 2 ** 32 - 1)]:
         record = db.Record(**{**good, field: number})
         expect("add 6", db.add(record, b""), (6, record))
         expect("close 6", db.close(record, bytearray()), (6, record, 0))
@@ -363,12 +365,16 @@ def service_bounds():
     expect("zeros", db.add(db.Record(), b"")[0], 6)
 
     # Order: 6 before 5 before 4 or 8.
-    full = db.Record(scheme=1, n=1, f=1, days=65_536, open_bytes=limit)
-    expect("add 5 before 4", db.add(full, b"x"), (5, full))
+    full = db.Record(scheme=1, n=1, f=1, days=65_536, season=65_535)
+    long = bytes(limit + 1)
+    expect("add 5 before 4", db.add(full, long), (5, full))
     expect("close 5 before 8", db.close(full, bytearray()), (5, full, 0))
-    worse = db.Record(scheme=1, n=1, f=0, days=65_536, open_bytes=limit)
-    expect("add 6 before 5", db.add(worse, b"x")[0], 6)
-    expect("close 6 before 5", db.close(worse, bytearray())[0], 6)
+    for worse in (replace(full, f=0), replace(full, open_bytes=1),
+                  replace(full, open_bytes=limit),
+                  replace(full, season=65_536)):
+        expect("add 6 before 5", db.add(worse, long), (6, worse))
+        expect("close 6 before 5", db.close(worse, bytearray()),
+               (6, worse, 0))
 
     for scheme, n in [(1, 1), (2, 8), (3, 1)]:
         need = 32 * len(db.names(scheme, n, n))
@@ -382,31 +388,35 @@ def service_bounds():
 
 
 def last_days():
-    """All 65,536 days through the service and the diary."""
-    for scheme, n in [(1, 1), (2, 8), (3, 4)]:
-        _, record = db.open_service(scheme, n, 1)
-        diary = db.Diary(scheme, n, 1)
+    """A season's 65,536 days through service and diary, and the next."""
+    for scheme, n, f in [(1, 1, 3), (2, 8, 63), (3, 4, 1)]:
+        _, record = db.open_service(scheme, n, f)
+        diary = db.Diary(scheme, n, f)
         book = bytearray()
+        blocks = 0
         for g in range(1, 65_537):
             piece = bytes([g % 256, g // 256 % 256])[:g % 3]
             part = bytearray(32 * len(db.names(scheme, n, g)))
+            blocks += db.add_blocks(record, piece)
             a, record = db.add(record, piece)
+            blocks += db.close_blocks(record)
             b, record, count = db.close(record, part)
             if (a, b) != (0, 0) or diary.add(piece) or diary.close(len(part)):
                 expect(f"day {g}", False, True)
             book += part
-        expect("days closed", (record.days, len(diary.entries)),
-               (65_536, 65_536))
-        expect("add on", (db.add(record, b""), diary.add(b"")),
-               ((5, record), 5))
-        expect("close on", (db.close(record, part), diary.close(0)),
-               ((5, record, 0), 5))
+        expect("days closed", (record.days, record.season, diary.season,
+                               len(diary.entries)), (65_536, 0, 0, 65_536))
+        expect("blocks", blocks,
+               db.forecast_blocks(scheme, n, [len(day) for day
+                                              in diary.entries]))
         expect("values", len(book), 32 * db.values(scheme, n, 65_536))
         expect("book", bytes(book), db.seal_book(scheme, n, diary.entries))
         expect("last value", bytes(book[-32:]),
                db.value(scheme, n, range(1, 65_537), diary.entries))
+        next_season(record, diary)
+        days = diary.seasons[0]
 
-        ledger, ends = ledger_of(diary.entries)
+        ledger, ends = ledger_of(days)
         outcomes = bytearray(db.values(scheme, n, 65_536))
         got = db.check(scheme, n, 1, 65_536, ledger, ends, book,
                        bytearray(32 * 65_536), outcomes)
@@ -416,15 +426,64 @@ def last_days():
                db.Reading("clean", last_good=65_536))
         ledger = bytearray(ledger)
         ledger[ends[39_999] - 1] ^= 1       # day 40,000 has one byte
-        db.check(scheme, n, 1, 65_536, ledger, ends, book,
-                 bytearray(32 * 65_536), outcomes)
-        result, listed = read_list(scheme, n, 1, 65_536, outcomes)
-        expect("late change", (result.kind, 40_000 in listed,
-                               result.last_good),
-               ("changed", True, (40_000 - 1) // n * n))
-        expect("late change, list", listed,
-               {1: list(range(40_000, 65_537)), 2: [40_000],
-                3: [40_000]}[scheme])
+        for v in {1, f}:
+            d = db.largest_days(n, v)
+            if d < 65_536:
+                expect("D 65,536 is 7", db.check(
+                    scheme, n, v, 65_536, ledger, ends, book,
+                    bytearray(32 * 65_536), outcomes), 7)
+            db.check(scheme, n, v, d, ledger, ends, book,
+                     bytearray(32 * d), outcomes)
+            result, listed = read_list(scheme, n, v, d, outcomes)
+            expect("late change", (result.kind, 40_000 in listed,
+                                   result.last_good, result.high),
+                   ("changed", True, (40_000 - 1) // n * n, d))
+            expect("late change, list", listed,
+                   {1: list(range(40_000, d + 1)), 2: [40_000],
+                    3: [40_000]}[scheme])
+
+
+def next_season(full, diary):
+    """From the record of season 0, full, on: refused calls, then the turn."""
+    scheme, n, f = full.scheme, full.n, full.f
+    long, need = bytes(db.DAY_LIMIT + 1), 32 * len(db.names(scheme, n, 1))
+    expect("4 at the turn", (db.add(full, long), diary.add(long)),
+           ((4, full), 4))
+    if need:
+        expect("8 at the turn", (db.close(full, bytearray(need - 1)),
+                                 diary.close(need - 1)), ((8, full, 0), 8))
+    expect("no turn", (diary.season, len(diary.entries)), (0, 65_536))
+    last = replace(full, season=65_535)
+    expect("5 in the last", (db.add(last, b""), db.add(last, long),
+                             db.close(last, bytearray(600)),
+                             db.close(last, bytearray())),
+           ((5, last), (5, last), (5, last, 0), (5, last, 0)))
+    fresh = replace(db.open_service(scheme, n, f)[1], season=1)
+    expect("a turn by an add", (db.add(full, b""), db.add(full, b"abc")),
+           ((0, fresh), db.add(fresh, b"abc")))
+    expect("a turn by a close", db.close(full, bytearray(need)),
+           db.close(fresh, bytearray(need)))
+
+    _, record = db.add(full, b"")
+    expect("diary", (diary.add(b""), diary.season, diary.entries),
+           (0, 1, []))
+    book, blocks = b"", 0
+    for g in range(1, 301):
+        piece, part = day_bytes(g, g % 5), bytearray(600)
+        blocks += db.add_blocks(record, piece)
+        a, record = db.add(record, piece)
+        blocks += db.close_blocks(record)
+        b, record, count = db.close(record, part)
+        expect("goes on", (a, b), (diary.add(piece), diary.close(600)))
+        book += part[:32 * count]
+    expect("the second season", (record.season, record.days, diary.season,
+                                 len(diary.seasons[0]), len(diary.entries)),
+           (1, 300, 1, 65_536, 300))
+    expect("its book", book, db.book(scheme, n, diary.entries))
+    expect("its values", 32 * db.record_values(record)[1], len(book))
+    expect("its blocks", blocks,
+           db.forecast_blocks(scheme, n, [len(day) for day
+                                          in diary.entries]))
 
 
 def made_up_records():
@@ -434,7 +493,7 @@ def made_up_records():
     h = db.digest(b"abc")
     for scheme in (1, 2, 3):
         for n in (1, 8, 256):
-            _, record = db.add(last_day.record(scheme, n), b"abc")
+            _, record = db.add(last_day.record(scheme, n, 65_535), b"abc")
             part = bytearray(32 * 18)
             refusal, after, count = db.close(record, part)
             if scheme == 1:
@@ -487,6 +546,319 @@ def fresh_and_restarted():
         refused = db.open_service(*settings)[1]
         expect("zeros if refused", (refused.start, set(refused.running)),
                (bytes(32), {bytes(32)}))
+
+
+# -------------------------------------------------------------------- seasons
+
+def set_limits(days, last):
+    db.DAYS_LIMIT = kinds.DAYS = days
+    db.LAST_SEASON = kinds.LAST = last
+    db._counts.cache_clear()
+
+
+@contextlib.contextmanager
+def shorter(days, last=65_535):
+    """Seasons of fewer days, or fewer of them."""
+    before = db.DAYS_LIMIT, db.LAST_SEASON
+    set_limits(days, last)
+    try:
+        yield
+    finally:
+        set_limits(*before)
+
+
+def largest_d():
+    """The largest D of a full season, whose values are the book's front."""
+    for f, n, want in [(3, 1, 65_535), (63, 256, 64_512),
+                       *((2 ** k, n, 65_536) for k in range(7)
+                         for n in SIZES)]:
+        expect(f"largest D {f} {n}", db.largest_days(n, f), want)
+    for n, f in product(SIZES, range(1, 65)):
+        d = db.largest_days(n, f)
+        expect("largest D", (db.days_refusal(n, f, d),
+                             [x for x in range(d + 1, 65_537)
+                              if db.days_refusal(n, f, x) == 0]), (0, []))
+    days = [bytes([g % 256, g // 256 % 256])[:g % 3] for g in range(65_536)]
+    for scheme, n, f in [(1, 256, 63), (2, 1, 3), (2, 256, 63)]:
+        d = db.largest_days(n, f)
+        expect("front of the book",
+               db.seal_book(scheme, n, days)[:32 * db.values(scheme, n, d)],
+               db.seal_book(scheme, n, days[:d]))
+
+
+def season_rows(need, last):
+    """docs/SPEC.md, 23.7: numbers, call, answer, numbers afterwards.
+
+    The numbers are season, days closed and open bytes; the call is a piece to
+    add, or the length of a part to close with.  need is what day 1 needs, last
+    what day 65,536 does.
+    """
+    limit = db.DAY_LIMIT
+    long = bytes(limit + 1)
+    for count in (0, 1, 63, 64, 1000):
+        yield (0, 65_535, count), last, 0, (0, 65_536, 0)
+    yield (0, 65_536, 0), b"", 0, (1, 0, 0)
+    yield (0, 65_536, 0), b"abc", 0, (1, 0, 3)
+    yield (0, 65_536, 0), long, 4, (0, 65_536, 0)
+    yield (0, 65_536, 0), need, 0, (1, 1, 0)
+    if need:
+        yield (0, 65_536, 0), need - 1, 8, (0, 65_536, 0)
+        yield (65_534, 65_536, 0), 0, 8, (65_534, 65_536, 0)
+    yield (65_534, 65_536, 0), need, 0, (65_535, 1, 0)
+    yield (65_534, 65_536, 0), b"abc", 0, (65_535, 0, 3)
+    for call in (b"", b"abc", long, 0, need, 600):
+        yield (65_535, 65_536, 0), call, 5, (65_535, 65_536, 0)
+        for days, count in ((0, 0), (7, 5), (65_535, 0), (65_536, 0),
+                            (65_536, 1)):
+            for season in (65_536, 2 ** 32 - 1):
+                numbers = season, days, count
+                yield numbers, call, 6, numbers
+        for season in (0, 1, 65_534, 65_535):
+            for count in (1, 63, limit):
+                numbers = season, 65_536, count
+                yield numbers, call, 6, numbers
+
+
+def season_examples():
+    """The examples by both services and the diary, on made-up records."""
+    rng = random.Random(11)
+    for scheme, n in [(1, 1), (1, 8), (2, 1), (2, 256), (3, 1), (3, 8)]:
+        need = 32 * len(db.names(scheme, n, 1))
+        for numbers, call, want, after in season_rows(
+                need, 32 * len(db.names(scheme, n, 65_536))):
+            season, days, count = numbers
+            plain = db.made_up(
+                scheme, n, 1, days, [rng.randbytes(32) for _ in range(18)],
+                rng.randbytes(32), bytes(count) if count < 2000 else b"",
+                season)
+            plain = replace(plain, open_bytes=count)
+            data = rec.from_daybook(plain)
+            diary = db.Diary(scheme, n, 1, season, [b""] * days)
+            diary.open_day = plain.open_day
+            told = (diary.season, len(diary.entries), len(diary.open_day))
+            if isinstance(call, bytes):
+                text = f"add of {len(call)}"
+                got, then = db.add(plain, call)
+                by_bytes = rec.add(data, call)
+                said = diary.add(call)
+            else:
+                text = f"close with {call}"
+                got, then, _ = db.close(plain, bytearray(call))
+                by_bytes = rec.close(data, call)[:2]
+                said = diary.close(call)
+            text += f" {scheme} {n} {numbers}"
+            expect(text, (got, (then.season, then.days, then.open_bytes)),
+                   (want, after))
+            expect(f"{text}, bytes", by_bytes, (got, rec.from_daybook(then)))
+            if want:
+                expect(f"{text}, kept", (then, by_bytes[1]), (plain, data))
+            if want != 6:
+                expect(f"{text}, diary", (said, (
+                    diary.season, len(diary.entries), len(diary.open_day))),
+                    (want, told if want else after))
+
+
+def turned_records():
+    """A turned record is an open's whole, but for start and season."""
+    rng = random.Random(12)
+    for scheme, n in EVERY:
+        for f in intervals(scheme)[::9]:
+            fresh = rec.open_service(scheme, n, f)[1]
+            for season, first in product((0, 1, 65_534), (
+                    db.start(scheme, n), bytes(32), rng.randbytes(32))):
+                data = (b"".join(x.to_bytes(4, "little")
+                                 for x in (scheme, n, f, 65_536, 0))
+                        + rng.randbytes(672) + rec.swap(first)
+                        + season.to_bytes(4, "little"))
+                due = (fresh[:52] + rec.swap(first) * 18 + fresh[628:692]
+                       + rec.swap(first) + (season + 1).to_bytes(4, "little"))
+                expect("turned", rec.add(data, b""), (0, due))
+                expect("turned and added to", rec.add(data, b"xyz"),
+                       rec.add(due, b"xyz"))
+                expect("turned and closed", rec.close(data, 64),
+                       rec.close(due, 64))
+                expect("blocks at the turn",
+                       (rec.add_blocks(data, bytes(63)),
+                        rec.close_blocks(data)),
+                       (1, rec.close_blocks(due)))
+                expect("the same blocks", rec.close_blocks(due),
+                       db.day_blocks(scheme, n, 1, 0))
+
+
+class Account:
+    """All days of a list of calls, end to end, cut into seasons of equal
+    length: the diary told in another way."""
+
+    def __init__(self, scheme, n):
+        self.scheme, self.n = scheme, n
+        self.days, self.open_day, self.opened = [], b"", False
+
+    def full(self):
+        return len(self.days) == db.DAYS_LIMIT * (1 + db.LAST_SEASON)
+
+    def add(self, piece):
+        if self.full():
+            return 5
+        if len(self.open_day + piece) > db.DAY_LIMIT:
+            return 4
+        self.open_day += piece
+        self.opened = True
+        return 0
+
+    def close(self, length):
+        day = len(self.days) % db.DAYS_LIMIT + 1
+        if self.full():
+            return 5
+        if length < 32 * len(db.closing(self.scheme, self.n, day)):
+            return 8
+        self.days.append(self.open_day)
+        self.open_day, self.opened = b"", False
+        return 0
+
+    def seasons(self):
+        """The entries of each season that a call has opened."""
+        limit, total = db.DAYS_LIMIT, len(self.days)
+        count = max(1, -(-total // limit))
+        if self.opened and total % limit == 0 and total:
+            count += 1
+        return {t: self.days[t * limit:(t + 1) * limit]
+                for t in range(count)}
+
+
+class Both:
+    """Both services, diary and, from an open on, account on the same calls.
+    """
+
+    def __init__(self, scheme, n, f, season=0, days=0, running=None):
+        self.settings = scheme, n, f
+        _, self.plain = db.open_service(*self.settings)
+        self.plain = replace(self.plain, season=season, days=days,
+                             running=running or self.plain.running)
+        self.data = rec.from_daybook(self.plain)
+        self.diary = db.Diary(*self.settings, season, [b""] * days)
+        self.account = Account(scheme, n) if days == season == 0 else None
+        self.late = season if days else None
+        self.books = {season: b""}
+        self.blocks = {season: 0}
+
+    def told(self, name, got, by_bytes, said, before, length):
+        """Compare the answers to a call, and what it left."""
+        expect(f"{name}, bytes", by_bytes,
+               (got, rec.from_daybook(self.plain)))
+        self.data = by_bytes[1]
+        expect(f"{name}, diary", said, got)
+        if self.account:
+            expect(f"{name}, account", getattr(self.account, name)(length),
+                   got)
+            expect("seasons", self.diary.seasons, self.account.seasons())
+        if got:
+            expect(f"{name} refused", self.plain, before)
+        expect("season", (self.plain.season, self.plain.days,
+                          self.plain.open_day),
+               (self.diary.season, len(self.diary.entries),
+                self.diary.open_day))
+        expect("record's values", db.record_values(self.plain)[0], 0)
+
+    def add(self, piece):
+        before = self.plain
+        blocks = db.add_blocks(before, piece), rec.add_blocks(self.data,
+                                                              piece)
+        got, self.plain = db.add(before, piece)
+        self.told("add", got, rec.add(self.data, piece),
+                  self.diary.add(piece), before, piece)
+        if got == 0:
+            expect("blocks of an add", blocks[0], blocks[1])
+            self.count(blocks[0], b"")
+        return got
+
+    def close(self, length):
+        before, part = self.plain, bytearray(length)
+        blocks = db.close_blocks(before), rec.close_blocks(self.data)
+        got, self.plain, count = db.close(before, part)
+        refusal, data, values = rec.close(self.data, length)
+        self.told("close", got, (refusal, data), self.diary.close(length),
+                  before, length)
+        expect("values", b"".join(values), bytes(part[:32 * count]))
+        if got == 0:
+            expect("blocks of a close", blocks[0], blocks[1])
+            self.count(blocks[0], bytes(part[:32 * count]))
+        return got
+
+    def count(self, blocks, written):
+        season = self.plain.season
+        self.books[season] = self.books.get(season, b"") + written
+        self.blocks[season] = self.blocks.get(season, 0) + blocks
+
+    def compare(self):
+        """Each season's book and blocks against those of its entries."""
+        scheme, n, _ = self.settings
+        expect("seasons", self.books.keys(), self.diary.seasons.keys())
+        for season, days in self.diary.seasons.items():
+            if season == self.late:
+                continue
+            expect(f"book of season {season}", self.books[season],
+                   db.book(scheme, n, days))
+            lengths = [len(day) for day in days]
+            due = db.forecast_blocks(scheme, n, lengths)
+            if season == self.diary.season:     # with the open day's
+                due += (1 + len(self.diary.open_day)) // 64
+            expect(f"blocks of season {season}", self.blocks[season], due)
+        present = self.diary.season
+        if present != self.late:
+            expect("values of the record", db.record_values(self.plain),
+                   (0, len(self.books[present]) // 32))
+
+    def calls(self, rng, count):
+        """Random calls, refused ones among them."""
+        seen = Counter()
+        for _ in range(count):
+            if rng.random() < 0.4:
+                piece = rng.randbytes(rng.choice((0, 0, 1, 2, 62, 63, 70)))
+                full = self.plain.days == db.DAYS_LIMIT
+                if full and rng.random() < 0.05:
+                    piece = bytes(db.DAY_LIMIT + 1)
+                seen["add", full, self.add(piece)] += 1
+            else:
+                full = self.plain.days == db.DAYS_LIMIT
+                seen["close", full, self.close(rng.choice(
+                    (600, 600, 31, 0, 64, 63)))] += 1
+        return seen
+
+
+def late_seasons():
+    """Services from late in a season on, into the next or to the end."""
+    rng = random.Random(13)
+    seen = Counter()
+    for scheme, n in EVERY:
+        for season in (0, 1, 65_533, 65_534, 65_535):
+            for days in (65_530, 65_535, 65_536):
+                both = Both(scheme, n, 1, season, days,
+                            tuple(rng.randbytes(32) for _ in range(18)))
+                seen += both.calls(rng, 24)
+                both.compare()
+    for call in (("add", True, 0), ("add", True, 4), ("add", True, 5),
+                 ("close", True, 0), ("close", True, 5), ("close", True, 8)):
+        expect(f"{call} is seen", seen[call] > 0, True)
+
+
+def short_seasons():
+    """Seasons of few days and few of them: lists that cross all of them."""
+    rng = random.Random(14)
+    for days, last in product((1, 2, 3, 4, 7, 8), (0, 1, 2, 5)):
+        with shorter(days, last):
+            for scheme, n in product((1, 2, 3), (1, 2, 4)):
+                both = Both(scheme, n, 1)
+                seen = both.calls(rng, 3 * days * (last + 1) + 8)
+                while both.close(600) == 0:
+                    pass
+                seen += both.calls(rng, 4)
+                both.compare()
+                expect("all seasons are full",
+                       [len(x) for x in both.diary.seasons.values()],
+                       [days] * (last + 1))
+                expect("and then 5", (both.add(b""), both.add(b"x"),
+                                      both.close(0), both.close(600)),
+                       (5, 5, 5, 5))
 
 
 # the books of a thousand days as they were with chains that start with zeros
@@ -1069,12 +1441,19 @@ def record_values_calls():
                           ((1, 3, 1, 0, 0), 6), ((1, 1, 65, 0, 0), 6),
                           ((3, 1, 2, 0, 0), 6), ((1, 1, 1, 65_537, 0), 6),
                           ((1, 1, 1, 0, limit + 1), 6),
-                          ((1, 1, 1, 65_536, limit), 0)]:
-        data = rec.pack(numbers, rec.FIRST, [bytes(32)] * 18, b"", bytes(32))
-        plain = db.Record(*numbers)
-        expect("values of a record refused",
-               (rec.record_values(data)[0], db.record_values(plain)[0]),
-               (want, want))
+                          ((1, 1, 1, 65_535, limit), 0),
+                          ((1, 1, 1, 65_536, 0), 0),
+                          ((1, 1, 1, 65_536, 1), 6),
+                          ((1, 1, 1, 65_536, limit), 6)]:
+        for season in (0, 1, 65_534, 65_535, 65_536, 2 ** 32 - 1):
+            due = want if season < 65_536 else 6
+            data = rec.pack((*numbers, season), rec.FIRST, [bytes(32)] * 18,
+                            b"", bytes(32))
+            plain = db.Record(*numbers, season=season)
+            count = 0 if due else numbers[3]
+            expect("values of a record, refused or not",
+                   (rec.record_values(data), db.record_values(plain)),
+                   ((due, count), (due, count)))
 
 
 # --------------------------------------------------------------------- sizing
@@ -1234,21 +1613,23 @@ def compression():
 
 
 def record_layout():
-    expect("size", len(rec.open_service(1, 1, 1)[1]), 724)
+    expect("size", len(rec.open_service(1, 1, 1)[1]), 728)
     first = hashlib.sha256(bytes([2, 2, 3])).digest()
     words = b"".join(first[k:k + 4][::-1] for k in range(0, 32, 4))
     expect("fresh", rec.open_service(2, 8, 25), (
         0, bytes([2, 0, 0, 0, 8, 0, 0, 0, 25, 0, 0, 0]) + bytes(8)
         + b"".join(w.to_bytes(4, "little") for w in rec.FIRST)
-        + words * 18 + bytes(64) + words))
-    expect("refused open", rec.open_service(0, 8, 25), (1, bytes(724)))
-    data = rec.pack((1, 2, 3, 4, 5), range(8), [bytes([k]) * 32
-                                                for k in range(18)],
+        + words * 18 + bytes(64) + words + bytes(4)))
+    expect("refused open", rec.open_service(0, 8, 25), (1, bytes(728)))
+    data = rec.pack((1, 2, 3, 4, 5, 0xABCD), range(8), [bytes([k]) * 32
+                                                        for k in range(18)],
                     b"abc", bytes(range(32)))
     expect("back", (rec.fields(data), rec.words_of(data),
                     rec.running_of(data)[17], rec.start_of(data), len(data)),
-           ((1, 2, 3, 4, 5), tuple(range(8)), bytes([17]) * 32,
-            bytes(range(32)), 724))
+           ((1, 2, 3, 4, 5, 0xABCD), tuple(range(8)), bytes([17]) * 32,
+            bytes(range(32)), 728))
+    expect("the season is last, lowest byte first", data[724:],
+           bytes([0xCD, 0xAB, 0, 0]))
     expect("swap", rec.swap(bytes(range(32)))[:8],
            bytes([3, 2, 1, 0, 7, 6, 5, 4]))
 
@@ -1280,7 +1661,7 @@ def record_made_up():
     rng = random.Random(3)
     for scheme in (1, 2, 3):
         for n in (1, 8, 256):
-            plain = last_day.record(scheme, n)
+            plain = last_day.record(scheme, n, 65_535)
             data = rec.from_daybook(plain)
             part = bytearray(600)
             refusal, plain, count = db.close(plain, part)
@@ -1292,9 +1673,10 @@ def record_made_up():
                    ((5, data), (5, data, [])))
 
     # The block's bytes past the fill have no weight and go with an add.
-    junk = bytearray(rng.randbytes(724))
-    junk[:20] = rec.pack((1, 1, 1, 7, 70), rec.FIRST, [bytes(32)] * 18,
+    junk = bytearray(rng.randbytes(728))
+    junk[:20] = rec.pack((1, 1, 1, 7, 70, 0), rec.FIRST, [bytes(32)] * 18,
                          b"", bytes(32))[:20]
+    junk[724:] = bytes([3, 0, 0, 0])
     clean = bytes(junk[:628 + 7]) + bytes(57) + junk[692:]
     for piece in (b"", b"x", bytes(57), bytes(200)):
         expect("junk in the block", rec.add(bytes(junk), piece),
@@ -1304,11 +1686,17 @@ def record_made_up():
            rec.close(clean, 32))
 
     limit = db.DAY_LIMIT
-    for days, count, length, want in [
-            (0, limit - 1, 1, 0), (0, limit - 1, 2, 4), (0, limit, 0, 0),
-            (0, limit, 1, 4), (0, limit + 1, 0, 6), (65_535, 0, 1, 0),
-            (65_536, 0, 1, 5), (65_537, 0, 1, 6), (65_536, limit, 1, 5)]:
+    for days, count, season, length, want in [
+            (0, limit - 1, 0, 1, 0), (0, limit - 1, 0, 2, 4),
+            (0, limit, 0, 0, 0), (0, limit, 0, 1, 4), (0, limit + 1, 0, 0, 6),
+            (65_535, 0, 0, 1, 0), (65_535, 0, 65_535, 1, 0),
+            (65_536, 0, 0, 1, 0), (65_536, 0, 65_534, 0, 0),
+            (65_536, 0, 65_534, limit + 1, 4), (65_536, 0, 65_535, 1, 5),
+            (65_536, 0, 65_535, limit + 1, 5), (65_537, 0, 0, 1, 6),
+            (65_536, limit, 65_535, 1, 6), (65_536, 1, 0, 0, 6),
+            (0, 0, 65_536, 0, 6), (65_536, 0, 65_536, 1, 6)]:
         junk[12:20] = days.to_bytes(4, "little") + count.to_bytes(4, "little")
+        junk[724:] = season.to_bytes(4, "little")
         refusal, after = rec.add(bytes(junk), bytes(length))
         expect("add at limits", refusal, want)
         expect("record kept", refusal == 0 or after == junk, True)
@@ -1429,7 +1817,7 @@ def comparison():
         return 5 if days == db.DAYS_LIMIT else good(record, values)
 
     def whole_intervals(good, record, values):
-        scheme, n, f, days, _ = rec.fields(stand_in.get(record, rec.SIZE))
+        scheme, n, f, days, *_ = rec.fields(stand_in.get(record, rec.SIZE))
         answer = good(record, values)
         if answer == 0:
             whole = days // (f * n) * f * n
@@ -1882,7 +2270,7 @@ def other_open(black=right_start, slots=right_start, kept=right_start,
             running = [slots if k < used else unused or slots
                        for k in range(17)]
             stand_in.put(address, rec.pack(
-                (scheme, n, f, 0, 0), rec.FIRST,
+                (scheme, n, f, 0, 0, 0), rec.FIRST,
                 [x(scheme, n, f) for x in (black, *running)], b"\0",
                 kept(scheme, n, f)))
         return answer
@@ -1904,12 +2292,13 @@ def of_scheme_1(data):
 
 def other_byte_order(data):
     """The words of the record's start read in the other byte order."""
-    return data[rec.START:]
+    return data[rec.START:rec.SEASON]
 
 
 def if_zeros(data):
     """The record's start, worked out where it is zeros."""
-    return rec.start_of(data) if any(data[rec.START:]) else worked_out(data)
+    held = rec.start_of(data)
+    return held if any(held) else worked_out(data)
 
 
 def other_close(again=rec.start_of, kept=rec.start_of,
@@ -1920,7 +2309,7 @@ def other_close(again=rec.start_of, kept=rec.start_of,
         answer = good(address, *rest)
         if answer == 0:
             after = stand_in.get(address, rec.SIZE)
-            scheme, n, f, g, _ = rec.fields(after)
+            scheme, n, f, g, _, season = rec.fields(after)
             black, *chains = rec.running_of(after)
             slots, with_black = rec.stored(scheme, n, g)
             for k in restarts(scheme, n, slots):
@@ -1928,8 +2317,8 @@ def other_close(again=rec.start_of, kept=rec.start_of,
             if black_too and with_black:
                 black = again(before)
             stand_in.put(address, rec.pack(
-                (scheme, n, f, g, 0), rec.FIRST, [black] + chains, b"\0",
-                kept(before)))
+                (scheme, n, f, g, 0, season), rec.FIRST, [black] + chains,
+                b"\0", kept(before)))
         return answer
     return fault
 
@@ -1962,7 +2351,7 @@ def start_of_refused_open(good, scheme, n, f, address):
 
 
 def no_start_written(good, scheme, n, f, address):
-    """An open that leaves the record's last 32 bytes as they were."""
+    """An open that leaves the bytes of the start as they were."""
     before = stand_in.get(address + rec.START, 32)
     answer = good(scheme, n, f, address)
     stand_in.put(address + rec.START, before)
@@ -1982,7 +2371,7 @@ def more_blocks(counts):
     def fault(good, address, *rest):
         before = stand_in.get(address, rec.SIZE)
         answer = good(address, *rest)
-        if answer == 0 and counts(*rec.fields(before)[3:]):
+        if answer == 0 and counts(*rec.fields(before)[3:5]):
             blocks, = stand_in.get_words(rest[-1], 1)
             stand_in.put_words(rest[-1], [blocks + 1])
         return answer
@@ -2275,7 +2664,9 @@ def main():
     for test in (examples, sketch_mistakes, hashes, starts, layout_tests,
                  book_tests, call_lists, pieces, service_bounds,
                  made_up_records, fresh_and_restarted, other_layouts,
-                 last_days, check_tests, check_refusals, reading_tests,
+                 last_days, largest_d, season_examples, turned_records,
+                 late_seasons, short_seasons, check_tests, check_refusals,
+                 reading_tests,
                  reading_large, reading_refusals, skipped_validations,
                  searches, search_refusals, tiles, tile_refusals,
                  whole_chain, values_calls,
