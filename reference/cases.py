@@ -661,6 +661,7 @@ def history(case):
     f = 1 if case.scheme == 3 else rng.randint(1, 64)
     service = ByRecord if rng.random() < 0.4 else ByDaybook
     late = late_in_a_season(rng) if rng.random() < 0.4 else None
+    n = 1 if late and rng.random() < 0.3 else n
     calls = History(case, n, f, service, late)
     calls.count()
     closing = rng.choice((0.3, 0.5, 0.8))
@@ -687,9 +688,9 @@ def start_in(rng, scheme, n):
 
 def any_season(rng):
     """A season in a made-up record: mostly allowed, often near the last."""
-    if rng.random() < 0.08:
-        return rng.choice((LAST + 1, LAST + 1, LAST + 2, 2 * LAST + 1, TOP,
-                           rng.getrandbits(32)))
+    if rng.random() < 0.1:
+        return rng.choice((LAST + 1, LAST + 1, LAST + 1, LAST + 2,
+                           2 * LAST + 1, TOP, rng.getrandbits(32)))
     return rng.choice((0, 0, 1, LAST - 2, LAST - 1, LAST - 1, LAST, LAST,
                        rng.randrange(LAST)))
 
@@ -719,6 +720,7 @@ def made_up(scheme, rng):
     if 0.15 < x < 0.5:
         days = rng.choice((DAYS - 1, DAYS, DAYS, DAYS))
         count = count if rng.random() < 0.2 else 0
+        n = 1 if x > 0.2 and rng.random() < 0.4 else n
     return record_of(rng, scheme, n, f, days, count, any_season(rng),
                      start_in(rng, scheme, n))
 
@@ -1146,9 +1148,14 @@ def every_turn(case):
                                 (DAYS, LIMIT + 1), (DAYS + 1, 0)):
                 data = record_of(rng, scheme, n, f, days, count, season,
                                  start_in(rng, scheme, n))
-                adds_about_a_turn(case, data, n == 1)
+                for length in (0, 1, 63, 200):
+                    add_about_a_turn(case, data, length)
                 closes_about_a_turn(case, data)
                 count_record(case, data)
+    for season in (0, 1, LAST - 1, LAST, LAST + 1, TOP):
+        for days, count in ((DAYS - 1, 1), (DAYS, 0), (DAYS, 1)):
+            data = record_of(rng, scheme, 1, 1, days, count, season)
+            add_about_a_turn(case, data, LIMIT - count + 1)
 
 
 def tested_on(data):
@@ -1165,26 +1172,23 @@ def tested_on(data):
     return (5, season, days, 0) if season == LAST else (0, season + 1, 0, 0)
 
 
-def adds_about_a_turn(case, data, long):
-    """Adds of length 0, of a few bytes and, with long, of too many."""
+def add_about_a_turn(case, data, length):
+    """An add, and a close after it."""
     rng = case.rng
     refusal, season, days, count = tested_on(data)
-    pieces = [b"", b"a", rng.randbytes(63), rng.randbytes(200)]
-    if long and count < 2:
-        pieces.append(bytes(LIMIT - count + 1))
-    for piece in pieces:
-        want = refusal or (4 if count + len(piece) > LIMIT else 0)
-        answer, after = case.call("add", data, piece, random_words(rng, 1))
-        case.claim(answer == want, "an add about a turn")
-        case.claim(numbers_of(after[0]) == (
-            numbers_of(data) if want
-            else (season, days, count + len(piece))), "the turn of an add")
-        if want == 0:
-            case.claim(record.fields(after[0])[:3] == record.fields(data)[:3]
-                       and record.start_of(after[0]) == record.start_of(data),
-                       "scheme, N, F or start are not kept")
-            case.call("close", after[0], rng.randbytes(600),
-                      random_words(rng, 1), random_words(rng, 1))
+    want = refusal or (4 if count + length > LIMIT else 0)
+    piece = rng.randbytes(min(length, 200)).ljust(length, b"\0")
+    answer, after = case.call("add", data, piece, random_words(rng, 1))
+    case.claim(answer == want, "an add about a turn")
+    case.claim(numbers_of(after[0]) == (
+        numbers_of(data) if want else (season, days, count + length)),
+        "the turn of an add")
+    if want == 0:
+        case.claim(record.fields(after[0])[:3] == record.fields(data)[:3]
+                   and record.start_of(after[0]) == record.start_of(data),
+                   "scheme, N, F or start are not kept")
+        case.call("close", after[0], rng.randbytes(600),
+                  random_words(rng, 1), random_words(rng, 1))
 
 
 def closes_about_a_turn(case, data):

@@ -6,6 +6,7 @@ import hashlib
 import io
 import os
 import random
+import struct
 import sys
 from collections import Counter
 from dataclasses import replace
@@ -19,6 +20,7 @@ import compare
 import daybook as db
 import last_day
 import record as rec
+import service_refusals
 import short_ledgers
 import stand_in
 import table_text_cases
@@ -514,6 +516,23 @@ def made_up_records():
                    tuple(word(1 + s) for s in range(stored, 17)))
             expect("start kept", (record.start, after.start),
                    (word(18), word(18)))
+            expect("then 5", (db.add(after, b"abc"),
+                              db.close(after, bytearray(600))),
+                   ((5, after), (5, after, 0)))
+            for season in (0, 65_534):
+                _, record = db.add(last_day.record(scheme, n, season), b"abc")
+                again = bytearray(32 * 18)
+                refusal, full, count = db.close(record, again)
+                expect("the same in another season", (refusal, full, again),
+                       (0, replace(after, season=season), part))
+                _, first = db.add(full, b"abc")
+                refusal, then, count = db.close(first, again)
+                ended = db.names(scheme, n, 1)
+                expect("day 1 of the next", (
+                    refusal, bytes(again[:32 * count]), then.season,
+                    then.days, then.start, then.running[0]),
+                    (0, db.link(word(18), h) * len(ended), season + 1, 1,
+                     word(18), db.link(word(18), h)))
 
 
 def fresh_and_restarted():
@@ -550,17 +569,19 @@ def fresh_and_restarted():
 
 # -------------------------------------------------------------------- seasons
 
-def set_limits(days, last):
+def set_limits(days, last, day):
+    if days != db.DAYS_LIMIT:
+        db._counts.cache_clear()
     db.DAYS_LIMIT = kinds.DAYS = days
     db.LAST_SEASON = kinds.LAST = last
-    db._counts.cache_clear()
+    db.DAY_LIMIT = kinds.LIMIT = day
 
 
 @contextlib.contextmanager
-def shorter(days, last=65_535):
-    """Seasons of fewer days, or fewer of them."""
-    before = db.DAYS_LIMIT, db.LAST_SEASON
-    set_limits(days, last)
+def shorter(days=db.DAYS_LIMIT, last=db.LAST_SEASON, day=db.DAY_LIMIT):
+    """Seasons of fewer days, fewer of them, or days of fewer bytes."""
+    before = db.DAYS_LIMIT, db.LAST_SEASON, db.DAY_LIMIT
+    set_limits(days, last, day)
     try:
         yield
     finally:
@@ -1706,10 +1727,18 @@ def record_made_up():
 
 def differs(calls, scheme, first, last):
     """Whether a case finds the calls different."""
+    return differs_in(calls, scheme, range(first, last))
+
+
+# each fault meets the same cases again
+rec.compress = lru_cache(maxsize=1 << 16)(rec.compress)
+
+
+def differs_in(calls, scheme, indices):
     arena = Arena()
     return any(compare.run_case(calls, arena, 7, scheme, index,
                                 Counter())[2] is not None
-               for index in range(first, last))
+               for index in indices)
 
 
 def faulty(name, fault):
@@ -2517,6 +2546,400 @@ def start_faults():
                        index, index + 1), True)
 
 
+# -------------------------------------------------- comparison of the seasons
+
+def turns(data):
+    """Whether an add or close of the record is made on the next season."""
+    return rec.refusal_of(data) == 0 and rec.fields(data)[3] == db.DAYS_LIMIT
+
+
+def turned(data):
+    """The record of the next season."""
+    scheme, n, f, _, _, season = rec.fields(data)
+    first = rec.start_of(data)
+    return rec.pack((scheme, n, f, 0, 0, season + 1), rec.FIRST, [first] * 18,
+                    b"\0", first)
+
+
+def keeps(first, last):
+    """A turn that keeps these bytes of the full season's record."""
+    return lambda data: turned(data)[:first] + data[first:last] \
+        + turned(data)[last:]
+
+
+def at_season(number):
+    """A turn to a season of another number."""
+    return lambda data: turned(data)[:rec.SEASON] + struct.pack(
+        "<I", number(rec.fields(data)[5]) % 2 ** 32)
+
+
+def with_start(start, running=True, kept=True):
+    """A turn whose chains start, or start again, with another start."""
+    def made(data):
+        first, held = start(data), rec.start_of(data)
+        return rec.pack((*rec.fields(data)[:3], 0, 0,
+                         rec.fields(data)[5] + 1), rec.FIRST,
+                        [first if running else held] * 18, b"\0",
+                        first if kept else held)
+    return made
+
+
+def of_season(data):
+    """A start with the season in it."""
+    scheme, n, *_, season = rec.fields(data)
+    return hashed(2, scheme, db.lg(n), *(season + 1).to_bytes(4, "little"))
+
+
+def other_turn(made, gives_back=True, when=turns):
+    """An add or close that turns the record itself, by made."""
+    def fault(good, address, *rest):
+        data = stand_in.get(address, rec.SIZE)
+        if not when(data):
+            return good(address, *rest)
+        stand_in.put(address, made(data))
+        answer = good(address, *rest)
+        if answer and gives_back:
+            stand_in.put(address, data)
+        return answer
+    return fault
+
+
+def full_last(data):
+    """Whether 5 is due."""
+    return rec.refusal_of(data) == 5
+
+
+def after_all(season):
+    """Where the last season is full, a turn to this one."""
+    return other_turn(at_season(lambda _: season), when=full_last)
+
+
+def answers(number, when):
+    """An add or close that says this number where when has it so."""
+    def fault(good, address, *rest):
+        data = stand_in.get(address, rec.SIZE)
+        return number if when(data, *rest) else good(address, *rest)
+    return fault
+
+
+def early_5(from_season):
+    """5 at a full season from this one on."""
+    return answers(5, lambda data, *rest: turns(data)
+                   and rec.fields(data)[5] >= from_season)
+
+
+def short_for(day):
+    """8 before 5, by the values of a day."""
+    def when(data, part, length, values, blocks):
+        scheme, n, *_ = rec.fields(data)
+        return full_last(data) and length < 32 * len(db.names(scheme, n, day))
+    return answers(8, when)
+
+
+def needs_day(day):
+    """8 at the turn by the values of another day than day 1."""
+    def when(data, part, length, values, blocks):
+        scheme, n, *_ = rec.fields(data)
+        return turns(data) and length < 32 * len(db.names(scheme, n, day))
+    return answers(8, when)
+
+
+def five_before_6(data, *rest):
+    """Where the last season is full, or a later one, whatever else holds."""
+    days, _, season = rec.fields(data)[3:]
+    return days == db.DAYS_LIMIT and season >= db.LAST_SEASON
+
+
+def full_with_bytes(data):
+    """Whether 6 is due for open bytes beside 65,536 days alone."""
+    *numbers, days, count, season = rec.fields(data)
+    return days == db.DAYS_LIMIT and 0 < count <= db.DAY_LIMIT \
+        and season <= db.LAST_SEASON \
+        and db.settings_refusal(*numbers) == 0
+
+
+def no_bytes(data):
+    return data[:16] + bytes(4) + data[20:]
+
+
+def any_bytes(seasons=lambda season: True):
+    """Open bytes beside 65,536 days are not looked at, in some seasons."""
+    return other_turn(no_bytes, when=lambda data: full_with_bytes(data)
+                      and seasons(rec.fields(data)[5]))
+
+
+def bytes_as_5(good, address, *rest):
+    """5, and not 6, for open bytes beside 65,536 days of the last season."""
+    data = stand_in.get(address, rec.SIZE)
+    late = full_with_bytes(data) and rec.fields(data)[5] == db.LAST_SEASON
+    return 5 if late else good(address, *rest)
+
+
+def any_season(allowed):
+    """Seasons that are allowed wrongly, taken as season 0."""
+    def fault(good, address, *rest):
+        data = stand_in.get(address, rec.SIZE)
+        season = rec.fields(data)[5]
+        if season <= db.LAST_SEASON or not allowed(season):
+            return good(address, *rest)
+        stand_in.put(address + rec.SEASON, bytes(4))
+        answer = good(address, *rest)
+        stand_in.put(address + rec.SEASON, data[rec.SEASON:])
+        return answer
+    return fault
+
+
+def empty_add_stays(good, address, piece, length, blocks):
+    """An add of length 0 does not turn."""
+    if length or not turns(stand_in.get(address, rec.SIZE)):
+        return good(address, piece, length, blocks)
+    stand_in.put_words(blocks, [0])
+    return 0
+
+
+def piece_is_lost(good, address, piece, length, blocks):
+    """An add that turns takes nothing in."""
+    if turns(stand_in.get(address, rec.SIZE)) and length <= db.DAY_LIMIT:
+        return good(address, None, 0, blocks)
+    return good(address, piece, length, blocks)
+
+
+def close_only_turns(good, address, part, length, values, blocks):
+    """A close at the turn closes no day."""
+    data = stand_in.get(address, rec.SIZE)
+    scheme, n, *_ = rec.fields(data)
+    if not turns(data) or length < 32 * len(db.names(scheme, n, 1)):
+        return good(address, part, length, values, blocks)
+    stand_in.put(address, turned(data))
+    stand_in.put_words(values, [0])
+    stand_in.put_words(blocks, [0])
+    return 0
+
+
+def turns_at_once(good, address, *rest):
+    """The close of day 65,536 opens the next season."""
+    answer = good(address, *rest)
+    data = stand_in.get(address, rec.SIZE)
+    if answer == 0 and turns(data):
+        stand_in.put(address, turned(data))
+    return answer
+
+
+def other_season(number, at=0, refused=False):
+    """An accepted or refused call that leaves another season.
+
+    The record is the argument numbered at; number takes the season's bytes
+    before and after.
+    """
+    def fault(good, *arguments):
+        place = arguments[at] + rec.SEASON
+        before = stand_in.get(place, 4)
+        answer = good(*arguments)
+        if (answer != 0) == refused:
+            stand_in.put(place, number(before, stand_in.get(place, 4)))
+        return answer
+    return fault
+
+
+def values_of_next(good, address, values):
+    """A full record's values are those of the season to come: none."""
+    answer = good(address, values)
+    if answer == 0 and turns(stand_in.get(address, rec.SIZE)):
+        stand_in.put_words(values, [0])
+    return answer
+
+
+def values_of_all(good, address, values):
+    """The values of all seasons so far."""
+    answer = good(address, values)
+    scheme, n, *_, season = rec.fields(stand_in.get(address, rec.SIZE))
+    if answer == 0 and season:
+        count, = stand_in.get_words(values, 1)
+        stand_in.put_words(values, [(count + season * db.values_closed(
+            scheme, n, db.DAYS_LIMIT)) % 2 ** 32])
+    return answer
+
+
+BLACK, SLOTS = (rec.CHAINS, rec.CHAINS + 32), (rec.CHAINS + 32, rec.BLOCK)
+WORDS, BLOCK = (rec.WORDS, rec.CHAINS), (rec.BLOCK, rec.START)
+LAST = db.LAST_SEASON
+
+# What goes wrong, the call, the fault, and what must find it besides
+# every_turn: "all" the random cases, "run" the run of two seasons and a day.
+# "tree" is a fault under scheme 3 only.
+SEASON_FAULTS = [
+    ("a refused close turns", "close", other_turn(turned, False), "all run"),
+    ("a refused add turns", "add", other_turn(turned, False), "run"),
+    ("an empty add does not turn", "add", empty_add_stays, "all run"),
+    ("an add that turns loses its piece", "add", piece_is_lost, "all"),
+    ("a close that turns closes no day", "close", close_only_turns,
+     "all run"),
+    ("a close turns at once", "close", turns_at_once, "all run"),
+    *((f"a turn keeps {text}", name, other_turn(keeps(*place)), found)
+      for name in ("add", "close") for text, place, found in (
+          ("black", BLACK, "all run"), ("the slots", SLOTS, "all"),
+          ("slot 0", (SLOTS[0], SLOTS[0] + 32), "all"),
+          ("slot 16", (SLOTS[1] - 32, SLOTS[1]), "all"),
+          ("the open day's hash", WORDS, "all"),
+          ("the block", BLOCK, "all"),
+          ("the chains", (BLACK[0], SLOTS[1]), "all run"),
+          ("the season", (rec.SEASON, rec.SIZE), "all run"))),
+    *((f"a turn {text}", name, other_turn(at_season(number)), "all run")
+      for name in ("add", "close") for text, number in (
+          ("raises the season by 2", lambda season: season + 2),
+          ("lowers the season", lambda season: season - 1),
+          ("goes to season 0", lambda season: 0))),
+    *((f"a turn {text}", name, other_turn(at_season(number)), "all")
+      for name in ("add", "close") for text, number in (
+          ("goes to season 1", lambda season: 1),
+          ("keeps the season's low byte", lambda season: (season + 1) % 256),
+          ("goes to the last season", lambda season: LAST))),
+    *((f"a turn with a start {text}", name,
+       other_turn(with_start(start, **where)), found)
+      for name in ("add", "close") for text, start, found in (
+          ("worked out again", worked_out, "all"),
+          ("of zeros", no_start, "all run"),
+          ("in another byte order", other_byte_order, "all run"),
+          ("with the season in it", of_season, "all run"))
+      for where in ({}, dict(running=False), dict(kept=False))),
+    *((f"5 from season {season}", name, early_5(season), found)
+      for name in ("add", "close") for season, found in (
+          (0, "all run"), (1, "all run"), (LAST - 2, "all"),
+          (LAST - 1, "all"))),
+    ("4 before 5", "add",
+     answers(4, lambda data, piece, length, blocks:
+             full_last(data) and length > db.DAY_LIMIT), "run"),
+    ("8 before 5", "close", short_for(1), "none"),
+    ("8 before 5, if empty", "close",
+     answers(8, lambda data, part, length, *rest:
+             full_last(data) and length == 0), "all run"),
+    *((f"after the last, season {season}", name, after_all(season),
+       "all run")
+      for name in ("add", "close") for season in (0, LAST, LAST + 1)),
+    *(("5 before 6", name, answers(5, five_before_6), "all")
+      for name in ("add", "close")),
+    ("8 by day 65,537", "close", needs_day(65_537), "tree"),
+    ("8 by day 65,536", "close", needs_day(65_536), "all"),
+    *(("open bytes beside 65,536 days", name, any_bytes(), "all")
+      for name in ("add", "close", "record_values")),
+    *(("open bytes in the last season", name,
+       any_bytes(lambda season: season == LAST), "all")
+      for name in ("record_values",)),
+    *(("open bytes as 5", name, bytes_as_5, "none")
+      for name in ("add", "close")),
+    *((f"season {text}", name, any_season(allowed), found)
+      for name in ("add", "close", "record_values") for text, allowed, found
+      in (("65,536", lambda season: season == LAST + 1, "all"),
+          ("over 65,535", lambda season: True, "all"),
+          ("2^32 - 1", lambda season: season == 2 ** 32 - 1, "none"),
+          ("by its low 16 bits", lambda season: season % 2 ** 16 != LAST,
+           "all"))),
+    ("a block for the turn", "add", more_blocks(
+        lambda days, count: days == db.DAYS_LIMIT), "all run"),
+    ("a block for the turn", "close", more_blocks(
+        lambda days, count: days == db.DAYS_LIMIT), "all run"),
+    *((f"{name} {text}", name, other_season(number), found)
+      for name in ("add", "close") for text, number, found in (
+          ("clears the season", lambda a, b: bytes(4), "all run"),
+          ("keeps the low byte", lambda a, b: b[:1] + bytes(3), "all"),
+          ("turns its bytes", lambda a, b: b[::-1], "all run"))),
+    *((f"{name} clears the season if refused", name, other_season(
+        lambda a, b: bytes(4), refused=True), "all run")
+      for name in ("add", "close")),
+    ("each close raises the season", "close", other_season(
+        lambda a, b: bytes([(b[0] + 1) % 256]) + b[1:]), "all run"),
+    ("open gives season 1", "open", other_season(
+        lambda a, b: bytes([1, 0, 0, 0]), 3), "all run"),
+    ("open leaves the season's bytes", "open", other_season(
+        lambda a, b: a, 3), "all run"),
+    ("a refused open leaves the season's bytes", "open", other_season(
+        lambda a, b: a, 3, True), "all"),
+    ("values of the next season", "record_values", values_of_next,
+     "all run"),
+    ("values of all seasons", "record_values", values_of_all, "all run")]
+
+
+def run_differs(calls, scheme, n, f):
+    """Whether a run of two seasons and a day finds the calls different."""
+    case = Case(calls, Arena(), scheme, random.Random(15), Counter())
+    try:
+        kinds.run_seasons(case, n, f)
+    except Different:
+        return True
+    return False
+
+
+def record_cases(scheme, count):
+    """Those of the first random cases that are about records."""
+    first = len(compare.ONCE)
+    about = {"history", "made_up_calls", "empty_arrays", "values_of_record"}
+    return [index for index in range(first, first + count)
+            if random.Random(f"7/{scheme}/{index}").choice(
+                compare.CHOICES).__name__ in about]
+
+
+def season_faults():
+    """Faults in the seasons that the cases must find under each scheme."""
+    once = [case.__name__ for case in compare.ONCE]
+    grid = [once.index("every_turn")]
+    chosen = {scheme: record_cases(scheme, 3000) for scheme in (1, 2, 3)}
+
+    # these are no faults: the same calls by other means
+    for scheme in (1, 2, 3):
+        for name in ("every_turn", "high_bytes", "record_grid"):
+            expect(f"{name}, stand-in",
+                   differs_in(stand_in.calls(), scheme, [once.index(name)]),
+                   False)
+        for name in ("add", "close"):
+            calls = faulty(name, other_turn(turned))
+            expect(f"{name} by other means is equal",
+                   differs_in(calls, scheme, grid + chosen[scheme][:200]),
+                   False)
+
+    with shorter(day=5000):
+        for text, name, fault, found in SEASON_FAULTS:
+            calls = faulty(name, fault)
+            for scheme in (3,) if found == "tree" else (1, 2, 3):
+                label = f"{text}: found in {name} under {scheme}"
+                if name != "open":
+                    expect(f"{label}, every_turn",
+                           differs_in(calls, scheme, grid), True)
+                if "all" in found:
+                    expect(f"{label}, random cases",
+                           differs_in(calls, scheme, chosen[scheme]), True)
+
+
+def short_runs():
+    """The run of two seasons and a day, with seasons of fewer days.
+
+    And a long day after a turn, with days of fewer bytes.
+    """
+    index = [case.__name__ for case in compare.ONCE].index("big_day")
+    with shorter(day=5000):
+        for scheme in (1, 2, 3):
+            expect("a long day", differs_in(stand_in.calls(), scheme,
+                                            [index]), False)
+            for part in (BLACK, WORDS, BLOCK):
+                expect("a long day after a turn that keeps something",
+                       differs_in(faulty("add", other_turn(keeps(*part))),
+                                  scheme, [index]), True)
+    for days, settings in [
+            (40, ((1, 1, 3), (2, 1, 3), (2, 4, 3), (3, 2, 1))),
+            (64, ((1, 2, 5), (2, 8, 3), (3, 1, 1), (3, 8, 1))),
+            (100, ((1, 8, 3), (2, 16, 3), (3, 4, 1)))]:
+        with shorter(days, day=5000):
+            for scheme, n, f in settings:
+                expect(f"run of {days}",
+                       run_differs(stand_in.calls(), scheme, n, f), False)
+    with shorter(24, day=5000):
+        for text, name, fault, found in SEASON_FAULTS:
+            for scheme, n, f in ((1, 1, 5), (2, 1, 5), (3, 2, 1)):
+                if "run" in found:
+                    expect(f"{text}: found in {name} under {scheme}, run",
+                           run_differs(faulty(name, fault), scheme, n, f),
+                           True)
+
+
 # -------------------------------------------------------------------- program
 
 def program():
@@ -2655,6 +3078,7 @@ def expected_outputs():
     outputs = {f"thousand-{s}.txt": thousand.lines(s) for s in (1, 2, 3)}
     outputs["short_ledgers.txt"] = short_ledgers.lines()
     outputs["last_day.txt"] = last_day.lines()
+    outputs["service_refusals.txt"] = service_refusals.lines()
     for name, lines in outputs.items():
         with open(os.path.join(folder, name), encoding="ascii") as file:
             expect(name, file.read(), "\n".join(lines) + "\n")
@@ -2672,7 +3096,8 @@ def main():
                  whole_chain, values_calls,
                  record_values_calls, sizing, positions, compression,
                  record_layout, record_histories, record_made_up, comparison,
-                 start_faults, program, text_faults, expected_outputs):
+                 start_faults, season_faults, short_runs, program,
+                 text_faults, expected_outputs):
         before = PASSED, FAILED
         test()
         print(f"{test.__name__}: {PASSED - before[0]} passed, "
