@@ -7,15 +7,16 @@ use lib.ListN.{length, getD, take, replicate, length-append, length-replicate}
 use lib.Seq.{length-take-le}
 use borrow.Author.Tests.{leb-true}
 use Rattle.lists.specs.Lists.{_among_, joined}
-use Rattle.refusals.specs.Refusals.{dayLimit, unlessRefused}
+use Rattle.refusals.specs.Refusals.{dayLimit}
 use Rattle.refusals.proofs.TestLaws.{none-fails}
 use Rattle.layouts.specs.Layouts.{chains}
 use Rattle.ledger.specs.Ledger.{daysOf, endsFrom, endsRefusal}
 use Rattle.acceptance.proofs.Runs.{days-bounds}
 use Rattle.ledger.proofs.JoinLaws.{days-joined, ends-joined}
-use Rattle.journal.specs.Journal.{Journal, empty, Argument, adds, closes, testsOf, refusalOf, entered, kept}
-use Rattle.journal.specs.Seasons.{Seasons, first, turns, current, refusalIn, enteredIn, keptIn, seasonsAfter, allEntries, entriesOf}
+use Rattle.journal.specs.Journal.{Journal, empty, Argument, adds, closes, testsOf, refusalOf, entered}
+use Rattle.journal.specs.Seasons.{Seasons, first, turns, next, current, keptIn, seasonsAfter, allEntries}
 use Rattle.journal.specs.Run.{Call, argumentOf, seasonsOf}
+use Rattle.journal.proofs.SeasonLaws.{by-refusal}
 use Rattle.daybook.specs.{Detection.Handed, Detection.Premises, Claim.sealed, Claim.wrote, Claim.PremisesMet}
 use Rattle.daybook.proofs.Fronts.{first-days}
 use Rattle.daybook.proofs.Claim.{unaltered-clean}
@@ -46,7 +47,7 @@ record AllLimited (d : Seasons) : Type 0 where
 
 limited-current : (d : Seasons) → AllLimited d → AllLimited (current d)
 unfolding current
-limited-current d l = elim (turns d) as (λ b. AllLimited (cond b (record { past = d .past ++ (d .present .entries ∷ []); present = empty }) d)) [
+limited-current d l = elim (turns d) as (λ b. AllLimited (cond b (next d) d)) [
   | true ↦ record {
     past-limited = λ E m. elim (List·Memᴰ·append-cases (d .past) m) [
       | inl k ↦ l .past-limited E k
@@ -58,13 +59,10 @@ limited-current d l = elim (turns d) as (λ b. AllLimited (cond b (record { past
 ]
 
 limited-kept : (s n : ℕ) (d : Seasons) (a : Argument) → AllLimited d → AllLimited (keptIn s n d a)
-limited-kept s n d a l = go (refusalIn s n d a) refl
-  where
-    go : (x : ℕ) → refusalIn s n d a ≡ x → AllLimited (unlessRefused x (enteredIn (current d) a) d)
-    go zero e =
-        let c = limited-current d l in
-        record { past-limited = c .past-limited; present-limited = limited-entered s n (current d .present) a e (c .present-limited) }
-    go (suc x) e = l
+limited-kept s n d a l = by-refusal s n d a AllLimited
+    (λ e. let c = limited-current d l in
+    record { past-limited = c .past-limited; present-limited = limited-entered s n (current d .present) a e (c .present-limited) })
+    (λ x e. l)
 
 limited-after : (s n : ℕ) (args : List Argument) (d : Seasons) → AllLimited d → AllLimited (seasonsAfter s n d args)
 limited-after s n [] d l = l

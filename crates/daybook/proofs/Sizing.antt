@@ -9,10 +9,10 @@ use native.Mathlib.Omega.{arith}
 use lib.Dec.{eqb, leb, ltb}
 use lib.ListN.{length, getD, take, length-append, length-map}
 use lib.Seq.{length-take-le}
-use borrow.Author.Tests.{leb-true, le-leb, eqb-true, eqb-false, eq-eqb, ne-eqb}
+use borrow.Author.Tests.{leb-true, le-leb, eq-eqb, ne-eqb}
 use Rattle.lists.specs.Lists.{_among_, every}
 use Rattle.lists.proofs.Laws.{split, and-both}
-use Rattle.refusals.specs.Refusals.{bookLimit, dayLimit, lastSeason, numberOf, unlessRefused}
+use Rattle.refusals.specs.Refusals.{bookLimit, dayLimit, lastSeason, numberOf}
 use Rattle.layouts.specs.Layouts.{allowedD, layoutRefusal}
 use Rattle.layouts.proofs.AllowedLaws.{layout-0}
 use Rattle.chains.specs.declared.Value.{Value}
@@ -24,10 +24,10 @@ use Rattle.service.specs.Contract.{opened, added, grownBlocks, closing, closedB
 use Rattle.service.proofs.BlockLaws.{Typed, grown-blocks, closed-blocks}
 use Rattle.service.proofs.CallLaws.{opened-number}
 use Rattle.journal.specs.Journal.{Journal, Argument, adds, closes}
-use Rattle.journal.specs.Seasons.{Seasons, first, turns, current, refusalIn, enteredIn, keptIn, seasonsAfter, entriesOf}
-use Rattle.journal.specs.Run.{Call, add, close, argumentOf, Called, called, calledAll, blocksTo, madeIn}
+use Rattle.journal.specs.Seasons.{Seasons, first, turns, next, current, refusalIn, enteredIn, keptIn, seasonsAfter, entriesOf}
+use Rattle.journal.specs.Run.{Call, add, close, argumentOf, Called, called, calledAll, blocksTo, ofSeason, madeIn}
 use Rattle.journal.proofs.RunLaws.{record-allowed, add-same, close-same}
-use Rattle.journal.proofs.SeasonLaws.{next, current-next, current-stays, entries-current, entries-present, InSeason, in-current, in-called, in-open, season-taken, refused-left, taken-entries, no-entries}
+use Rattle.journal.proofs.SeasonLaws.{by-refusal, of-season-is, of-season-not, current-next, current-stays, entries-current, entries-present, InSeason, in-current, in-called, in-open, season-taken, refused-left, taken-entries, no-entries}
 use Rattle.record_bytes.specs.Bytes.{Slots, Fits}
 use Rattle.sizing.specs.Sizing.{dayBlocks, blocksThrough, shortDay}
 use Rattle.sizing.proofs.LengthLaws.{Passed, blocks-front, forecast-sized, passes-sizing}
@@ -171,9 +171,9 @@ module _ {s n f : ℕ} {d : Seasons} {r : Record} (k : InSeason s n f d r) (t : 
     abbrev Moved : Call → Seasons → Type 0
     Moved c d′ =
         let made = called r c in
-        ((eqb (made .state .season) t ≡ true) × (Stays (entriesOf d t) (entriesOf d′ t) (wholeIn d t) (wholeIn d′ t) (made .blocks) (made .closed) ⊎
+        ((ofSeason t made ≡ true) × (Stays (entriesOf d t) (entriesOf d′ t) (wholeIn d t) (wholeIn d′ t) (made .blocks) (made .closed) ⊎
         Closes s n (entriesOf d t) (entriesOf d′ t) (wholeIn d t) (wholeIn d′ t) (made .blocks) (made .closed))) ⊎
-        ((eqb (made .state .season) t ≡ false) × Elsewhere (entriesOf d t) (entriesOf d′ t) (wholeIn d t) (wholeIn d′ t))
+        ((ofSeason t made ≡ false) × Elsewhere (entriesOf d t) (entriesOf d′ t) (wholeIn d t) (wholeIn d′ t))
 
     taken-call : (c : Call) → refusalIn s n d (argumentOf c) ≡ 0 → length (current d .past) ≡ t →
         Stays (entriesOf d t) (entriesOf (after c) t) (wholeIn d t) (wholeIn (after c) t) (called r c .blocks) (called r c .closed) ⊎
@@ -182,19 +182,15 @@ module _ {s n f : ℕ} {d : Seasons} {r : Record} (k : InSeason s n f d r) (t : 
     taken-call (close part) e here = inr (taken-close here part e)
 
     moved : (c : Call) → Moved c (keptIn s n d (argumentOf c))
-    moved c = go (refusalIn s n d (argumentOf c)) refl
-      where
-        go : (x : ℕ) → refusalIn s n d (argumentOf c) ≡ x → Moved c (unlessRefused x (enteredIn (current d) (argumentOf c)) d)
-        go zero e = elim (split (eqb (called r c .state .season) t)) [
-          | inl q ↦ inl (q, taken-call c e (sym (season-taken k c e) ∙ eqb-true (called r c .state .season) t q))
-          | inr q ↦ inr (q, taken-away c (λ w. eqb-false (called r c .state .season) t q (season-taken k c e ∙ w)))
-        ]
-        go (suc x) e =
-            let l = refused-left k c x e in
-            elim (split (eqb (called r c .state .season) t)) [
-              | inl q ↦ inl (q, inl (record { none = l .closed-none; same = refl; more = omega (arith, l .blocks-none) }))
-              | inr q ↦ inr (q, record { same = refl; still = refl })
-            ]
+    moved c = by-refusal s n d (argumentOf c) (Moved c)
+        (λ e. elim (split (ofSeason t (called r c))) [
+          | inl q ↦ inl (q, taken-call c e (sym (season-taken k c e) ∙ of-season-is t (called r c) q))
+          | inr q ↦ inr (q, taken-away c (λ w. of-season-not t (called r c) q (season-taken k c e ∙ w)))
+        ])
+        (λ x e. let l = refused-left k c x e in elim (split (ofSeason t (called r c))) [
+          | inl q ↦ inl (q, inl (record { none = l .closed-none; same = refl; more = omega (arith, l .blocks-none) }))
+          | inr q ↦ inr (q, record { same = refl; still = refl })
+        ])
 
 -- ---- entries stay at the front
 
@@ -209,11 +205,9 @@ entered-more d (adds piece) t = ([], sym (append-nil (entriesOf d t)))
 entered-more d (closes size) t = longer-in (d .past) (d .present .entries) (d .present .day ∷ []) t
 
 kept-more : (s n : ℕ) (d : Seasons) (a : Argument) (t : ℕ) → (more : List (List ℕ)) × (entriesOf (keptIn s n d a) t ≡ entriesOf d t ++ more)
-kept-more s n d a t = go (refusalIn s n d a)
-  where
-    go : (x : ℕ) → (more : List (List ℕ)) × (entriesOf (unlessRefused x (enteredIn (current d) a) d) t ≡ entriesOf d t ++ more)
-    go zero = let m = entered-more (current d) a t in (m .0, m .1 ∙ ap (λ (l : List (List ℕ)). l ++ m .0) (entries-current d t))
-    go (suc x) = ([], sym (append-nil (entriesOf d t)))
+kept-more s n d a t = by-refusal s n d a (λ e. (more : List (List ℕ)) × (entriesOf e t ≡ entriesOf d t ++ more))
+    (λ e. let m = entered-more (current d) a t in (m .0, m .1 ∙ ap (λ (l : List (List ℕ)). l ++ m .0) (entries-current d t)))
+    (λ x e. ([], sym (append-nil (entriesOf d t))))
 
 entries-more : (s n : ℕ) (d : Seasons) (args : List Argument) (t : ℕ) → (more : List (List ℕ)) × (entriesOf (seasonsAfter s n d args) t ≡ entriesOf d t ++ more)
 entries-more s n d [] t = ([], sym (append-nil (entriesOf d t)))

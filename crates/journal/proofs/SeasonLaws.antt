@@ -24,8 +24,8 @@ use Rattle.service.specs.Contract.{opened, fresh, turned, grown, nextDay, added
 use Rattle.service.proofs.RecordLaws.{current-turned, current-same}
 use Rattle.service.proofs.CallLaws.{opened-number}
 use Rattle.journal.specs.Journal.{Journal, empty, Argument, adds, closes, refusalOf, entered, kept, journalAfter, refusals}
-use Rattle.journal.specs.Seasons.{Seasons, first, turns, current, refusalIn, enteredIn, keptIn, seasonsAfter, refusalsIn, allEntries, entriesOf}
-use Rattle.journal.specs.Run.{Call, add, close, argumentOf, Called, called, stateAfter, answers, bookWritten, calledAll, madeIn, wroteAll, seasonsOf}
+use Rattle.journal.specs.Seasons.{Seasons, first, turns, next, current, refusalIn, enteredIn, keptIn, seasonsAfter, refusalsIn, allEntries, entriesOf}
+use Rattle.journal.specs.Run.{Call, add, close, argumentOf, Called, called, stateAfter, answers, bookWritten, calledAll, ofSeason, madeIn, wroteAll, seasonsOf}
 use Rattle.journal.proofs.RunLaws.{Keeps, keeps-open, record-allowed, add-same, close-same, number-called, keeps-called, book-called}
 
 -- ---- the entries of a season
@@ -50,9 +50,6 @@ entries-present d t e = rw (← e) (getD-append-seam (d .past) (d .present .entr
 
 -- ---- the turn of the diary
 
-abbrev pub next : Seasons → Seasons
-next d = record { past = d .past ++ (d .present .entries ∷ []); present = empty }
-
 pub current-next : (d : Seasons) → turns d ≡ true → current d ≡ next d
 unfolding current
 current-next d e = rw e
@@ -67,6 +64,30 @@ entries-current d t = elim (split (turns d)) [
   | inl e ↦ rw (current-next d e) (entries-none (allEntries d) t)
   | inr e ↦ rw (current-stays d e)
 ]
+
+-- ---- a call that is taken, and one that is refused
+
+pub kept-taken : (s n : ℕ) (d : Seasons) (a : Argument) → refusalIn s n d a ≡ 0 → keptIn s n d a ≡ enteredIn (current d) a
+kept-taken s n d a e = rw e
+
+pub kept-refused : (s n : ℕ) (d : Seasons) (a : Argument) (x : ℕ) → refusalIn s n d a ≡ suc x → keptIn s n d a ≡ d
+kept-refused s n d a x e = rw e
+
+-- what holds of both holds after each call
+pub by-refusal : (s n : ℕ) (d : Seasons) (a : Argument) (P : Seasons → Type 0) → (refusalIn s n d a ≡ 0 → P (enteredIn (current d) a)) →
+    ((x : ℕ) → refusalIn s n d a ≡ suc x → P d) → P (keptIn s n d a)
+by-refusal s n d a P taken refused = go (refusalIn s n d a) refl
+  where
+    go : (x : ℕ) → refusalIn s n d a ≡ x → P (keptIn s n d a)
+    go zero e = rw (kept-taken s n d a e) (taken e)
+    go (suc x) e = rw (kept-refused s n d a x e) (refused x e)
+
+-- whether a call is one of season t
+pub of-season-is : (t : ℕ) (c : Called) → ofSeason t c ≡ true → c .state .season ≡ t
+of-season-is t c e = eqb-true (c .state .season) t e
+
+pub of-season-not : (t : ℕ) (c : Called) → ofSeason t c ≡ false → c .state .season ≡ t → ⊥
+of-season-not t c e = eqb-false (c .state .season) t e
 
 -- ---- the record in its season
 
@@ -158,19 +179,17 @@ module _ {s n f : ℕ} {d : Seasons} {r : Record} (k : InSeason s n f d r) where
   season-taken (close part) e = rw (close-same r allowed (made .keeps) (length part) ∙ e) (made .season-is)
 
   pub in-called : (c : Call) → InSeason s n f (keptIn s n d (argumentOf c)) (called r c .state)
-  in-called c = go (refusalIn s n d (argumentOf c)) refl
-    where
-      go : (x : ℕ) → refusalIn s n d (argumentOf c) ≡ x → InSeason s n f (unlessRefused x (enteredIn (current d) (argumentOf c)) d) (called r c .state)
-      go zero e = record { keeps = keeps-called r allowed (made .keeps) c e; season-is = season-taken c e; past-full = made .past-full }
-      go (suc x) e = rw (refused-left c x e .state-is) k
+  in-called c = by-refusal s n d (argumentOf c) (λ e. InSeason s n f e (called r c .state))
+      (λ e. record { keeps = keeps-called r allowed (made .keeps) c e; season-is = season-taken c e; past-full = made .past-full })
+      (λ x e. rw (refused-left c x e .state-is) k)
 
   -- ---- what a call writes, by season
 
   abbrev part : ℕ → Called → List ℕ
-  part t c = cond (eqb (c .state .season) t) (c .wrote) []
+  part t c = cond (ofSeason t c) (c .wrote) []
 
   part-none : (t : ℕ) (c : Called) → c .wrote ≡ [] → part t c ≡ []
-  part-none t c e = rw e (either (eqb (c .state .season) t))
+  part-none t c e = rw e (either (ofSeason t c))
     where
       either : (b : Bool) → cond {A = List ℕ} b [] [] ≡ []
       either true = refl
@@ -181,27 +200,24 @@ module _ {s n f : ℕ} {d : Seasons} {r : Record} (k : InSeason s n f d r) where
 
   book-taken : (c : Call) (t : ℕ) → refusalIn s n d (argumentOf c) ≡ 0 →
       bookOf s n (entriesOf d t) ++ part t (called r c) ≡ bookOf s n (entriesOf (enteredIn (current d) (argumentOf c)) t)
-  book-taken c t e = elim (split (eqb (called r c .state .season) t)) [
+  book-taken c t e = elim (split (ofSeason t (called r c))) [
     | inl q ↦
-        let w = sym (season-taken c e) ∙ eqb-true (called r c .state .season) t q in
+        let w = sym (season-taken c e) ∙ of-season-is t (called r c) q in
         let here = sym (entries-current d t) ∙ entries-present (current d) t w in
         rw (q, here, entries-present (enteredIn (current d) (argumentOf c)) t w) (book-called r allowed (made .keeps) c e)
     | inr q ↦
-        let w = taken-entries c t (λ h. eqb-false (called r c .state .season) t q (season-taken c e ∙ h)) in
+        let w = taken-entries c t (λ h. of-season-not t (called r c) q (season-taken c e ∙ h)) in
         rw (q, w) (append-nil (bookOf s n (entriesOf d t)))
   ]
 
   pub book-in : (c : Call) (t : ℕ) → bookOf s n (entriesOf d t) ++ part t (called r c) ≡ bookOf s n (entriesOf (keptIn s n d (argumentOf c)) t)
-  book-in c t = go (refusalIn s n d (argumentOf c)) refl
-    where
-      go : (x : ℕ) → refusalIn s n d (argumentOf c) ≡ x →
-          bookOf s n (entriesOf d t) ++ part t (called r c) ≡ bookOf s n (entriesOf (unlessRefused x (enteredIn (current d) (argumentOf c)) d) t)
-      go zero e = book-taken c t e
-      go (suc x) e = rw (part-none t (called r c) (refused-left c x e .wrote-none)) (append-nil (bookOf s n (entriesOf d t)))
+  book-in c t = by-refusal s n d (argumentOf c) (λ e. bookOf s n (entriesOf d t) ++ part t (called r c) ≡ bookOf s n (entriesOf e t))
+      (book-taken c t)
+      (λ x e. rw (part-none t (called r c) (refused-left c x e .wrote-none)) (append-nil (bookOf s n (entriesOf d t))))
 
 -- the calls of a season, one more in front
-wrote-more : (t : ℕ) (c : Called) (made : List Called) → wroteAll (madeIn t (c ∷ made)) ≡ cond (eqb (c .state .season) t) (c .wrote) [] ++ wroteAll (madeIn t made)
-wrote-more t c made = elim (eqb (c .state .season) t) as (λ b. wroteAll (cond b (c ∷ madeIn t made) (madeIn t made)) ≡ cond b (c .wrote) [] ++ wroteAll (madeIn t made)) [ true ↦ refl | false ↦ refl ]
+wrote-more : (t : ℕ) (c : Called) (made : List Called) → wroteAll (madeIn t (c ∷ made)) ≡ cond (ofSeason t c) (c .wrote) [] ++ wroteAll (madeIn t made)
+wrote-more t c made = elim (ofSeason t c) as (λ b. wroteAll (cond b (c ∷ madeIn t made) (madeIn t made)) ≡ cond b (c .wrote) [] ++ wroteAll (madeIn t made)) [ true ↦ refl | false ↦ refl ]
 
 -- ---- the books of all seasons, end to end
 
@@ -221,16 +237,13 @@ module _ (s n : ℕ) where
 
 module _ {s n f : ℕ} {d : Seasons} {r : Record} (k : InSeason s n f d r) where
   books-in : (c : Call) → books s n d ++ called r c .wrote ≡ books s n (keptIn s n d (argumentOf c))
-  books-in c = go (refusalIn s n d (argumentOf c)) refl
-    where
-      go : (x : ℕ) → refusalIn s n d (argumentOf c) ≡ x → books s n d ++ called r c .wrote ≡ books s n (unlessRefused x (enteredIn (current d) (argumentOf c)) d)
-      go zero e =
-          let m = current d in
-          ap (λ (b : List ℕ). b ++ called r c .wrote) (sym (books-current s n d) ∙ books-last s n (m .past) (m .present .entries)) ∙
-          append-assoc (flatMap (bookOf s n) (m .past)) (bookOf s n (m .present .entries)) (called r c .wrote) ∙
-          ap (λ (b : List ℕ). flatMap (bookOf s n) (m .past) ++ b) (book-called r (record-allowed (k .keeps)) (in-current k .keeps) c e) ∙
-          sym (books-last s n (m .past) (entered (m .present) (argumentOf c) .entries))
-      go (suc x) e = rw (refused-left k c x e .wrote-none) (append-nil (books s n d))
+  books-in c = by-refusal s n d (argumentOf c) (λ e. books s n d ++ called r c .wrote ≡ books s n e)
+      (λ e. let m = current d in
+      ap (λ (b : List ℕ). b ++ called r c .wrote) (sym (books-current s n d) ∙ books-last s n (m .past) (m .present .entries)) ∙
+      append-assoc (flatMap (bookOf s n) (m .past)) (bookOf s n (m .present .entries)) (called r c .wrote) ∙
+      ap (λ (b : List ℕ). flatMap (bookOf s n) (m .past) ++ b) (book-called r (record-allowed (k .keeps)) (in-current k .keeps) c e) ∙
+      sym (books-last s n (m .past) (entered (m .present) (argumentOf c) .entries)))
+      (λ x e. rw (refused-left k c x e .wrote-none) (append-nil (books s n d)))
 
 -- ---- every list of calls
 
@@ -251,7 +264,7 @@ all-calls {s} {n} {d = d} {r = r} k (c ∷ cs) =
       refused = ap₂ (λ (x : ℕ) (l : List ℕ). x ∷ l) (number-in k c) (later .refused);
       book = λ t.
           ap (λ (l : List ℕ). bookOf s n (entriesOf d t) ++ l) (wrote-more t (called r c) made) ∙
-          sym (append-assoc (bookOf s n (entriesOf d t)) (cond (eqb (called r c .state .season) t) (called r c .wrote) []) (wroteAll (madeIn t made))) ∙
+          sym (append-assoc (bookOf s n (entriesOf d t)) (cond (ofSeason t (called r c)) (called r c .wrote) []) (wroteAll (madeIn t made))) ∙
           ap (λ (l : List ℕ). l ++ wroteAll (madeIn t made)) (book-in k c t) ∙ later .book t;
       whole =
           sym (append-assoc (books s n d) (called r c .wrote) (bookWritten (called r c .state) cs)) ∙

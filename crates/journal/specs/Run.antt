@@ -1,6 +1,6 @@
 -- 01's lists of add and close calls (SPEC 5.6), by what the calls' contracts say. Definitions only; the claim on every
 -- such list is in daybook.
-use mathlib.Core.Bool.{cond}
+use mathlib.Core.Bool.{Bool, cond}
 use mathlib.Core.List.{List, [], _∷_, _++_, map}
 use Prim.Native.Nat.{ℕ, zero, suc, _+_, _-_, _*_}
 use lib.Dec.{eqb}
@@ -75,10 +75,13 @@ journalOf scheme n cs = journalAfter scheme n empty (map argumentOf cs)
 
 -- ---- 02's seasons (SPEC 23.3, 23.4)
 
--- the calls of season t: those whose record given back has its number
+-- whether a call is one of season t: the record given back has its number; and the calls of season t
+abbrev pub ofSeason : ℕ → Called → Bool
+ofSeason t c = eqb (c .state .season) t
+
 abbrev pub madeIn : ℕ → List Called → List Called
 madeIn t [] = []
-madeIn t (c ∷ made) = cond (eqb (c .state .season) t) (c ∷ madeIn t made) (madeIn t made)
+madeIn t (c ∷ made) = cond (ofSeason t c) (c ∷ madeIn t made) (madeIn t made)
 
 -- what calls wrote, end to end; of the calls of a season this is its book
 abbrev pub wroteAll : List Called → List ℕ

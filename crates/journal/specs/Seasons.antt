@@ -21,9 +21,13 @@ first = record { past = []; present = empty }
 abbrev pub turns : Seasons → Bool
 turns d = leb bookLimit (length (d .present .entries)) && ltb (length (d .past)) lastSeason
 
--- where it is tested and made: there on the next season, which has no entry yet; else on the present one
+-- the next season, which has no entry yet
+abbrev pub next : Seasons → Seasons
+next d = record { past = d .past ++ (d .present .entries ∷ []); present = empty }
+
+-- where a call is tested and made: there on the next season, else on the present one
 unfoldable pub current : Seasons → Seasons
-current d = cond (turns d) (record { past = d .past ++ (d .present .entries ∷ []); present = empty }) d
+current d = cond (turns d) (next d) d
 
 abbrev pub refusalIn : ℕ → ℕ → Seasons → Argument → ℕ
 refusalIn scheme n d a = refusalOf scheme n (current d .present) a
