@@ -1,7 +1,7 @@
--- Demand 3 (SPEC 9.3): one claim on every list of calls, crossing any number of seasons (SPEC 23.5), every way of altering
--- the ledger of a season, and checking and reading after it; and what stands beside it. The calls stand in it by the
--- functions of their contracts: opened, added, closing (open, add, close), checked (check), readout (read), sealedBook
--- (seal). docs/CLAIM.md goes through it.
+-- Demand 3 (SPEC 9.3): one claim on every list of calls, crossing any number of seasons (SPEC 23.5), every way of
+-- altering the ledger of a season, and checking and reading after it; and what stands beside it. The calls stand in it
+-- by the functions of their contracts: opened, added, closing (open, add, close), checked (check), readout (read),
+-- sealedBook (seal). docs/CLAIM.md goes through it.
 use mathlib.Core.Path.{_≡_}
 use mathlib.Core.Logic.{_⊎_}
 use mathlib.Core.Bool.{true}
@@ -80,7 +80,8 @@ pub record Guarantee (scheme n f : ℕ) (cs : List Call) : Type 0 where
   -- every season by itself
   pub season : (t : ℕ) → OfSeason scheme n f cs t
   -- all that the closes wrote is the books of the seasons, end to end
-  pub end-to-end : bookWritten (opened scheme n f .state) cs ≡ flatMap (bookOf scheme n) (allEntries (seasonsOf scheme n cs))
+  pub end-to-end : bookWritten (opened scheme n f .state) cs ≡
+      flatMap (bookOf scheme n) (allEntries (seasonsOf scheme n cs))
   -- the record is in the diary's season, one of 0 to 65,535, and every past season is full
   pub present : stateAfter (opened scheme n f .state) cs .season ≡ length (seasonsOf scheme n cs .past)
   pub within : length (seasonsOf scheme n cs .past) ≤ lastSeason

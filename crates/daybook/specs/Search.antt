@@ -42,8 +42,8 @@ pub record Sought (n f : ℕ) (sealedDays : List (List ℕ)) (d : ℕ) (x : Hand
   pub all-found : progress .undecided ≡ 0 → daysFound n f d x limit progress ≡ changedDays sealedDays d x
   pub bound : progress .undecided ≡ 0 → progress .looked ≤ ones d + 2 * length (changedDays sealedDays d x) * lg d
 
--- from an accepted open of the tree, for every list of calls, every season and every limit; search takes no P, and the premises' P
--- may be any that 19 lets pass
+-- from an accepted open of the tree, for every list of calls, every season and every limit; search takes no P, and the
+-- premises' P may be any that 19 lets pass
 abbrev pub SearchClaim : Type 0
 SearchClaim =
     (n f : ℕ) → numberOf (opened 3 n f .answer) ≡ 0 → (cs : List Call) (t d : ℕ) (x : Handed) →

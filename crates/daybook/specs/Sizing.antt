@@ -1,5 +1,5 @@
--- 02's forecast met (C-11, SPEC 17.5): over every list of calls, the blocks of a season's calls that seal its days 1 to d
--- are those forecast from the lengths of these days.
+-- 02's forecast met (C-11, SPEC 17.5): over every list of calls, the blocks of a season's calls that seal its days 1 to
+-- d are those forecast from the lengths of these days.
 use mathlib.Core.Path.{_≡_}
 use mathlib.Core.Bool.{true}
 use mathlib.Core.List.{List, map}

@@ -1,5 +1,5 @@
--- 02's diary of a service (C-18, SPEC 23.3): season after season, each season being 01's diary (Journal). Like it, it is
--- fed only arguments, and knows nothing of records, answers or written bytes. Definitions only.
+-- 02's diary of a service (C-18, SPEC 23.3): season after season, each season being 01's diary (Journal). Like it, it
+-- is fed only arguments, and knows nothing of records, answers or written bytes. Definitions only.
 use mathlib.Core.Bool.{Bool, _&&_, cond}
 use mathlib.Core.List.{List, [], _∷_, _++_}
 use Prim.Native.Nat.{ℕ}

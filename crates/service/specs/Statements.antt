@@ -7,8 +7,8 @@ use Rattle.refusals.specs.Refusals.{bookLimit, lastSeason}
 use Rattle.service.specs.declared.Record.{Record}
 use Rattle.service.specs.Contract.{allowedRecord, addRefusal, closeRefusal}
 
--- 02's refusal 5 (SPEC 10.5, 23.2): of every record, add and close say it exactly if 6 is not said and the last season is
--- full, whatever the length of the piece or the part
+-- 02's refusal 5 (SPEC 10.5, 23.2): of every record, add and close say it exactly if 6 is not said and the last season
+-- is full, whatever the length of the piece or the part
 pub record LastFull (r : Record) : Type 0 where
   pub allowed : allowedRecord r ≡ true
   pub last : r .season ≡ lastSeason

@@ -1,6 +1,6 @@
-// The close of day 65,536 of a made-up record, for each scheme, N 1, 8, 256 and the seasons 0, 65,534 and 65,535. Writes,
-// a line each: the number of values (or 'NO,' and the refusal) and the SHA-256 of what was written; then the answer of
-// one more add, which opens the next season but in the last; then the same two lines of one more close.
+// The close of day 65,536 of a made-up record, for each scheme, N 1, 8, 256 and the seasons 0, 65,534 and 65,535.
+// Writes, a line each: the number of values (or 'NO,' and the refusal) and the SHA-256 of what was written; then the
+// answer of one more add, which opens the next season but in the last; then the same two lines of one more close.
 // reference/last_day.py writes what they must be.
 use service::Record;
 use service::Writing;

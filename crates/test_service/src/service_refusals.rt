@@ -1,7 +1,7 @@
 // Every refusal of open, add and close, and every pair of causes at once in each call. Standard input has a line for
 // each call: its name and the numbers handed to it, which are scheme, N, F; for add and close also a record's season,
-// days and bytes, and the length of the piece or the part. The line is written again with the answer's number, 0 for done;
-// 'changed' stands before that number where the record or the part that comes back is not the one due.
+// days and bytes, and the length of the piece or the part. The line is written again with the answer's number, 0 for
+// done; 'changed' stands before that number where the record or the part that comes back is not the one due.
 // reference/service_refusals.py writes both.
 use crate::compare;
 use service::Record;
