@@ -3,7 +3,7 @@ use mathlib.Core.Path.{_≡_, sym, ap, _∙_}
 use mathlib.Core.Logic.{inl, inr}
 use mathlib.Core.Bool.{true}
 use mathlib.Core.List.{List, []}
-use Prim.Native.Nat.{ℕ, suc, pred, _+_, _-_, _*_, _/_, _%_, _≤_, _<_}
+use Prim.Native.Nat.{ℕ, pred, _-_, _*_, _/_, _%_, _≤_}
 use native.Mathlib.Nat.{mod-lt, div-add-mod', mul-mod-left, mul-le-mul, mul-le-mul-right, mul-pos}
 use native.Mathlib.Omega.{arith}
 use lib.Dec.{leb}
@@ -14,8 +14,8 @@ use Rattle.lists.proofs.Laws.{split}
 use Rattle.refusals.specs.Refusals.{bookLimit}
 use Rattle.evidence.specs.Evidence.{dayOf, values}
 use Rattle.evidence.proofs.ValueLaws.{value-same, values-same}
-use Rattle.layouts.specs.Layouts.{divides, allowedD, setupRefusal, chains}
-use Rattle.layouts.proofs.AllowedLaws.{Days, allowed-d-is, setup-bounds}
+use Rattle.layouts.specs.Layouts.{allowedD, setupRefusal, chains}
+use Rattle.layouts.proofs.AllowedLaws.{allowed-d-is, setup-bounds}
 use Rattle.layouts.proofs.Coverage.{chains-within}
 use Rattle.sha256.specs.Sha256.{sha256}
 use Rattle.chains.specs.Book.{start, bookOf}

@@ -4,6 +4,7 @@ pub mod OneSeason
 pub mod Concrete
 pub mod Detection
 pub mod Meets
+pub mod Reached
 pub mod Seal
 pub mod Records
 pub mod Sizing

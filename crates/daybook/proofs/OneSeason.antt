@@ -4,14 +4,11 @@ use mathlib.Core.List.{List, map, flatMap}
 use Prim.Native.Nat.{ℕ}
 use native.Mathlib.Omega.{arith}
 use lib.ListN.{length}
-use Rattle.lists.specs.Lists.{_among_}
 use Rattle.lists.proofs.Laws.{flatMap-one}
-use Rattle.refusals.specs.Refusals.{numberOf}
 use Rattle.chains.specs.Book.{bookOf}
-use Rattle.service.specs.Contract.{opened}
 use Rattle.journal.specs.Journal.{empty, refusals}
 use Rattle.journal.specs.Seasons.{Seasons, first, refusalsIn, allEntries, entriesOf}
-use Rattle.journal.specs.Run.{Call, argumentOf, journalOf, seasonsOf}
+use Rattle.journal.specs.Run.{argumentOf, journalOf, seasonsOf}
 use Rattle.journal.proofs.SeasonLaws.{only, stays-first}
 use Rattle.daybook.specs.Detection.{Handed, Premises, SealedApart, Detected}
 use Rattle.daybook.specs.Claim as seasons

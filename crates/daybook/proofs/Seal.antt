@@ -15,19 +15,15 @@ use Rattle.layouts.proofs.Coverage.{chains-suc, chains-front}
 use Rattle.ledger.specs.Ledger.{dayAt, daysOf}
 use Rattle.ledger.proofs.DayLaws.{days-none, days-snoc, days-length, days-at, days-at-length}
 use Rattle.chains.specs.Book.{bookOf}
-use Rattle.journal.specs.Journal.{Journal, empty, Argument, adds, closes, testsOf, refusalOf, entered}
+use Rattle.journal.specs.Journal.{Journal, Argument, adds, closes, testsOf, refusalOf}
 use Rattle.journal.specs.Seasons.{Seasons, first, keptIn, seasonsAfter, entriesOf}
 use Rattle.journal.specs.Run.{argumentOf}
-use Rattle.journal.proofs.SeasonLaws.{only, taken-only}
+use Rattle.journal.proofs.SeasonLaws.{seasons-append, only, taken-only}
 use Rattle.service.proofs.CallLaws.{opened-number}
 use Rattle.sealing.specs.Contract.{sealRefusal, sealedBook}
 use Rattle.sealing.proofs.SealLaws.{Sealable, sealable}
 use Rattle.daybook.specs.Claim.{sealed, wrote, dayCalls, sealCalls, SealClaim}
 use Rattle.daybook.proofs.Claim.{demand-3}
-
-seasons-append : (s n : ℕ) (xs ys : List Argument) (d : Seasons) → seasonsAfter s n d (xs ++ ys) ≡ seasonsAfter s n (seasonsAfter s n d xs) ys
-seasons-append s n [] ys d = refl
-seasons-append s n (a ∷ xs) ys d = seasons-append s n xs ys (keptIn s n d a)
 
 module _ (s n f d : ℕ) (ledger ends book : List ℕ) (ok : Sealable s n f d ledger ends book) where
   abbrev D : List (List ℕ)

@@ -131,6 +131,13 @@ PremisesMet =
     (passed : ℕ) → allowedPassed n d passed ≡ true →
     (x : Handed) × SameDays scheme n f cs t d passed x
 
+-- ---- every season can be reached: for each t and each number of days of a season some list of calls seals so many in it
+
+abbrev pub SeasonsReached : Type 0
+SeasonsReached =
+    (scheme n f : ℕ) → numberOf (opened scheme n f .answer) ≡ 0 → (t k : ℕ) → t ≤ lastSeason → 1 ≤ k → k ≤ bookLimit →
+    (cs : List Call) × (length (seasonsOf scheme n cs .past) ≡ t) × (length (sealed scheme n cs t) ≡ k)
+
 -- ---- a book written by seal
 
 -- the calls that seal stands for (SPEC 15.2): for each day, its bytes in one piece, and a close lent the book's rest

@@ -6,7 +6,7 @@ use mathlib.Core.Bool.{Bool, true, false, cond}
 use mathlib.Core.List.{List, [], _∷_, _++_, map, flatMap, append-assoc, append-nil, List·Memᴰ·head, List·Memᴰ·tail, List·Memᴰ·append-cases, List·Memᴰ·eq-of-singleton}
 use Prim.Native.Nat.{ℕ, zero, suc, _≤_, _<_}
 use native.Mathlib.Omega.{arith}
-use lib.Dec.{eqb, leb, ltb}
+use lib.Dec.{leb, ltb}
 use lib.ListN.{length, getD, length-append}
 use lib.Seq.{getD-append-seam}
 use borrow.Author.Tests.{leb-true, lt-leb, ltb-true, ltb-false, le-ltb, eqb-true, eqb-false}
@@ -301,6 +301,11 @@ module _ (s n f : ℕ) (e : numberOf (opened s n f .answer) ≡ 0) (cs : List Ca
   open-books =
       ap (λ (l : List ℕ). l ++ bookWritten (opened s n f .state) cs) (sym (flatMap-one (bookOf s n) [] ∙ book-none s n)) ∙
       from-open s n f e cs .whole
+
+-- one list after another
+pub seasons-append : (s n : ℕ) (xs ys : List Argument) (d : Seasons) → seasonsAfter s n d (xs ++ ys) ≡ seasonsAfter s n (seasonsAfter s n d xs) ys
+seasons-append s n [] ys d = refl
+seasons-append s n (a ∷ xs) ys d = seasons-append s n xs ys (keptIn s n d a)
 
 -- ---- a list that stays in season 0
 

@@ -72,7 +72,7 @@ opened scheme n f =
 abbrev pub turns : Record → Bool
 turns r = leb bookLimit (r .days) && ltb (r .season) lastSeason
 
--- the next season: the record of an accepted open, with the scheme, n, f and start of the one handed in
+-- the next season: as an accepted open gives it, with the scheme, n, f and start of the record handed in
 unfoldable pub turned : Record → Record
 turned r =
     record {
