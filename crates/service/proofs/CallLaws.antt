@@ -26,7 +26,7 @@ use Rattle.service.proofs.RecordLaws.{record-passes, record-open, curre
 module _ (r : Record) (size : ℕ) {x : ℕ} (e : x ≡ recordRefusal r) where
   pub add-early : (x ≡ 0 → ⊥) → x ≡ addRefusal r size
   unfolding recordRefusal addRefusal
-  add-early h = refused-before (recordTests r) (leb (current r .bytes + size) dayLimit orRefuse 4 ∷ []) e h
+  add-early h = refused-before (recordTests r) (drop 2 (addTests r size)) e h
 
   -- the bytes that are left are those of the record handed in: at a turn it has none open
   module _ (z : x ≡ 0) {left : ℕ} (q : left ≡ dayLimit - r .bytes) where
@@ -53,7 +53,7 @@ add-fits r size e z m = rw m (leb-true (current r .bytes + size) dayLimit (none-
 module _ (r : Record) (size : ℕ) {x : ℕ} (e : x ≡ recordRefusal r) where
   pub close-early : (x ≡ 0 → ⊥) → x ≡ closeRefusal r size
   unfolding recordRefusal closeRefusal
-  close-early h = refused-before (recordTests r) (leb (32 * dayCount (current r)) size orRefuse 8 ∷ []) e h
+  close-early h = refused-before (recordTests r) (drop 2 (closeTests r size)) e h
 
   module _ (z : x ≡ 0) {g k w : ℕ} (d : g ≡ suc (current r .days)) (c : k ≡ length (chainsOfDay (r .scheme) (r .n) g)) (q : w ≡ k) where
     count-is : w ≡ dayCount (current r)
@@ -93,7 +93,7 @@ module _ (s n f : ℕ) {x : ℕ} {state : Record} (e : x ≡ setupRefusal s n f)
 module _ (r : Record) (piece : List ℕ) {x : ℕ} (e : x ≡ addRefusal r (length piece)) where
   pub added-refused : (x ≡ 0 → ⊥) → record { answer = Refused x; state = r; blocks = 0 } ≡ added r piece
   unfolding added
-  added-refused h = rw (← e) (refused x h (grown (current r) piece) (grownBlocks (current r) piece))
+  added-refused h = rw (← e) (refused x h _ _)
     where
       refused : (x : ℕ) → (x ≡ 0 → ⊥) → (state : Record) (k : ℕ) →
           _≡_ {A = Added} record { answer = Refused x; state = r; blocks = 0 } record { answer = answerOf x; state = unlessRefused x state r; blocks = unlessRefused x k 0 }
@@ -109,8 +109,8 @@ module _ (r : Record) (part : List ℕ) {x : ℕ} (e : x ≡ closeRefusal r (len
   pub closing-refused : (x ≡ 0 → ⊥) → (record { answer = writing.Refused x; state = r; blocks = 0 } ≡ closing r part .result) × (part ≡ closing r part .part)
   unfolding closing
   closing-refused h = (
-    rw (← e) (refused x h (dayCount (current r)) (nextDay (current r)) (closedBlocks (current r))),
-    old-stays (closeRefusal r (length part)) (dayBytes (current r) ++ drop (length (dayBytes (current r))) part) part e h,
+    rw (← e) (refused x h _ _ _),
+    old-stays (closeRefusal r (length part)) _ part e h,
   )
     where
       refused : (x : ℕ) → (x ≡ 0 → ⊥) → (count : ℕ) (state : Record) (k : ℕ) →
