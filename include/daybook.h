@@ -22,30 +22,33 @@ extern "C" {
 #endif
 
 /* The version of this header: 10000 * major + 100 * minor + patch, and as text. */
-#define DAYBOOK_VERSION 800
-#define DAYBOOK_VERSION_TEXT "0.8.0"
+#define DAYBOOK_VERSION 900
+#define DAYBOOK_VERSION_TEXT "0.9.0"
 
 /* The bytes of a record. To be kept on disk as it is: no padding, the same on every machine.
  * Numbers are 32 bits, little-endian:
  *   offset   0  scheme
  *            4  N, days in a notarisation interval
  *            8  F, intervals per validation
- *           12  days closed
+ *           12  days closed, in the season
  *           16  bytes in the open day
  *           20  8 words: hash of the open day
  *           52  8 words: the black chain
  *           84  17 times 8 words: tile chains c(0) .. c(8), or tree levels 0 .. 16
  *          628  64 bytes: block of the open day
  *          692  8 words: the start of a chain, worked out by daybook_open
- * Before version 0.8.0 a record had 692 bytes and no start: such a one cannot be gone on with, and its
- * days are sealed again.
+ *          724  season
+ * A record of version 0.8 has 724 bytes and no season. It goes on: four zero bytes are appended, and it
+ * is a record of season 0. Before version 0.8.0 a record had 692 bytes and no start: such a one cannot
+ * be gone on with, and its days are sealed again.
  */
-#define DAYBOOK_RECORD 724
+#define DAYBOOK_RECORD 728
 
 #define DAYBOOK_VALUE 32            /* bytes of a value, and of a day's digest */
 #define DAYBOOK_PART 544            /* bytes that are enough for any daybook_close: 17 values */
 #define DAYBOOK_DAY_LIMIT 16777216  /* bytes that a day may hold */
-#define DAYBOOK_DAYS_LIMIT 65536    /* days in a book */
+#define DAYBOOK_DAYS_LIMIT 65536    /* days in a season, and so in a book */
+#define DAYBOOK_LAST_SEASON 65535   /* seasons count from 0 */
 #define DAYBOOK_BOOK_LIMIT 6290880  /* bytes that are enough for any book: scheme 3, N 1, 65,536 days */
 
 /* The schemes; the kinds of chains have the same numbers. */
@@ -55,14 +58,18 @@ enum daybook_scheme {
   DAYBOOK_TREE = 3
 };
 
+/* Until version 0.8 refusal 5 was DAYBOOK_BOOK_FULL, and said that 65,536 days were closed. A program that
+ * opened a new book when it met 5 is to be looked at: the service now opens the next season by itself, and
+ * the values of its next close belong to a new book (daybook_close). So the old name is gone. */
 enum daybook_refusal {
   DAYBOOK_DONE = 0,
   DAYBOOK_BAD_SCHEME = 1,        /* scheme is not 1 to 3 */
   DAYBOOK_BAD_N = 2,             /* N is not a power of two from 1 to 256 */
   DAYBOOK_BAD_F = 3,             /* F is not 1 to 64, or not 1 under scheme 3 */
   DAYBOOK_DAY_TOO_LONG = 4,      /* the piece would take the day over its limit */
-  DAYBOOK_BOOK_FULL = 5,         /* 65,536 days are closed */
-  DAYBOOK_BAD_RECORD = 6,        /* scheme, N or F not allowed, or days or bytes over their limit */
+  DAYBOOK_LAST_SEASON_FULL = 5,  /* 65,536 days are closed in season 65,535; no other season gives it */
+  DAYBOOK_BAD_RECORD = 6,        /* scheme, N or F not allowed; days, bytes or season over their limit; or
+                                    bytes in the open day beside 65,536 days closed */
   DAYBOOK_BAD_D = 7,             /* D is not 1 to 65,536 and a multiple of F * N */
   DAYBOOK_SHORT_BUFFER = 8,      /* an array to be written is shorter than its need */
   DAYBOOK_FEW_ENDS = 9,          /* fewer than D ends */
@@ -87,9 +94,9 @@ static inline const char *daybook_refusal_text(uint32_t number) {
   case DAYBOOK_BAD_N: return "N is not a power of two from 1 to 256";
   case DAYBOOK_BAD_F: return "F is not from 1 to 64, or not 1 under scheme 3";
   case DAYBOOK_DAY_TOO_LONG: return "the piece would take the day over 16,777,216 bytes";
-  case DAYBOOK_BOOK_FULL: return "65,536 days are closed, and a book holds no more";
+  case DAYBOOK_LAST_SEASON_FULL: return "the last season, 65,535, is full";
   case DAYBOOK_BAD_RECORD:
-    return "the record's scheme, N or F is not allowed, or its days or bytes are over their limit";
+    return "the record's scheme, N, F, days, bytes or season is not allowed, or it has bytes beside 65,536 days";
   case DAYBOOK_BAD_D: return "D is not from 1 to 65,536 and a multiple of F times N";
   case DAYBOOK_SHORT_BUFFER: return "a buffer to be written is shorter than its need";
   case DAYBOOK_FEW_ENDS: return "there are fewer than D ends";
@@ -109,16 +116,22 @@ static inline const char *daybook_refusal_text(uint32_t number) {
   }
 }
 
-/* Open a service: writes its record. Refusals 1 2 3, in that order. */
+/* Open a service at day 1 of season 0: writes its record. Refusals 1 2 3, in that order. */
 uint32_t daybook_open(uint32_t scheme, uint32_t n, uint32_t f, uint8_t record[DAYBOOK_RECORD]);
 
 /* Add a piece to the open day; to blocks[0] the SHA-256 blocks that this compressed: those that the
- * piece filled. Refusals 6 5 4. */
+ * piece filled.
+ * The turn: where the season is full (65,536 days closed) and not the last, the piece goes to day 1 of the
+ * next season, whose chains are fresh; a piece of length 0 opens that season too. The season of the record
+ * after the call (daybook_record_season) tells. A refused call leaves the record of the full season.
+ * Refusals 6 5 4. */
 uint32_t daybook_add(uint8_t record[DAYBOOK_RECORD], const uint8_t *piece, size_t piece_len,
                      uint32_t blocks[1]);
 
 /* Close the open day: writes its values to the front of part, 32 bytes each, their number to
  * values[0], and to blocks[0] the SHA-256 blocks that this compressed; the rest of part stays.
+ * The values belong to the book of the season that the record has after the call: each season has a book
+ * of its own. Where the season was full and not the last, day 1 of the next one is closed, an empty day.
  * Refusals 6 5 8. */
 uint32_t daybook_close(uint8_t record[DAYBOOK_RECORD], uint8_t *part, size_t part_len,
                        uint32_t values[1], uint32_t blocks[1]);
@@ -172,7 +185,12 @@ static inline uint32_t daybook_record_number(const uint8_t record[DAYBOOK_RECORD
          (uint32_t)record[offset + 2] << 16 | (uint32_t)record[offset + 3] << 24;
 }
 
-/* The days closed that a record names. */
+/* The season that a record names. That of a full season stays until the next accepted add or close. */
+static inline uint32_t daybook_record_season(const uint8_t record[DAYBOOK_RECORD]) {
+  return daybook_record_number(record, 724);
+}
+
+/* The days closed that a record names, in its season. */
 static inline uint32_t daybook_record_days(const uint8_t record[DAYBOOK_RECORD]) {
   return daybook_record_number(record, 12);
 }
@@ -185,8 +203,8 @@ static inline uint32_t daybook_record_open_bytes(const uint8_t record[DAYBOOK_RE
 /* The number of values in the book of D days, to values[0]. Refusals 1 2 3 7. */
 uint32_t daybook_values(uint32_t scheme, uint32_t n, uint32_t f, uint32_t d, uint32_t values[1]);
 
-/* The number of values of the days that a record has closed, to values[0], whether or not they make
- * whole intervals: what its closes have written so far. Refusal 6. */
+/* The number of values of the days that a record has closed in its season, to values[0], whether or not
+ * they make whole intervals: what the season's closes have written so far. Refusal 6. */
 uint32_t daybook_record_values(const uint8_t record[DAYBOOK_RECORD], uint32_t values[1]);
 
 /* Size a season before it is sealed, from the lengths of its days in bytes: to sizes[0] the values of

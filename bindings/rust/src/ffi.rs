@@ -313,14 +313,23 @@ mod tests {
         }
     }
 
+    /// The same with all days of a season closed.
+    fn full(season: u32) -> [u8; RECORD] {
+        let mut record = opened();
+        record[12..16].copy_from_slice(&65_536u32.to_le_bytes());
+        record[724..].copy_from_slice(&season.to_le_bytes());
+        record
+    }
+
     #[test]
     fn a_refused_add_leaves_record_and_blocks() {
         let long = vec![0; DAY_LIMIT as usize + 1];
-        let mut full = opened();
-        full[12..16].copy_from_slice(&65_536u32.to_le_bytes());
         for (number, kept, piece) in [
             (6, [0; RECORD], &long[..1]),
-            (5, full, &long[..]),
+            (6, full(65_536), &long[..]),
+            (5, full(65_535), &long[..]),
+            (4, full(65_534), &long[..]),
+            (4, full(0), &long[..]),
             (4, opened(), &long[..]),
         ] {
             let (mut record, mut blocks) = (kept, [77]);
@@ -331,9 +340,14 @@ mod tests {
 
     #[test]
     fn a_refused_close_leaves_every_array() {
-        let mut full = opened();
-        full[12..16].copy_from_slice(&65_536u32.to_le_bytes());
-        for (number, kept) in [(6, [0; RECORD]), (5, full), (8, opened())] {
+        for (number, kept) in [
+            (6, [0; RECORD]),
+            (6, full(65_536)),
+            (5, full(65_535)),
+            (8, full(65_534)),
+            (8, full(0)),
+            (8, opened()),
+        ] {
             let (mut record, mut part) = (kept, [170; 63]);
             let (mut values, mut blocks) = ([77], [78]);
             let answer = close(&mut record, &mut part, &mut values, &mut blocks);

@@ -2,7 +2,8 @@
 //! altered.
 //!
 //! Safe calls of the proved static library `libdaybook_c.a`. A [`Service`] takes each closing day's
-//! bytes and gives the values of the book; [`seal`] does the same for a whole ledger. [`check`]
+//! bytes and gives the values of the book; it goes on from season to season, each of 65,536 days with
+//! a book of its own. [`seal`] does the same for a whole ledger. [`check`]
 //! hashes the ledger again and compares it with the book; [`read`] lists the days that the outcomes
 //! tell of, and [`search`] does so chain by chain, up to a limit. [`forecast`] says from the lengths of
 //! the days what sealing them will take; [`chain_at`] and [`position_of`] lead from a position of a
@@ -61,7 +62,10 @@ pub use service::{Closed, Service};
 pub use sizing::{forecast, Sizes};
 
 /// Bytes of a record.
-pub const RECORD: usize = 724;
+pub const RECORD: usize = 728;
+/// Bytes of a record of version 0.8, which has no season: with four zero bytes behind it, it is a
+/// record of season 0.
+pub const RECORD_WITHOUT_SEASON: usize = 724;
 /// Bytes of a record before version 0.8.0. Its chains start otherwise, and no service goes on from
 /// it.
 pub const EARLIER_RECORD: usize = 692;
@@ -71,8 +75,10 @@ pub const VALUE: usize = 32;
 pub const PART: usize = 544;
 /// Bytes that a day may hold.
 pub const DAY_LIMIT: u32 = 16_777_216;
-/// Days in a book.
+/// Days in a season, and so in a book.
 pub const DAYS_LIMIT: u32 = 65_536;
+/// The number of the last season; the first is 0.
+pub const LAST_SEASON: u32 = 65_535;
 /// Bytes that are enough for any book: scheme 3, N 1, 65,536 days.
 pub const BOOK_LIMIT: usize = 6_290_880;
 

@@ -3,7 +3,8 @@ use std::fmt;
 
 use crate::{EARLIER_RECORD, RECORD};
 
-/// Bytes that are no record, since they are not [`RECORD`] many.
+/// Bytes that are no record, since they are neither [`RECORD`] many nor as many as one of version
+/// 0.8 has.
 ///
 /// Those of a version before 0.8.0 are [`EARLIER_RECORD`] many. Chains started otherwise then, and
 /// no service goes on from such a record: its days are sealed again.

@@ -23,9 +23,11 @@ pub enum Refusal {
     BadF = 3,
     /// The piece would take the day over [`DAY_LIMIT`](crate::DAY_LIMIT).
     DayTooLong = 4,
-    /// [`DAYS_LIMIT`](crate::DAYS_LIMIT) days are closed.
-    BookFull = 5,
-    /// The record's scheme, N or F is not allowed, or its days or bytes are over their limit.
+    /// The last season, [`LAST_SEASON`](crate::LAST_SEASON), is full. Every other full season is
+    /// followed by the next, which an accepted add or close opens by itself.
+    LastSeasonFull = 5,
+    /// The record's scheme, N or F is not allowed, its days, bytes or season are over their limit,
+    /// or it has bytes of an open day beside 65,536 closed days.
     BadRecord = 6,
     /// D is not 1 to 65,536 and a multiple of F·N.
     BadD = 7,
@@ -64,7 +66,7 @@ impl Refusal {
         Refusal::BadN,
         Refusal::BadF,
         Refusal::DayTooLong,
-        Refusal::BookFull,
+        Refusal::LastSeasonFull,
         Refusal::BadRecord,
         Refusal::BadD,
         Refusal::ShortBuffer,
@@ -123,9 +125,10 @@ impl Refusal {
             Refusal::BadN => "N is not a power of two from 1 to 256",
             Refusal::BadF => "F is not from 1 to 64, or not 1 under scheme 3",
             Refusal::DayTooLong => "the piece would take the day over 16,777,216 bytes",
-            Refusal::BookFull => "65,536 days are closed, and a book holds no more",
+            Refusal::LastSeasonFull => "the last season, 65,535, is full",
             Refusal::BadRecord => {
-                "the record's scheme, N or F is not allowed, or its days or bytes are over their limit"
+                "the record's scheme, N, F, days, bytes or season is not allowed, or it has bytes \
+                 beside 65,536 days"
             }
             Refusal::BadD => "D is not from 1 to 65,536 and a multiple of F times N",
             Refusal::ShortBuffer => "a buffer to be written is shorter than its need",

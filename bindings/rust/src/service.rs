@@ -1,6 +1,6 @@
 use std::fmt;
 
-use crate::{ffi, Layout, NotARecord, Refusal, PART, RECORD, VALUE};
+use crate::{ffi, Layout, NotARecord, Refusal, PART, RECORD, RECORD_WITHOUT_SEASON, VALUE};
 
 /// The service: days are added in pieces and closed, and each close gives the day's values.
 ///
@@ -19,13 +19,37 @@ use crate::{ffi, Layout, NotARecord, Refusal, PART, RECORD, VALUE};
 /// assert_eq!(service.days(), 2);
 /// # Ok::<(), Refusal>(())
 /// ```
+///
+/// # Seasons
+///
+/// A season has 65,536 days and a book of its own; seasons count from 0 to 65,535. When the last day
+/// of a season has been closed, the next add or close that is accepted opens the next season, at day 1
+/// with fresh chains. The values that a close gives belong to the book of [`Service::season`] as it is
+/// *after* the call:
+///
+/// ```
+/// use daybook::{Layout, Refusal, Service};
+///
+/// let mut service = Service::open(Layout::black(1, 1))?;
+/// let mut books = vec![Vec::new()];
+/// for _ in 0..65_538 {
+///     let values = service.close_day()?;
+///     books.resize(service.season() as usize + 1, Vec::new());
+///     books[service.season() as usize].extend(values);
+/// }
+/// assert_eq!((service.season(), service.days()), (1, 2));
+/// assert_eq!(books[0].len(), 32 * 65_536);
+/// assert_eq!(books[1].len(), 32 * 2);
+/// assert_eq!(books[1], books[0][..64]); // the same empty days, from the same start
+/// # Ok::<(), Refusal>(())
+/// ```
 #[derive(Clone, PartialEq, Eq)]
 pub struct Service {
     record: [u8; RECORD],
 }
 
 impl Service {
-    /// Opens a service at day 1.
+    /// Opens a service at day 1 of season 0.
     ///
     /// # Errors
     ///
@@ -39,9 +63,12 @@ impl Service {
     /// Adds a piece to the open day; it may be empty. Gives the SHA-256 blocks that this compressed:
     /// those that the piece filled.
     ///
+    /// Where the season is full the piece goes to day 1 of the next one, and an empty piece opens
+    /// that season too. [`Service::season`] after the call tells.
+    ///
     /// # Errors
     ///
-    /// Refusals 6 5 4, the first in this order; the service is then as it was.
+    /// Refusals 6 5 4, the first in this order; the service is then as it was, its season too.
     ///
     /// ```
     /// use daybook::{Layout, Refusal, Service};
@@ -59,6 +86,9 @@ impl Service {
 
     /// Closes the open day, writes its values to the front of `part`, gives their number and the
     /// blocks compressed, and opens the next day. [`PART`] bytes are always enough.
+    ///
+    /// The values belong to the book of [`Service::season`] as it is after the call: where the season
+    /// was full, day 1 of the next one has been closed, an empty day.
     ///
     /// # Errors
     ///
@@ -85,7 +115,8 @@ impl Service {
         })
     }
 
-    /// Closes the open day and gives its values, [`VALUE`] bytes each.
+    /// Closes the open day and gives its values, [`VALUE`] bytes each. They belong to the book of
+    /// [`Service::season`] as it is after the call.
     ///
     /// # Errors
     ///
@@ -130,32 +161,38 @@ impl Service {
         Service { record }
     }
 
-    /// The service of a record that was kept, whatever its length.
+    /// The service of a record that was kept, whatever its length. One of version 0.8, which has
+    /// [`RECORD_WITHOUT_SEASON`] bytes, is of season 0.
     ///
     /// # Errors
     ///
-    /// [`NotARecord`] where these are not [`RECORD`] bytes. Of a record of before version 0.8.0 it
-    /// says that its days are to be sealed again.
+    /// [`NotARecord`] where these are as many bytes as neither has. Of a record of before version
+    /// 0.8.0 it says that its days are to be sealed again.
     ///
     /// ```
     /// use daybook::{Layout, Refusal, Service};
     ///
     /// let service = Service::open(Layout::tree(4))?;
-    /// assert_eq!(Service::from_slice(&service.to_bytes()), Ok(service));
+    /// assert_eq!(Service::from_slice(&service.to_bytes()), Ok(service.clone()));
+    /// assert_eq!(Service::from_slice(&service.to_bytes()[..724]), Ok(service));
     /// assert_eq!(
     ///     Service::from_slice(&[0; 692]).unwrap_err().to_string(),
     ///     "this is the record of an earlier version, of 692 bytes: seal its days again"
     /// );
     /// assert_eq!(
     ///     Service::from_slice(b"rye").unwrap_err().to_string(),
-    ///     "a record has 724 bytes, and this has 3"
+    ///     "a record has 728 bytes, and this has 3"
     /// );
     /// # Ok::<(), Refusal>(())
     /// ```
     pub fn from_slice(record: &[u8]) -> Result<Service, NotARecord> {
         let length = record.len();
-        let record = record.try_into().map_err(|_| NotARecord { length })?;
-        Ok(Service { record })
+        if length != RECORD && length != RECORD_WITHOUT_SEASON {
+            return Err(NotARecord { length });
+        }
+        let mut bytes = [0; RECORD];
+        bytes[..length].copy_from_slice(record);
+        Ok(Service { record: bytes })
     }
 
     /// The layout that the record names.
@@ -186,7 +223,14 @@ impl Service {
         self.number_at(8)
     }
 
-    /// The number of days closed.
+    /// The season that the record is of. That of a full season stays until the next accepted add or
+    /// close.
+    #[must_use]
+    pub fn season(&self) -> u32 {
+        self.number_at(724)
+    }
+
+    /// The number of days closed in the season.
     #[must_use]
     pub fn days(&self) -> u32 {
         self.number_at(12)
@@ -198,7 +242,7 @@ impl Service {
         self.number_at(16)
     }
 
-    /// The number of values of the days closed: what the closes have written so far.
+    /// The number of values of the days closed in the season: what its closes have written so far.
     ///
     /// # Errors
     ///
@@ -242,6 +286,7 @@ impl fmt::Debug for Service {
     fn fmt(&self, out: &mut fmt::Formatter<'_>) -> fmt::Result {
         out.debug_struct("Service")
             .field("layout", &self.layout())
+            .field("season", &self.season())
             .field("days", &self.days())
             .field("open_bytes", &self.open_bytes())
             .finish_non_exhaustive()
@@ -255,7 +300,7 @@ mod tests {
     #[test]
     fn numbers_by_their_offsets() {
         let mut record = [0; RECORD];
-        for (place, byte) in record.iter_mut().take(20).enumerate() {
+        for (place, byte) in record.iter_mut().enumerate() {
             *byte = place as u8;
         }
         let service = Service::from_bytes(record);
@@ -264,6 +309,15 @@ mod tests {
         assert_eq!(service.f(), 0x0b0a_0908);
         assert_eq!(service.days(), 0x0f0e_0d0c);
         assert_eq!(service.open_bytes(), 0x1312_1110);
+        // 724 is 2 times 256 and d4 hex
+        assert_eq!(service.season(), 0xd7d6_d5d4);
         assert_eq!(service.to_bytes(), record);
+    }
+
+    #[test]
+    fn shown_with_its_season() {
+        let service = Service::open(Layout::tree(4)).unwrap();
+        let text = format!("{service:?}");
+        assert!(text.contains("season: 0, days: 0, open_bytes: 0"), "{text}");
     }
 }

@@ -27,6 +27,7 @@ fn limits() {
         ("DAYBOOK_PART", daybook::PART),
         ("DAYBOOK_DAY_LIMIT", daybook::DAY_LIMIT as usize),
         ("DAYBOOK_DAYS_LIMIT", daybook::DAYS_LIMIT as usize),
+        ("DAYBOOK_LAST_SEASON", daybook::LAST_SEASON as usize),
         ("DAYBOOK_BOOK_LIMIT", daybook::BOOK_LIMIT),
     ] {
         assert_eq!(defined(&header, name), number.to_string(), "{name}");
@@ -66,6 +67,7 @@ fn refusal_names(header: &str) -> Vec<(u32, String)> {
     let end = start + header[start..].find("};").unwrap();
     let lines = header[start..end].lines().skip(1);
     lines
+        .filter(|line| line.trim().starts_with("DAYBOOK_"))
         .map(|line| {
             let (name, rest) = line.trim().split_once(" = ").unwrap();
             let number = rest.split([',', ' ']).next().unwrap();

@@ -145,7 +145,12 @@ fn a_record_of_before_beside_another_layout() {
     let layout = |text: &str| fs::write(folder.file("s/layout"), text).unwrap();
     let record = |bytes: &[u8]| fs::write(folder.file("s/record"), bytes).unwrap();
     let numbered = format!("s/record: format version 1: {RECORD_BEFORE} {HOW}");
-    for text in [state.layout_text(2), state.layout_text(3), String::new()] {
+    for text in [
+        state.layout_text(2),
+        state.layout_text(3),
+        state.layout_text(4),
+        String::new(),
+    ] {
         layout(&text);
         named(&folder, &numbered);
     }
@@ -171,30 +176,36 @@ fn a_record_of_before_beside_another_layout() {
 fn a_layout_of_before_beside_another_record() {
     let (folder, _) = before("layout", 0, b"");
     assert_eq!(run(&folder, "open t --scheme 2 --n 2 --f 1").0, 0);
-    let record = fs::read(folder.file("t/record")).unwrap();
+    let mut record = fs::read(folder.file("t/record")).unwrap();
     fs::remove_dir_all(folder.file("t")).unwrap();
-    let differ =
-        "s/layout does not fit the state: its format version is 1, and that of the record \
-                  is 2. Nothing is written";
-    fs::write(folder.file("s/record"), &record).unwrap();
-    named(&folder, differ);
-    fs::write(folder.file("s/record"), &record[..100]).unwrap();
-    named(&folder, differ);
+    for version in [3, 2] {
+        let differ = format!(
+            "s/layout does not fit the state: its format version is 1, and that of the record is \
+             {version}. Nothing is written"
+        );
+        record[15] = b'0' + version;
+        fs::write(folder.file("s/record"), &record).unwrap();
+        named(&folder, &differ);
+        fs::write(folder.file("s/record"), &record[..100]).unwrap();
+        named(&folder, &differ);
+    }
 }
 
 /// A record of before, lengthened by hand: nothing that it would write could ever be checked.
 #[test]
 fn a_record_with_another_start() {
     let (folder, state) = before("start", 4, b"rye 12");
-    fs::write(folder.file("s/layout"), state.layout_text(2)).unwrap();
-    for start in [[0; 32], [7; 32]] {
-        let service = [&state.service()[..], &start].concat();
-        fs::write(folder.file("s/record"), state.record(2, &service)).unwrap();
-        named(
-            &folder,
-            "s/record does not fit the state: its chains do not start as those of scheme 2, N 2, \
-             F 1 do. Nothing is written",
-        );
+    for (version, season) in [(2, &[][..]), (3, &[0; 4])] {
+        fs::write(folder.file("s/layout"), state.layout_text(version)).unwrap();
+        for start in [[0; 32], [7; 32]] {
+            let service = [&state.service()[..], &start, season].concat();
+            fs::write(folder.file("s/record"), state.record(version, &service)).unwrap();
+            named(
+                &folder,
+                "s/record does not fit the state: its chains do not start as those of scheme 2, \
+                 N 2, F 1 do. Nothing is written",
+            );
+        }
     }
 }
 

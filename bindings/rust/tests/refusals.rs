@@ -111,9 +111,10 @@ fn numbers_of_days_by_every_call() {
     assert_eq!(values(LAYOUT, 65_536), Ok(65_536));
 }
 
-/// A record with these five numbers.
+/// A record of season 0 with these five numbers.
 fn record(scheme: u32, n: u32, f: u32, days: u32, open_bytes: u32) -> [u8; RECORD] {
     let mut record = [170; RECORD];
+    record[724..].fill(0);
     for (place, number) in record
         .chunks_exact_mut(4)
         .zip([scheme, n, f, days, open_bytes])
@@ -148,13 +149,26 @@ fn records() {
         (u32::MAX, 0),
         (0, 16_777_217),
         (65_536, u32::MAX),
+        (65_536, 16_777_216),
+        (65_536, 1),
     ] {
         assert_eq!(refused_both(record(2, 4, 2, days, open_bytes)), bad);
     }
     assert_eq!(refused_both([0; RECORD]), bad);
     assert_eq!(refused_both([255; RECORD]), bad);
-    let full = (Refusal::BookFull, Refusal::BookFull);
-    assert_eq!(refused_both(record(2, 4, 2, 65_536, 16_777_216)), full);
+    let full = (Refusal::LastSeasonFull, Refusal::LastSeasonFull);
+    let of_season = |season: u32, days, open_bytes| {
+        let mut record = record(2, 4, 2, days, open_bytes);
+        record[724..].copy_from_slice(&season.to_le_bytes());
+        record
+    };
+    assert_eq!(refused_both(of_season(65_535, 65_536, 0)), full);
+    assert_eq!(refused_both(of_season(65_535, 65_536, 1)), bad);
+    for season in [65_536, 65_537, 1 << 24, u32::MAX] {
+        for days in [0, 7, 65_535, 65_536] {
+            assert_eq!(refused_both(of_season(season, days, 0)), bad);
+        }
+    }
 }
 
 #[test]
@@ -164,7 +178,10 @@ fn made_up_records_that_are_taken() {
     assert_eq!(service.add(&[1]), Ok(0)); // with the byte in front 262,144 blocks and 1 byte
     assert_eq!(service.add(&[]), Ok(0));
     assert_eq!(service.close_day().unwrap().len(), 17 * 32);
-    assert_eq!(service.add(&[]), Err(Refusal::BookFull));
+    // the season is full, and the next call is made on the next one
+    assert_eq!((service.season(), service.days()), (0, 65_536));
+    assert_eq!(service.add(&[]), Ok(0));
+    assert_eq!((service.season(), service.days()), (1, 0));
 }
 
 #[test]

@@ -154,10 +154,10 @@ fn all_days_of_a_book() {
     }
     assert_eq!(values, 256);
     assert_eq!(service.days(), 65_536);
-    let full = service.clone();
-    assert_eq!(service.add(&[]), Err(Refusal::BookFull));
-    assert_eq!(service.close_day(), Err(Refusal::BookFull));
-    assert_eq!(service, full);
+    assert_eq!((service.season(), service.open_bytes()), (0, 0));
+    // a book has no more: the next day is one of another book
+    assert_eq!(service.close(&mut []).unwrap().values, 0);
+    assert_eq!((service.season(), service.days()), (1, 1));
 }
 
 #[test]

@@ -13,7 +13,7 @@ use common::{book_before, day, hex, ledger, start};
 use daybook::{check_to_vecs, forecast, seal_to_vec, Layout, Refusal, Service};
 use daybook::{DAY_LIMIT, PART, RECORD, VALUE};
 use random::Random;
-use record::{turned, Record, START_AT};
+use record::{turned, Record, SEASON_AT, START_AT};
 
 const D: u32 = 256;
 
@@ -57,7 +57,7 @@ fn starts_by_hand() {
     ] {
         assert_eq!(hex(&start(layout)), text);
         let kept = Service::open(layout).unwrap().to_bytes();
-        assert_eq!(kept[START_AT..], turned(start(layout)), "{layout}");
+        assert_eq!(kept[START_AT..SEASON_AT], turned(start(layout)), "{layout}");
     }
 }
 
@@ -70,7 +70,7 @@ fn fresh_records() {
         for layout in with_each_f(layout) {
             let kept = Service::open(layout).unwrap().to_bytes();
             assert_eq!(kept, Record::open(layout).to_bytes(), "{layout}");
-            let start: [u8; 32] = kept[START_AT..].try_into().unwrap();
+            let start: [u8; 32] = kept[START_AT..SEASON_AT].try_into().unwrap();
             for at in (52..628).step_by(32) {
                 assert_eq!(kept[at..at + 32], start, "{layout}, offset {at}");
             }
@@ -93,6 +93,7 @@ fn made_up(random: &mut Random, layout: Layout, days: u32) -> Record {
         slots: std::array::from_fn(|_| random.bytes()),
         block: random.bytes(),
         start: random.bytes(),
+        season: random.below(65_536) as u32,
     }
 }
 
@@ -122,7 +123,8 @@ fn made_up_records() {
             assert_eq!(part[..values.len()], values, "{text}");
             assert!(part[values.len()..].iter().all(|byte| *byte == 170));
             assert_eq!(service.to_bytes(), plain.to_bytes(), "{text}");
-            assert_eq!(service.to_bytes()[START_AT..], turned(start), "{text}");
+            let kept = service.to_bytes();
+            assert_eq!(kept[START_AT..SEASON_AT], turned(start), "{text}");
         }
     }
 }
@@ -135,10 +137,9 @@ fn refused_calls() {
     for layout in [Layout::black(1, 1), Layout::tile(2, 3), Layout::tree(4)] {
         let mut none = made_up(&mut random, layout, 3);
         none.layout.n = 3;
-        for (refusal, plain) in [
-            (Refusal::BookFull, made_up(&mut random, layout, 65_536)),
-            (Refusal::BadRecord, none),
-        ] {
+        let mut full = made_up(&mut random, layout, 65_536);
+        (full.season, full.bytes) = (65_535, 0);
+        for (refusal, plain) in [(Refusal::LastSeasonFull, full), (Refusal::BadRecord, none)] {
             let mut service = Service::from_bytes(plain.to_bytes());
             assert_eq!(service.add(&[1]), Err(refusal));
             assert_eq!(service.close(&mut [0; PART]), Err(refusal));
@@ -269,14 +270,23 @@ fn books_of_before() {
 #[test]
 fn records_of_other_lengths() {
     let kept = Service::open(Layout::tile(16, 2)).unwrap().to_bytes();
-    let service = Service::from_slice(&kept).unwrap();
-    assert_eq!(service.to_bytes(), kept);
-    for length in [0, 1, 20, START_AT - 1, START_AT, START_AT + 1, RECORD - 1] {
+    // one of version 0.8 is of season 0
+    for length in [SEASON_AT, RECORD] {
+        let service = Service::from_slice(&kept[..length]).unwrap();
+        assert_eq!(service.to_bytes(), kept);
+    }
+    let later = [[7; SEASON_AT].as_slice(), &[1, 2, 0, 0]].concat();
+    let service = Service::from_slice(&later).unwrap();
+    assert_eq!((service.season(), service.days()), (513, 0x0707_0707));
+    assert_eq!(service.to_bytes()[..], later);
+    let service = Service::from_slice(&later[..SEASON_AT]).unwrap();
+    assert_eq!((service.season(), service.days()), (0, 0x0707_0707));
+    for length in [0, 1, 20, 691, 692, 693, 723, 725, 726, 727] {
         let error = Service::from_slice(&kept[..length]).unwrap_err();
         assert_eq!(error.length, length);
         assert_eq!(error.is_earlier(), length == START_AT);
         let earlier = "this is the record of an earlier version, of 692 bytes: seal its days again";
-        let other = format!("a record has 724 bytes, and this has {length}");
+        let other = format!("a record has 728 bytes, and this has {length}");
         let words = if length == START_AT { earlier } else { &other };
         assert_eq!(error.to_string(), words);
     }

@@ -118,7 +118,7 @@ fn days_one_by_one_give_the_book() {
         said(&folder, &format!("open s {scheme}"), "s is open");
         assert_eq!(names(&folder.file("s")), FRESH);
         let text = format!(
-            "daybook state 2\nscheme {}\nn {}\nf {}\n",
+            "daybook state 3\nscheme {}\nn {}\nf {}\n",
             layout.scheme, layout.n, layout.f
         );
         assert_eq!(read(&folder, "s/layout"), text.as_bytes());
@@ -179,8 +179,15 @@ fn what_status_prints() {
     said(&folder, "add s --day 4 --at 0 d1 d2", "day 4 has 21 bytes");
     assert_eq!(
         status(&folder),
-        "scheme 2\nn 2\nf 1\ndays 3\nopen 21\nvalues 3\ncheckable 2\ninterrupted no\nclean 0\n"
+        "scheme 2\nn 2\nf 1\nseason 0\ndays 3\nopen 21\nvalues 3\ncheckable 2\n\
+         interrupted no\nclean 0\n"
     );
+    assert_eq!(
+        run(&folder, "status s --season 0").1,
+        status(&folder),
+        "the present season"
+    );
+    fault(&folder, "status s --season 1", "there is no season 1 yet");
     let before = tree(folder.path());
     fs::write(folder.file("s/record.new"), "half").unwrap();
     let (_, out, messages) = run(&folder, "status s");
@@ -373,7 +380,7 @@ fn the_form_of_the_record() {
     let sealed = book(Layout::tile(2, 1), &days[..2]);
     let lines = index(&days[..2]);
     let expected = record_file(
-        2,
+        3,
         &service.to_bytes(),
         [&sealed, lines.as_bytes(), &days[3]],
         "d4",
@@ -390,23 +397,29 @@ fn the_last_day_of_a_book() {
         made.extend(service.close_day().unwrap());
         lines += &format!("{day},0,{},\n", hex(&digest(b"")));
     }
-    let layout = "daybook state 2\nscheme 1\nn 256\nf 1\n";
+    let layout = "daybook state 3\nscheme 1\nn 256\nf 1\n";
     fs::write(folder.file("s/layout"), layout).unwrap();
     fs::write(folder.file("s/book"), &made).unwrap();
     fs::write(folder.file("s/index"), &lines).unwrap();
-    let bytes = record_file(2, &service.to_bytes(), [&made, lines.as_bytes(), &[]], "");
+    let bytes = record_file(3, &service.to_bytes(), [&made, lines.as_bytes(), &[]], "");
     fs::write(folder.file("s/record"), bytes).unwrap();
     said(&folder, "add s --day 65536 --at 0 d2", "day 65536 has");
     said(
         &folder,
         "close s --day 65536",
-        "is closed: bytes 14, values 1",
+        "is closed: bytes 14, values 1\ndaybook: season 0 is full: next is day 1 of season 1, \
+         whose values go to book-1\n",
     );
-    refused(&folder, "add s --day 65537 --at 0 d1", 5);
-    refused(&folder, "close s --day 65537", 5);
-    refused(&folder, "close s --day 65537 d1", 5);
-    fault(&folder, "close s --day 65538 d1", "not the next one");
-    assert!(status(&folder).contains("days 65536\nopen 0\nvalues 256\ncheckable 65536\n"));
+    for line in [
+        "add s --day 65537 --at 0 d1",
+        "close s --day 65537",
+        "close s --day 65537 d1",
+        "close s --day 65538 d1",
+    ] {
+        fault(&folder, line, "is not the next one: day 1 of season 1 is");
+    }
+    let text = "season 0\ndays 65536\nopen 0\nvalues 256\ncheckable 65536\n";
+    assert!(status(&folder).contains(text));
 }
 
 /// Every command that takes a state, with what it would do to this one.
@@ -477,14 +490,27 @@ fn other_versions() {
     let layout = String::from_utf8(read(&folder, "s/layout")).unwrap();
     fs::write(
         folder.file("s/layout"),
-        layout.replace("state 2", "state 3"),
+        layout.replace("state 3", "state 4"),
     )
     .unwrap();
     fault(
         &folder,
         "status s",
-        "s/layout does not fit the state: its format version is 3",
+        "s/layout does not fit the state: its format version is 4, and this program knows 2 and 3 \
+         only",
     );
+    fs::write(
+        folder.file("s/layout"),
+        layout.replace("state 3", "state 2"),
+    )
+    .unwrap();
+    for command in COMMANDS {
+        fault(
+            &folder,
+            command,
+            "s/layout does not fit the state: its format version is 2, and that of the record is 3",
+        );
+    }
     fs::write(folder.file("s/layout"), layout).unwrap();
     let mut record = read(&folder, "s/record");
     record[15] = b'7';
@@ -501,10 +527,21 @@ fn a_record_that_the_service_cannot_go_on_from() {
     let folder = state("six", 0);
     let mut service = Service::open(Layout::tile(2, 1)).unwrap().to_bytes();
     service[4] = 3;
-    let bytes = record_file(2, &service, [&[], &[], &[]], "");
+    let bytes = record_file(3, &service, [&[], &[], &[]], "");
     fs::write(folder.file("s/record"), bytes).unwrap();
     refused(&folder, "status s", 6);
     refused(&folder, "close s --day 1 d1", 6);
+    // a season over the last, and open bytes beside 65,536 days
+    for (season, days, open) in [(65_536u32, 0u32, 0u32), (0, 65_536, 1)] {
+        let mut service = Service::open(Layout::tile(2, 1)).unwrap().to_bytes();
+        service[12..16].copy_from_slice(&days.to_le_bytes());
+        service[16..20].copy_from_slice(&open.to_le_bytes());
+        service[724..].copy_from_slice(&season.to_le_bytes());
+        let bytes = record_file(3, &service, [&[], &[], &[]], "");
+        fs::write(folder.file("s/record"), bytes).unwrap();
+        refused(&folder, "status s", 6);
+        refused(&folder, "add s --day 1 --at 0 d1", 6);
+    }
 }
 
 #[test]

@@ -30,8 +30,26 @@ pub fn tree(root: &Path) -> Tree {
 }
 
 /// The file `record` of a format version: a service's record, what book, index and the open day's
-/// file hold with it, and the names of the open day's sources.
+/// file hold with it, and the names of the open day's sources. From version 3 on there is a file
+/// `seasons` too, which is empty here.
 pub fn record_file(version: u32, service: &[u8], files: [&[u8]; 3], names: &str) -> Vec<u8> {
+    let seasons: &[&[u8]] = if version < 3 { &[] } else { &[&[]] };
+    record_of(version, service, &[&files, seasons].concat(), names)
+}
+
+/// The same, with all files that it says.
+pub fn record_of(version: u32, service: &[u8], files: &[&[u8]], names: &str) -> Vec<u8> {
+    record_with(digest, version, service, files, names)
+}
+
+/// The same by another digest.
+pub fn record_with(
+    digest: fn(&[u8]) -> [u8; 32],
+    version: u32,
+    service: &[u8],
+    files: &[&[u8]],
+    names: &str,
+) -> Vec<u8> {
     let mut bytes = format!("daybook record {version}\n").into_bytes();
     bytes.extend(service);
     for file in files {

@@ -1,4 +1,4 @@
-//! A record and its calls, written plainly from docs/SPEC.md 5 and 15.4. Nothing here calls the
+//! A record and its calls, written plainly from docs/SPEC.md 5, 15.4 and 23. Nothing here calls the
 //! library.
 
 #![allow(dead_code)] // each test program uses some of it
@@ -11,6 +11,8 @@ pub type Value = [u8; 32];
 
 /// Where the start stands in a record's bytes: behind all that a record had before version 0.8.0.
 pub const START_AT: usize = 692;
+/// Where the season stands: behind all that a record of version 0.8 had.
+pub const SEASON_AT: usize = 724;
 
 #[derive(Clone, Debug, PartialEq, Eq)]
 pub struct Record {
@@ -25,6 +27,7 @@ pub struct Record {
     pub slots: [Value; 17],
     pub block: [u8; 64],
     pub start: Value,
+    pub season: u32,
 }
 
 /// What a close gives.
@@ -54,6 +57,22 @@ impl Record {
             slots: [start; 17],
             block: [0; 64],
             start,
+            season: 0,
+        }
+    }
+
+    /// The record of the next season, where this one is full: that of an open, with its own start.
+    pub fn next_season(&self) -> Record {
+        Record {
+            season: self.season + 1,
+            ..Record::started(self.layout, self.start)
+        }
+    }
+
+    /// Goes on in the next season, where this one is full.
+    fn turn(&mut self) {
+        if self.days == 65_536 {
+            *self = self.next_season();
         }
     }
 
@@ -69,11 +88,14 @@ impl Record {
         bytes.extend(self.block);
         assert_eq!(bytes.len(), START_AT);
         bytes.extend(turned(self.start));
+        assert_eq!(bytes.len(), SEASON_AT);
+        bytes.extend(self.season.to_le_bytes());
         bytes.try_into().unwrap()
     }
 
     /// Adds a piece; gives the blocks that it fills.
     pub fn add(&mut self, piece: &[u8]) -> u32 {
+        self.turn();
         let whole = [&self.block[..self.fill()], piece].concat();
         let mut blocks = whole.chunks_exact(64);
         let count = self.hash(&mut blocks);
@@ -86,6 +108,7 @@ impl Record {
 
     /// Closes the open day.
     pub fn close(&mut self) -> Closed {
+        self.turn();
         let (digest, mut blocks) = self.digest();
         let g = self.days + 1;
         self.black = link(self.black, digest);

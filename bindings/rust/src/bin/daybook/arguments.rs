@@ -7,7 +7,7 @@ use std::path::{Path, PathBuf};
 use daybook::{Chain, Kind, Layout};
 
 use crate::help;
-use crate::state::{Kept, Sealed, Service};
+use crate::state::{Day, Kept, Sealed, Service};
 use crate::stop::Stop;
 
 #[derive(Debug, PartialEq, Eq)]
@@ -139,13 +139,19 @@ const FORMS: [Form; 12] = [
         &[WORDS, "--scheme", "--n", "--f"],
         |options| options.service(open),
     ),
-    ("add", help::ADD, &[WORDS, "--day", "--at"], |options| {
-        options.service(add)
-    }),
-    ("close", help::CLOSE, &[WORDS, "--day"], |options| {
-        options.service(close)
-    }),
-    ("status", help::STATUS, &[WORDS], |options| {
+    (
+        "add",
+        help::ADD,
+        &[WORDS, "--season", "--day", "--at"],
+        |options| options.service(add),
+    ),
+    (
+        "close",
+        help::CLOSE,
+        &[WORDS, "--season", "--day"],
+        |options| options.service(close),
+    ),
+    ("status", help::STATUS, &[WORDS, "--season"], |options| {
         options.service(status)
     }),
     (
@@ -169,6 +175,7 @@ const FORMS: [Form; 12] = [
             "--ends",
             "--book",
             "--state",
+            "--season",
             "--outcomes",
             "--digests",
         ],
@@ -183,6 +190,7 @@ const FORMS: [Form; 12] = [
             "--f",
             "--d",
             "--state",
+            "--season",
             "--passed",
             "--outcomes",
             "--days",
@@ -199,6 +207,7 @@ const FORMS: [Form; 12] = [
             "--f",
             "--d",
             "--state",
+            "--season",
             "--limit",
             "--outcomes",
             "--days",
@@ -211,7 +220,7 @@ const FORMS: [Form; 12] = [
         help::VERIFY,
         &[
             "--scheme", "--n", "--f", "--d", "--days", "--ledger", "--ends", "--book", "--state",
-            "--passed", "--names", "--figure",
+            "--season", "--passed", "--names", "--figure",
         ],
         verify,
     ),
@@ -238,6 +247,7 @@ const FORMS: [Form; 12] = [
             "--f",
             "--d",
             "--state",
+            "--season",
             "--position",
             "--kind",
             "--index",
@@ -398,10 +408,7 @@ fn open(options: &mut Options) -> Result<Service, Stop> {
 }
 
 fn add(options: &mut Options) -> Result<Service, Stop> {
-    let (day, at) = (
-        options.needed_number("--day")?,
-        options.needed_number("--at")?,
-    );
+    let (day, at) = (options.day()?, options.needed_number("--at")?);
     let files = options.files()?;
     if files.is_empty() {
         return Err(usage("add needs FILE, or - for standard input"));
@@ -411,14 +418,15 @@ fn add(options: &mut Options) -> Result<Service, Stop> {
 
 fn close(options: &mut Options) -> Result<Service, Stop> {
     Ok(Service::Close {
-        day: options.needed_number("--day")?,
+        day: options.day()?,
         files: options.files()?,
     })
 }
 
 fn status(options: &mut Options) -> Result<Service, Stop> {
     options.no_files()?;
-    Ok(Service::Status)
+    let season = options.number("--season")?;
+    Ok(Service::Status { season })
 }
 
 /// The options of a command, each given at most once, and its other words.
@@ -432,8 +440,8 @@ struct Options {
     kept: Option<Box<Kept>>,
 }
 
-/// How a state folder is read, D being the one given.
-type Reader = fn(&Path, Option<u32>) -> Result<Sealed, Stop>;
+/// How a state folder is read, the season and D being those given.
+type Reader = fn(&Path, Option<u32>, Option<u32>) -> Result<Sealed, Stop>;
 
 impl Options {
     /// Reads the words as options with values; none where one of them asks for help.
@@ -511,6 +519,14 @@ impl Options {
         })
     }
 
+    /// The day that is given, with its season where that is given too.
+    fn day(&mut self) -> Result<Day, Stop> {
+        Ok(Day {
+            day: self.needed_number("--day")?,
+            season: self.number("--season")?,
+        })
+    }
+
     fn flag(&mut self, name: &str) -> bool {
         self.take(name).is_some()
     }
@@ -540,15 +556,19 @@ impl Options {
 
     /// Takes layout, number of days and book from the state folder, as if they had been given.
     fn use_state(&mut self, read: Reader) -> Result<(), Stop> {
+        let season = self.number("--season")?;
         let Some(folder) = self.path("--state") else {
-            return Ok(());
+            return match season {
+                None => Ok(()),
+                Some(_) => Err(usage("--season needs --state")),
+            };
         };
         for name in ["--scheme", "--n", "--f", "--book"] {
             if self.take(name).is_some() {
                 return Err(usage(&format!("--state has what {name} gives: not both")));
             }
         }
-        let sealed = read(&folder, self.number("--d")?)?;
+        let sealed = read(&folder, season, self.number("--d")?)?;
         let Layout { scheme, n, f } = sealed.layout;
         for (name, number) in [
             ("--scheme", scheme),
@@ -1008,14 +1028,26 @@ mod tests {
         assert_eq!(parsed("open s --scheme 2 --n 16 --f 2"), open);
         assert_eq!(parsed("open --scheme 2 --n 16 s --f 2"), open);
         let files = |names: &[&str]| names.iter().map(OsString::from).collect();
+        let day = |season, day| Day { season, day };
         assert_eq!(
             parsed("add s --day 7 --at 0 a b"),
             service(
                 "s",
                 Service::Add {
-                    day: 7,
+                    day: day(None, 7),
                     at: 0,
                     files: files(&["a", "b"])
+                }
+            )
+        );
+        assert_eq!(
+            parsed("add s --day 7 --at 0 --season 65535 a"),
+            service(
+                "s",
+                Service::Add {
+                    day: day(Some(65_535), 7),
+                    at: 0,
+                    files: files(&["a"])
                 }
             )
         );
@@ -1024,12 +1056,24 @@ mod tests {
             service(
                 "s",
                 Service::Close {
-                    day: 7,
+                    day: day(None, 7),
                     files: files(&["-"])
                 }
             )
         );
-        assert_eq!(parsed("status s"), service("s", Service::Status));
+        assert_eq!(
+            parsed("close s --season=0 --day 7"),
+            service(
+                "s",
+                Service::Close {
+                    day: day(Some(0), 7),
+                    files: vec![]
+                }
+            )
+        );
+        let status = |season| service("s", Service::Status { season });
+        assert_eq!(parsed("status s"), status(None));
+        assert_eq!(parsed("status s --season 2"), status(Some(2)));
         assert_eq!(message("status"), "status needs DIR");
         assert_eq!(message("status s t"), "status takes no t");
         assert_eq!(
@@ -1047,6 +1091,34 @@ mod tests {
             "- for standard input stands alone"
         );
         assert_eq!(message("close s"), "close needs --day");
+        assert_eq!(message("close s --season 1"), "close needs --day");
+        assert_eq!(message("open s --season 1"), "open has no option --season");
+        for line in ["close s --day 1", "status s", "add s --day 1 --at 0 a"] {
+            assert_eq!(
+                message(&format!("{line} --season -1")),
+                "--season -1 is not a number from 0 to 4294967295 in plain digits"
+            );
+        }
+    }
+
+    #[test]
+    fn a_season_is_one_of_a_state() {
+        let book = "--scheme 3 --n 4 --f 1 --d 8";
+        for line in [
+            format!("check {book} --days in --book b --outcomes o"),
+            format!("read {book} --outcomes o"),
+            format!("search {book} --outcomes o"),
+            format!("verify {book} --days in --book b"),
+            format!("locate {book} --position 1"),
+        ] {
+            assert!(matches!(parsed(&line), Ok(Request::Run(_))), "{line}");
+            let said = message(&format!("{line} --season 0"));
+            assert_eq!(said, "--season needs --state");
+        }
+        for command in ["seal", "forecast", "ambiguity"] {
+            let said = message(&format!("{command} --season 0"));
+            assert_eq!(said, format!("{command} has no option --season"));
+        }
     }
 
     #[test]

@@ -4,7 +4,7 @@
 use std::path::Path;
 
 use super::files::{at, misfit};
-use super::form::{layout_age, record_age, Age, RECORD_MOST, VERSION};
+use super::form::{layout_age, record_age, Age, RECORD_MOST};
 use super::{LAYOUT, RECORD};
 use crate::files::read_front;
 use crate::older;
@@ -14,9 +14,9 @@ use crate::stop::Stop;
 pub fn test(folder: &Path) -> Result<(), Stop> {
     let (layout, record) = (at(folder, LAYOUT), at(folder, RECORD));
     match (layout_age(&bytes(&layout)), record_age(&bytes(&record))) {
-        (Age::Older(_), Age::Now) => Err(misfit(
+        (Age::Older(_), Age::Now(version)) => Err(misfit(
             &layout,
-            format!("its format version is 1, and that of the record is {VERSION}"),
+            format!("its format version is 1, and that of the record is {version}"),
         )),
         (Age::Older(what), _) => Err(older::file(&layout, what)),
         (_, Age::Older(what)) => Err(older::file(&record, what)),

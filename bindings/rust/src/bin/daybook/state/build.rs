@@ -49,10 +49,12 @@ fn open_again(folder: &Path, place: &Path, service: Service) -> Result<(), Stop>
     let mut state = State::load(folder, Access::Write)?;
     if state.record != Record::fresh(service) {
         return Err(Stop::Fault(format!(
-            "{} holds a state already: {}, days closed {}, open bytes {}. Nothing is written",
+            "{} holds a state already: {}, season {}, days closed {}, open bytes {}. Nothing is \
+             written",
             folder.display(),
             state.layout(),
-            state.days(),
+            state.season.number,
+            state.season.days,
             state.day.len()
         )));
     }

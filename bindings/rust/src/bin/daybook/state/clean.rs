@@ -5,19 +5,21 @@ use std::path::{Path, PathBuf};
 use daybook::DAYS_LIMIT;
 
 use super::digest::{digest, Digest};
-use super::files::{misfit, put, sync_folder};
+use super::files::{misfit, of_season, put, sync_folder};
 use super::form::{CleanDay, CLEAN_MOST};
 use super::load::State;
 use super::lock::Access;
+use super::season::Season;
 use super::{CLEAN, CLEAN_NEW};
 use crate::files::read_front;
 use crate::say;
 use crate::stop::Stop;
 
-/// What a state folder keeps of D days and of fewer.
+/// What a state folder keeps of D days of a season and of fewer.
 #[derive(Debug, PartialEq, Eq)]
 pub struct Kept {
     folder: PathBuf,
+    season: u32,
     d: u32,
     /// The last day below D that is kept and fits the book; 0 where there is none.
     pub before: u32,
@@ -26,12 +28,13 @@ pub struct Kept {
 }
 
 impl Kept {
-    pub fn of(state: &State, folder: &Path, d: u32) -> Result<Kept, Stop> {
-        let days = load(state)?;
+    pub fn of(season: &Season, folder: &Path, d: u32) -> Result<Kept, Stop> {
+        let days = load(season)?;
         Ok(Kept {
             folder: folder.to_path_buf(),
+            season: season.number,
             d,
-            before: last(state, days.iter().filter(|day| day.day < d)),
+            before: last(season, days.iter().filter(|day| day.day < d)),
             digest: days.iter().find(|day| day.day == d).map(|day| day.digest),
         })
     }
@@ -59,13 +62,19 @@ impl Kept {
 
     fn write(&self, new: CleanDay, front: &[u8]) -> Result<(), Stop> {
         let mut state = State::load(&self.folder, Access::Write)?;
-        if state.front_of(new.day) != Some(front) {
+        // the season may be a past one, also where it was not when it was checked
+        let past = match self.season == state.season.number {
+            true => None,
+            false => Some(state.past(self.season)?),
+        };
+        let season = past.as_ref().unwrap_or(&state.season);
+        if season.front_of(new.day) != Some(front) {
             return Err(misfit(
-                &state.path(super::BOOK),
+                &season.path(super::BOOK),
                 "it is not the one that was checked",
             ));
         }
-        let mut days = load(&state)?;
+        let mut days = load(season)?;
         if days.contains(&new) {
             return Ok(());
         }
@@ -74,21 +83,22 @@ impl Kept {
         days.sort_by_key(|day| day.day);
         state.settle()?;
         let text: String = days.iter().map(CleanDay::text).collect();
-        put(&self.folder, (CLEAN_NEW, CLEAN), text.as_bytes())
+        let name = of_season(CLEAN, self.season);
+        put(&self.folder, (CLEAN_NEW, &name), text.as_bytes())
     }
 }
 
-/// The last day that is kept and fits the book; 0 where there is none.
-pub fn last_of(state: &State) -> Result<u32, Stop> {
-    Ok(last(state, load(state)?.iter()))
+/// The last day of a season that is kept and fits the book; 0 where there is none.
+pub fn last_of(season: &Season) -> Result<u32, Stop> {
+    Ok(last(season, load(season)?.iter()))
 }
 
 /// The last of these days that fits the book. Later ones are said, and not used.
-fn last<'a>(state: &State, days: impl DoubleEndedIterator<Item = &'a CleanDay>) -> u32 {
+fn last<'a>(season: &Season, days: impl DoubleEndedIterator<Item = &'a CleanDay>) -> u32 {
     let mut others = Vec::new();
     let mut found = 0;
     for day in days.rev() {
-        if fits(state, day) {
+        if fits(season, day) {
             found = day.day;
             break;
         }
@@ -98,21 +108,21 @@ fn last<'a>(state: &State, days: impl DoubleEndedIterator<Item = &'a CleanDay>) 
         others.reverse();
         say(&format!(
             "note: {} has days that are not of this book, and are not used: {}",
-            state.path(CLEAN).display(),
+            season.path(CLEAN).display(),
             others.join(" ")
         ));
     }
     found
 }
 
-fn fits(state: &State, day: &CleanDay) -> bool {
-    let front = state.front_of(day.day);
+fn fits(season: &Season, day: &CleanDay) -> bool {
+    let front = season.front_of(day.day);
     front.is_some_and(|front| digest(front) == day.digest)
 }
 
-/// The days that the folder keeps; none where it has no such file.
-fn load(state: &State) -> Result<Vec<CleanDay>, Stop> {
-    let path = state.path(CLEAN);
+/// The days that the folder keeps of a season; none where it has no such file.
+fn load(season: &Season) -> Result<Vec<CleanDay>, Stop> {
+    let path = season.path(CLEAN);
     if !path.exists() {
         return Ok(Vec::new());
     }

@@ -5,6 +5,8 @@ use std::fs::{self, File, OpenOptions};
 use std::io::{self, ErrorKind, Seek, SeekFrom, Write};
 use std::path::{Path, PathBuf};
 
+use daybook::LAST_SEASON;
+
 use super::form::{Extent, Record};
 use super::{RECORD, RECORD_NEW};
 use crate::files::{read_front, unread, unwritten};
@@ -23,6 +25,21 @@ pub fn day_name(day: u32) -> String {
 pub fn day_of(name: &str) -> Option<u32> {
     let day = name.strip_prefix("day-")?.parse().ok()?;
     (day_name(day) == name).then_some(day)
+}
+
+/// The name of a season's file. Those of season 0 have no number.
+pub fn of_season(name: &str, season: u32) -> String {
+    match season {
+        0 => name.to_string(),
+        _ => format!("{name}-{season}"),
+    }
+}
+
+/// The season from 1 on whose file this is.
+pub fn season_of(name: &str, file: &str) -> Option<u32> {
+    let season = file.strip_prefix(name)?.strip_prefix('-')?.parse().ok()?;
+    let own = (1..=LAST_SEASON).contains(&season) && of_season(name, season) == file;
+    own.then_some(season)
 }
 
 /// A file that is not what the record says.
@@ -65,6 +82,31 @@ pub fn front(path: &Path, extent: Extent, most: u64) -> Result<Front, Stop> {
         ));
     }
     Ok(Front { bytes, tail })
+}
+
+/// The bytes of a file of a past season, which `seasons` says.
+pub fn past_bytes(path: &Path, extent: Extent) -> Result<Vec<u8>, Stop> {
+    test_past_length(path, extent)?;
+    let (bytes, _) = read_front(path, extent.length)?;
+    match Extent::of(&bytes) == extent {
+        true => Ok(bytes),
+        false => Err(misfit(path, "its bytes are not those that seasons says")),
+    }
+}
+
+/// A file of a past season is there, with the length that `seasons` says.
+pub fn test_past_length(path: &Path, extent: Extent) -> Result<(), Stop> {
+    let has = fs::metadata(path)
+        .map_err(|error| unread(path, error))?
+        .len();
+    let length = extent.length;
+    match has == length {
+        true => Ok(()),
+        false => Err(misfit(
+            path,
+            format!("it has {has} bytes, and seasons says {length}"),
+        )),
+    }
 }
 
 /// The bytes of the record, of which there is always one.
@@ -143,6 +185,27 @@ pub fn cut(path: &Path, length: u64) -> Result<(), Stop> {
 #[cfg(test)]
 mod tests {
     use super::*;
+
+    #[test]
+    fn names_of_seasons() {
+        assert_eq!(of_season("book", 0), "book");
+        assert_eq!(of_season("book", 17), "book-17");
+        assert_eq!(season_of("book", "book-17"), Some(17));
+        assert_eq!(season_of("index", "index-65535"), Some(65_535));
+        for name in [
+            "book",
+            "book-",
+            "book-0",
+            "book-017",
+            "book-65536",
+            "book-x",
+            "books-1",
+            "index-1",
+            "book-1.new",
+        ] {
+            assert_eq!(season_of("book", name), None, "{name}");
+        }
+    }
 
     #[test]
     fn names_of_days() {

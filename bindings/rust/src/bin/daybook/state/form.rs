@@ -1,14 +1,17 @@
 //! The forms of the files of a state folder. docs/SERVICE.md describes them.
 
-use daybook::{Layout, NotARecord, Service, DAYS_LIMIT, EARLIER_RECORD, RECORD, VALUE};
+use daybook::{Layout, NotARecord, Service, VALUE};
+use daybook::{DAYS_LIMIT, EARLIER_RECORD, LAST_SEASON, RECORD, RECORD_WITHOUT_SEASON};
 
 use super::digest::{digest, hex, Digest};
 use crate::older;
 
-/// The format version that this program writes, and the only one that it reads.
-pub const VERSION: &str = "2";
+/// The format version that this program writes.
+pub const VERSION: u32 = 3;
+/// The one of version 0.8, which it reads too: its service has season 0 alone.
+pub const VERSION_WITHOUT_SEASON: u32 = 2;
 /// The one of the programs before 0.8.0.
-const EARLIER_VERSION: &str = "1";
+const EARLIER_VERSION: u32 = 1;
 const LAYOUT_START: &str = "daybook state ";
 const RECORD_START: &str = "daybook record ";
 
@@ -43,6 +46,8 @@ pub struct Record {
     pub day: Extent,
     /// The names of the open day's sources, as in the index.
     pub names: String,
+    /// The file `seasons`, with a line for each past season.
+    pub seasons: Extent,
 }
 
 impl Record {
@@ -55,13 +60,14 @@ impl Record {
             index: none,
             day: none,
             names: String::new(),
+            seasons: none,
         }
     }
 
     pub fn to_bytes(&self) -> Vec<u8> {
         let mut bytes = format!("{RECORD_START}{VERSION}\n").into_bytes();
         bytes.extend(self.service.to_bytes());
-        for extent in [self.book, self.index, self.day] {
+        for extent in [self.book, self.index, self.day, self.seasons] {
             bytes.extend(extent.length.to_le_bytes());
             bytes.extend(extent.digest);
         }
@@ -74,7 +80,7 @@ impl Record {
 
     pub fn from_bytes(bytes: &[u8]) -> Result<Record, String> {
         let line = first_line(bytes);
-        known_version(line, RECORD_START)?;
+        let version = known_version(line, RECORD_START)?;
         let (body, checksum) = bytes
             .split_last_chunk::<VALUE>()
             .ok_or_else(|| too_short(bytes))?;
@@ -85,7 +91,7 @@ impl Record {
             ));
         }
         let mut fields = Fields(&body[line.len()..]);
-        let record = fields.record().ok_or_else(|| too_short(bytes))?;
+        let record = fields.record(version).ok_or_else(|| too_short(bytes))?;
         match fields.0 {
             [] => Ok(record),
             _ => Err("it has bytes past its end".to_string()),
@@ -99,7 +105,8 @@ pub const RECORD_MOST: u64 = 4096;
 /// When a file of a state folder was made, as far as it tells.
 #[derive(Debug, PartialEq, Eq)]
 pub enum Age {
-    Now,
+    /// Of a format version that this program reads.
+    Now(u32),
     /// Before version 0.8.0, in words.
     Older(String),
     Unknown,
@@ -109,13 +116,13 @@ pub fn layout_age(text: &[u8]) -> Age {
     let line = first_line(text);
     match version_of(line, LAYOUT_START) {
         Some(EARLIER_VERSION) => Age::Older(older::FOLDER.to_string()),
-        Some(VERSION) => Age::Now,
+        Some(version) if KNOWN.contains(&version) => Age::Now(version),
         _ => Age::Unknown,
     }
 }
 
-/// The age of the file `record`. Where its first line says this version, its form may still be the
-/// one of before.
+/// The age of the file `record`. Where its first line says version 2, its form may still be the one
+/// of before.
 pub fn record_age(bytes: &[u8]) -> Age {
     let words = NotARecord {
         length: EARLIER_RECORD,
@@ -123,10 +130,12 @@ pub fn record_age(bytes: &[u8]) -> Age {
     let line = first_line(bytes);
     match version_of(line, RECORD_START) {
         Some(EARLIER_VERSION) => Age::Older(format!("format version {EARLIER_VERSION}: {words}")),
-        Some(VERSION) if Record::from_bytes(bytes).is_err() && has_earlier_form(bytes) => {
+        Some(VERSION_WITHOUT_SEASON)
+            if Record::from_bytes(bytes).is_err() && has_earlier_form(bytes) =>
+        {
             Age::Older(words.to_string())
         }
-        Some(VERSION) => Age::Now,
+        Some(version) if KNOWN.contains(&version) => Age::Now(version),
         _ => Age::Unknown,
     }
 }
@@ -151,36 +160,58 @@ fn too_short(bytes: &[u8]) -> String {
     format!("its {} bytes are too few", bytes.len())
 }
 
+/// The format versions that this program reads.
+const KNOWN: [u32; 2] = [VERSION_WITHOUT_SEASON, VERSION];
+
 /// The first line of a file is its start and a version that this program knows.
-fn known_version(line: &[u8], start: &str) -> Result<(), String> {
+fn known_version(line: &[u8], start: &str) -> Result<u32, String> {
     match version_of(line, start) {
-        Some(VERSION) => Ok(()),
+        Some(version) if KNOWN.contains(&version) => Ok(version),
         Some(version) => Err(format!(
-            "its format version is {version}, and this program knows {VERSION} only"
+            "its format version is {version}, and this program knows {VERSION_WITHOUT_SEASON} and \
+             {VERSION} only"
         )),
         None => Err(format!("it does not begin with \"{start}{VERSION}\"")),
     }
 }
 
-/// The format version, in digits, that the first line of a file has behind its start.
-fn version_of<'a>(line: &'a [u8], start: &str) -> Option<&'a str> {
+/// The format version, in plain digits, that the first line of a file has behind its start.
+fn version_of(line: &[u8], start: &str) -> Option<u32> {
     let line = std::str::from_utf8(line).ok()?;
-    let version = line.strip_prefix(start)?.strip_suffix('\n')?;
-    let digits = version.bytes().all(|byte| byte.is_ascii_digit());
-    (digits && !version.is_empty()).then_some(version)
+    let text = line.strip_prefix(start)?.strip_suffix('\n')?;
+    let version: u32 = text.parse().ok()?;
+    (version.to_string() == text).then_some(version)
+}
+
+/// The format version of a record that was read.
+pub fn record_version(bytes: &[u8]) -> Option<u32> {
+    version_of(first_line(bytes), RECORD_START)
 }
 
 /// What is left to be taken apart.
 struct Fields<'a>(&'a [u8]);
 
 impl Fields<'_> {
-    fn record(&mut self) -> Option<Record> {
+    /// The fields of a record of this format version. One without a season is of season 0, and has
+    /// no past one.
+    fn record(&mut self, version: u32) -> Option<Record> {
+        let numbered = version != VERSION_WITHOUT_SEASON;
+        let service = match numbered {
+            true => Service::from_bytes(*self.take::<RECORD>()?),
+            false => Service::from_slice(self.take::<RECORD_WITHOUT_SEASON>()?).ok()?,
+        };
+        let (book, index, day) = (self.extent()?, self.extent()?, self.extent()?);
+        let seasons = match numbered {
+            true => self.extent()?,
+            false => Extent::of(&[]),
+        };
         Some(Record {
-            service: Service::from_bytes(*self.take::<RECORD>()?),
-            book: self.extent()?,
-            index: self.extent()?,
-            day: self.extent()?,
+            service,
+            book,
+            index,
+            day,
             names: self.text()?,
+            seasons,
         })
     }
 
@@ -206,15 +237,19 @@ impl Fields<'_> {
 }
 
 pub fn layout_text(layout: Layout) -> String {
-    let Layout { scheme, n, f } = layout;
-    format!("{LAYOUT_START}{VERSION}\nscheme {scheme}\nn {n}\nf {f}\n")
+    text_of_layout(VERSION, layout)
 }
 
-/// Tests a text of a layout against the one that the record names.
-pub fn test_layout(text: &[u8], layout: Layout) -> Result<(), String> {
-    known_version(first_line(text), LAYOUT_START)?;
-    if text == layout_text(layout).as_bytes() {
-        return Ok(());
+fn text_of_layout(version: u32, layout: Layout) -> String {
+    let Layout { scheme, n, f } = layout;
+    format!("{LAYOUT_START}{version}\nscheme {scheme}\nn {n}\nf {f}\n")
+}
+
+/// Tests a text of a layout against the one that the record names, and gives its format version.
+pub fn test_layout(text: &[u8], layout: Layout) -> Result<u32, String> {
+    let version = known_version(first_line(text), LAYOUT_START)?;
+    if text == text_of_layout(version, layout).as_bytes() {
+        return Ok(version);
     }
     Err(format!("the record is of {layout}"))
 }
@@ -280,6 +315,49 @@ impl CleanDay {
     }
 }
 
+/// A line of `seasons`: a season that is past, and what its book and index hold.
+#[derive(Clone, Copy, Debug, PartialEq, Eq)]
+pub struct PastSeason {
+    pub season: u32,
+    pub book: Extent,
+    pub index: Extent,
+}
+
+/// Bytes that are enough for any line of `seasons`.
+pub const PAST_MOST: u64 = 5 + 2 * (1 + 10 + 1 + 2 * VALUE as u64) + 1;
+
+impl PastSeason {
+    pub fn text(&self) -> String {
+        let (season, book, index) = (self.season, self.book, self.index);
+        format!(
+            "{season},{},{},{},{}\n",
+            book.length,
+            hex(&book.digest),
+            index.length,
+            hex(&index.digest)
+        )
+    }
+
+    /// The line that a text is, with its line feed.
+    pub fn parse(text: &[u8]) -> Option<PastSeason> {
+        let text = std::str::from_utf8(text).ok()?;
+        let mut fields = text.strip_suffix('\n')?.split(',');
+        let season = fields.next()?.parse().ok()?;
+        let mut extent = || {
+            Some(Extent {
+                length: fields.next()?.parse().ok()?,
+                digest: digest_of(fields.next()?)?,
+            })
+        };
+        let line = PastSeason {
+            season,
+            book: extent()?,
+            index: extent()?,
+        };
+        (line.season < LAST_SEASON && line.text() == text).then_some(line)
+    }
+}
+
 fn digest_of(text: &str) -> Option<Digest> {
     let mut digest = [0; VALUE];
     if text.len() != 2 * VALUE || !text.is_ascii() {
@@ -326,7 +404,67 @@ mod tests {
     fn a_record_to_bytes_and_back() {
         let bytes = record().to_bytes();
         assert_eq!(Record::from_bytes(&bytes), Ok(record()));
+        assert_eq!(bytes.len(), 17 + 728 + 4 * 40 + 4 + 5 + 32);
+    }
+
+    /// The file of version 0.8: without a season, and without the file `seasons`.
+    fn without_season() -> Vec<u8> {
+        let bytes = record().to_bytes();
+        let rest = &bytes[17 + RECORD + 4 * 40..bytes.len() - VALUE];
+        let (service, extents) = (&bytes[17..17 + 724], &bytes[17 + RECORD..]);
+        let mut bytes = [b"daybook record 2\n", service, &extents[..3 * 40], rest].concat();
+        bytes.extend(digest(&bytes));
+        bytes
+    }
+
+    #[test]
+    fn a_record_of_version_2_is_of_season_0() {
+        let bytes = without_season();
         assert_eq!(bytes.len(), 17 + 724 + 3 * 40 + 4 + 5 + 32);
+        assert_eq!(Record::from_bytes(&bytes), Ok(record()));
+        assert_eq!(record_version(&bytes), Some(2));
+        assert_eq!(record_version(&record().to_bytes()), Some(3));
+        // neither has the other's form
+        for (from, to) in [(without_season(), b'3'), (record().to_bytes(), b'2')] {
+            let mut bytes = from[..from.len() - VALUE].to_vec();
+            bytes[15] = to;
+            bytes.extend(digest(&bytes));
+            assert!(Record::from_bytes(&bytes).is_err(), "{}", to as char);
+        }
+    }
+
+    #[test]
+    fn lines_of_past_seasons() {
+        let line = PastSeason {
+            season: 7,
+            book: Extent::of(b"rye"),
+            index: Extent::of(b"oats"),
+        };
+        let text = line.text();
+        assert_eq!(
+            text,
+            format!("7,3,{},4,{}\n", hex(&digest(b"rye")), hex(&digest(b"oats")))
+        );
+        assert_eq!(PastSeason::parse(text.as_bytes()), Some(line));
+        let no = |text: &str| assert_eq!(PastSeason::parse(text.as_bytes()), None, "{text}");
+        no("");
+        no("\n");
+        no(text.trim_end());
+        no(&text.replace("7,3", "07,3"));
+        no(&text.replace("7,3", "65535,3"));
+        no(&text.replace('\n', ",\n"));
+        no(&text.to_uppercase());
+        no(&text[2..]);
+        let long = Extent {
+            length: 9_999_999_999,
+            digest: [255; VALUE],
+        };
+        let longest = PastSeason {
+            season: 65_534,
+            book: long,
+            index: long,
+        };
+        assert_eq!(longest.text().len() as u64, PAST_MOST);
     }
 
     #[test]
@@ -348,18 +486,20 @@ mod tests {
     fn versions() {
         let message = |bytes: &[u8]| Record::from_bytes(bytes).unwrap_err();
         assert!(message(b"").contains("does not begin with"));
-        for version in ["1", "3", "22"] {
+        for version in ["1", "4", "22"] {
             let line = format!("daybook record {version}\n");
             let said = format!("format version is {version}, ");
             assert!(message(line.as_bytes()).contains(&said));
         }
         assert!(message(b"daybook record \n").contains("does not begin with"));
-        assert!(message(b"daybook record 2").contains("does not begin with"));
-        assert_eq!(message(b"daybook record 2\n"), "its 17 bytes are too few");
+        assert!(message(b"daybook record 3").contains("does not begin with"));
+        assert_eq!(message(b"daybook record 3\n"), "its 17 bytes are too few");
         let layout = Layout::tile(16, 2);
-        let text = "daybook state 2\nscheme 2\nn 16\nf 2\n";
-        assert_eq!(test_layout(text.as_bytes(), layout), Ok(()));
-        let later = text.replace("state 2", "state 9");
+        let text = "daybook state 3\nscheme 2\nn 16\nf 2\n";
+        assert_eq!(test_layout(text.as_bytes(), layout), Ok(3));
+        let before = text.replace("state 3", "state 2");
+        assert_eq!(test_layout(before.as_bytes(), layout), Ok(2));
+        let later = text.replace("state 3", "state 9");
         assert!(test_layout(later.as_bytes(), layout)
             .unwrap_err()
             .contains("format version is 9"));
@@ -373,8 +513,8 @@ mod tests {
     fn earlier(line: &str, sum: &str) -> Vec<u8> {
         let bytes = record().to_bytes();
         let record = &bytes[17..17 + EARLIER_RECORD];
-        let rest = &bytes[17 + RECORD..bytes.len() - VALUE];
-        let under = |line: &str| [line.as_bytes(), record, rest].concat();
+        let (extents, rest) = bytes[17 + RECORD..bytes.len() - VALUE].split_at(4 * 40);
+        let under = |line: &str| [line.as_bytes(), record, &extents[..3 * 40], rest].concat();
         [under(line), digest(&under(sum)).to_vec()].concat()
     }
 
@@ -391,13 +531,14 @@ mod tests {
         assert_eq!(record_age(&earlier(two, two)), older(words));
         // one byte less or more has no form, and every front of a record of now is one of now
         let bytes = earlier(two, one);
-        assert_eq!(record_age(&bytes[..bytes.len() - 1]), Age::Now);
-        assert_eq!(record_age(&[&bytes[..], &[0]].concat()), Age::Now);
-        let bytes = record().to_bytes();
-        for length in two.len()..=bytes.len() {
-            assert_eq!(record_age(&bytes[..length]), Age::Now, "{length}");
+        assert_eq!(record_age(&bytes[..bytes.len() - 1]), Age::Now(2));
+        assert_eq!(record_age(&[&bytes[..], &[0]].concat()), Age::Now(2));
+        for (version, bytes) in [(2, without_season()), (3, record().to_bytes())] {
+            for length in two.len()..=bytes.len() {
+                assert_eq!(record_age(&bytes[..length]), Age::Now(version), "{length}");
+            }
         }
-        for text in ["", "daybook record 2", "daybook record 3\n", "rye\n"] {
+        for text in ["", "daybook record 2", "daybook record 4\n", "rye\n"] {
             assert_eq!(record_age(text.as_bytes()), Age::Unknown, "{text}");
         }
     }
@@ -408,12 +549,14 @@ mod tests {
         let older = Age::Older(older::FOLDER.to_string());
         assert_eq!(age("daybook state 1\nscheme 2\nn 16\nf 2\n"), older);
         assert_eq!(age("daybook state 1\n"), older);
-        assert_eq!(age("daybook state 2\nscheme 2\nn 16\nf 2\n"), Age::Now);
+        assert_eq!(age("daybook state 2\nscheme 2\nn 16\nf 2\n"), Age::Now(2));
+        assert_eq!(age("daybook state 3\nscheme 2\nn 16\nf 2\n"), Age::Now(3));
         for text in [
             "",
             "daybook state 1",
             "daybook state 01\n",
-            "daybook state 3\n",
+            "daybook state 03\n",
+            "daybook state 4\n",
         ] {
             assert_eq!(age(text), Age::Unknown, "{text}");
         }

@@ -15,6 +15,7 @@ mod input;
 mod load;
 mod lock;
 mod sealed;
+mod season;
 
 use std::ffi::OsString;
 use std::path::Path;
@@ -27,14 +28,19 @@ use load::State;
 use lock::Access;
 
 pub use clean::Kept;
+pub use day::Day;
 pub use sealed::Sealed;
 
-/// The files of a state folder. Beside them stands a file for the bytes of the open day.
+/// The files of a state folder. Beside them stands a file for the bytes of the open day. Book, index
+/// and clean days are those of season 0; from season 1 on their names have its number.
 const LAYOUT: &str = "layout";
+const LAYOUT_NEW: &str = "layout.new";
 const BOOK: &str = "book";
 const INDEX: &str = "index";
 const RECORD: &str = "record";
 const RECORD_NEW: &str = "record.new";
+/// The past seasons; a folder that has none need not have it.
+const SEASONS: &str = "seasons";
 /// The days that verified clean; a folder that keeps none need not have it.
 const CLEAN: &str = "clean";
 const CLEAN_NEW: &str = "clean.new";
@@ -48,16 +54,19 @@ pub enum Service {
     },
     /// Adds files to the open day, which had `at` bytes before.
     Add {
-        day: u32,
+        day: Day,
         at: u32,
         files: Vec<OsString>,
     },
     /// Closes the open day, of the files where there are some.
     Close {
-        day: u32,
+        day: Day,
         files: Vec<OsString>,
     },
-    Status,
+    /// Says where the service stands, or what one of its seasons has.
+    Status {
+        season: Option<u32>,
+    },
 }
 
 /// Whether a folder is a state folder, whole or not.
@@ -73,7 +82,7 @@ pub fn run(folder: &Path, service: &Service) -> Result<Done, Stop> {
             day::add(folder, *day, *at, files).map(|()| String::new())
         }
         Service::Close { day, files } => day::close(folder, *day, files).map(|()| String::new()),
-        Service::Status => status(folder),
+        Service::Status { season } => status(folder, *season),
     };
     Ok(Done {
         lines: lines?,
@@ -81,16 +90,23 @@ pub fn run(folder: &Path, service: &Service) -> Result<Done, Stop> {
     })
 }
 
-fn status(folder: &Path) -> Result<String, Stop> {
+fn status(folder: &Path, season: Option<u32>) -> Result<String, Stop> {
     let state = State::load(folder, Access::Look)?;
+    if season.is_none() {
+        state.test_past()?;
+    }
     state.say_left();
     let Layout { scheme, n, f } = state.layout();
-    let (days, open, values) = (state.days(), state.day.len(), state.values());
-    let checkable = state.checkable();
     let interrupted = if state.interrupted() { "yes" } else { "no" };
-    let clean = clean::last_of(&state)?;
+    let open = match season {
+        Some(season) if season != state.season.number => 0,
+        _ => state.day.len(),
+    };
+    let season = state.into_season(season)?;
+    let (number, days, values) = (season.number, season.days, season.values());
+    let (checkable, clean) = (season.checkable(), clean::last_of(&season)?);
     Ok(format!(
-        "scheme {scheme}\nn {n}\nf {f}\ndays {days}\nopen {open}\nvalues {values}\n\
-         checkable {checkable}\ninterrupted {interrupted}\nclean {clean}\n"
+        "scheme {scheme}\nn {n}\nf {f}\nseason {number}\ndays {days}\nopen {open}\n\
+         values {values}\ncheckable {checkable}\ninterrupted {interrupted}\nclean {clean}\n"
     ))
 }

@@ -7,11 +7,13 @@ use daybook::Layout;
 use super::clean::Kept;
 use super::load::State;
 use super::lock::Access;
+use super::season::Season;
 use super::BOOK;
 use crate::say;
 use crate::stop::Stop;
 
-/// Layout, number of days, book and names. The state may go on meanwhile: the front of its book stays.
+/// Layout, number of days, book and names of a season. The state may go on meanwhile: the front of a
+/// season's book stays.
 pub struct Sealed {
     pub layout: Layout,
     pub d: u32,
@@ -23,50 +25,60 @@ pub struct Sealed {
 }
 
 impl Sealed {
-    /// D is the one given, or else the greatest that is allowed and not above the days closed.
-    pub fn of(folder: &Path, d: Option<u32>) -> Result<Sealed, Stop> {
+    /// The season is the one given, or else the present one. D is the one given, or else the greatest
+    /// that is allowed and not above the days closed.
+    pub fn of(folder: &Path, season: Option<u32>, d: Option<u32>) -> Result<Sealed, Stop> {
         let state = State::load(folder, Access::Look)?;
-        Sealed::in_state(&state, folder, d)
+        let layout = state.layout();
+        Sealed::in_season(&state.into_season(season)?, layout, folder, d)
     }
 
     /// The same, with the days that verified clean.
-    pub fn with_kept(folder: &Path, d: Option<u32>) -> Result<Sealed, Stop> {
+    pub fn with_kept(folder: &Path, season: Option<u32>, d: Option<u32>) -> Result<Sealed, Stop> {
         let state = State::load(folder, Access::Look)?;
-        let sealed = Sealed::in_state(&state, folder, d)?;
-        let kept = Some(Box::new(Kept::of(&state, folder, sealed.d)?));
+        let layout = state.layout();
+        let season = state.into_season(season)?;
+        let sealed = Sealed::in_season(&season, layout, folder, d)?;
+        let kept = Some(Box::new(Kept::of(&season, folder, sealed.d)?));
         Ok(Sealed { kept, ..sealed })
     }
 
-    fn in_state(state: &State, folder: &Path, d: Option<u32>) -> Result<Sealed, Stop> {
-        let (closed, checkable) = (state.days(), state.checkable());
-        let d = d.unwrap_or(checkable);
+    fn in_season(
+        season: &Season,
+        layout: Layout,
+        folder: &Path,
+        d: Option<u32>,
+    ) -> Result<Sealed, Stop> {
+        let closed = season.days;
+        let d = d.unwrap_or(season.checkable());
         if d > closed {
             return Err(Stop::Fault(format!(
                 "{}: {closed} days are closed, and D is {d}",
                 folder.display()
             )));
         }
-        say_later(state, checkable);
+        say_later(season, layout);
         Ok(Sealed {
-            layout: state.layout(),
+            layout,
             d,
-            book: state.path(BOOK),
-            names: state.names()?,
+            book: season.path(BOOK),
+            names: season.names()?,
             kept: None,
         })
     }
 }
 
-/// Names the days that cannot be checked yet.
-fn say_later(state: &State, checkable: u32) {
-    let (first, last) = (checkable + 1, state.days());
-    let Layout { n, f, .. } = state.layout();
+/// Names the days that cannot be checked yet. Those of a full season never can.
+fn say_later(season: &Season, layout: Layout) {
+    let (first, last) = (season.checkable() + 1, season.days);
+    let Layout { n, f, .. } = layout;
+    let not = if season.is_full() { "not" } else { "not yet" };
     let why = format!("D goes by {}, and {last} days are closed", n * f);
     match last.checked_sub(first) {
         None => {}
-        Some(0) => say(&format!("note: day {first} is not yet checkable: {why}")),
+        Some(0) => say(&format!("note: day {first} is {not} checkable: {why}")),
         Some(_) => say(&format!(
-            "note: days {first} to {last} are not yet checkable: {why}"
+            "note: days {first} to {last} are {not} checkable: {why}"
         )),
     }
     if last == 0 {
