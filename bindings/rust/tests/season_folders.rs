@@ -58,7 +58,7 @@ fn status(folder: &Folder, words: &str) -> String {
 
 /// A folder with files to take days from, and the state `s` of these files.
 fn folder(name: &str, state: &[(String, Vec<u8>)]) -> Folder {
-    let folder = Folder::new(&format!("seasons-{name}"));
+    let folder = Folder::in_memory(&format!("seasons-{name}"));
     for (name, text) in [("a", "rye 12"), ("b", "oats 7"), ("none", "")] {
         fs::write(folder.file(name), text).unwrap();
     }

@@ -298,6 +298,15 @@ impl Folder {
         Folder(path)
     }
 
+    /// The same in memory where it can be, for many or long files.
+    pub fn in_memory(name: &str) -> Folder {
+        let path = format!("/dev/shm/daybook-test-{}-{name}", std::process::id());
+        match fs::create_dir(&path) {
+            Ok(()) => Folder(path.into()),
+            Err(_) => Folder::new(name),
+        }
+    }
+
     pub fn path(&self) -> &Path {
         &self.0
     }
