@@ -422,8 +422,8 @@ fn days_that_are_not_those_of_a_state() {
             "daybook: note: not named as the others are: .lock",
             "daybook: note: day 1 was sealed from in/day-01, and is the file .lock here",
             "daybook: note: no value of the book passes. Each may cover an altered day; or these \
-             may not be the days that were sealed: by the folder's record the book is of version \
-             0.8.0 or later, and of this layout",
+             may not be the days that were sealed in this season: by the folder's record the book \
+             is of version 0.8.0 or later, and of this layout",
             NONE_KEPT,
         ]
     );

@@ -211,13 +211,13 @@ fn a_record_with_another_start() {
 
 /// What is said where no value passes of a book that is given.
 const NOTE: &str = "daybook: note: no value of the book passes. Each may cover an altered day; or \
-    the book may be of a delivery before 0.8.0, or of another layout (another scheme or N), and \
-    then it says nothing of these days (\"Members seal older years again\" in README.md, OLDER YEARS in man daybook)\n";
+    the book may be of another season, of another layout (another scheme or N) or of a delivery \
+    before 0.8.0, and then it says nothing of these days (\"Members seal older years again\" in README.md, OLDER YEARS in man daybook)\n";
 /// And of a state's: it is neither of before nor of another layout.
 const NOTE_OF_STATE: &str =
     "daybook: note: no value of the book passes. Each may cover an altered \
-    day; or these may not be the days that were sealed: by the folder's record the book is of \
-    version 0.8.0 or later, and of this layout\n";
+    day; or these may not be the days that were sealed in this season: by the folder's record the \
+    book is of version 0.8.0 or later, and of this layout\n";
 
 fn options(layout: Layout) -> String {
     let Layout { scheme, n, f } = layout;

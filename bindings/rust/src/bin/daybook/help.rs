@@ -53,41 +53,51 @@ daybook open DIR --scheme S --n N --f F
 
 Makes the state folder DIR of a new service, whole or not at all. A folder that is there must be empty,
 or be what this would make. A state folder of before version 0.8.0, whose chains start otherwise, is
-a fault here and for every other command: its days are sealed again, in a new folder.
+a fault here and for every other command: its days are sealed again, in a new folder. One of version 0.8
+goes on, in season 0.
 
   --scheme S --n N --f F   the layout: 1 black, 2 tile, 3 tree; days in an interval; intervals per
                            validation
 ";
 
 pub const ADD: &str = "\
-daybook add DIR --day K --at B FILE...
+daybook add DIR [--season T] --day K --at B FILE...
 
 Adds the bytes of the files, or of standard input for -, to the open day. All of them are on disk and
 part of the state when it ends with 0, and none of them otherwise. A repeat is harmless: what stands in
 day K at B already is said, and not added again.
 
-  --day K    the number of the open day
-  --at B     the bytes that the open day had before
+  --day K      the number of the open day
+  --season T   its season, as for close
+  --at B       the bytes that the open day had before
 ";
 
 pub const CLOSE: &str = "\
-daybook close DIR --day K [FILE...]
+daybook close DIR [--season T] --day K [FILE...]
 
 Closes the open day: its values go to DIR/book, its line to DIR/index. With FILE, or - for standard
 input, the day has the bytes of these files, and nothing may have been added before; without, it has what
 was added. The day is closed and on disk when it ends with 0. A repeat is harmless: a day that is
 closed with the same bytes is said, and not closed again.
 
-  --day K    the number of the open day
+A season has 65,536 days, and a book and an index of its own: DIR/book-T and DIR/index-T from season 1
+on. When day 65,536 is closed, the next day is day 1 of the next season, and add or close opens it.
+
+  --day K      the number of the open day
+  --season T   the season of the day. Without it K is a day of the season that comes next, in which the
+               next add or close is made; but while that has no closed day, K above 1 is a day of the
+               season before. So the script of day 65,536 can be run again until day 1 is closed
 ";
 
 pub const STATUS: &str = "\
-daybook status DIR
+daybook status DIR [--season T]
 
-Tests that the files of the state folder fit each other, and prints: scheme, n, f, days (closed),
-open (bytes in the open day), values (in the book), checkable (the greatest D that can be checked; 0
-none), interrupted (yes where a stopped run left something; the next run takes it away), clean (the last
-D that the folder keeps as verified clean; 0 none).
+Tests that the files of the state folder fit each other, those of past seasons too, and prints: scheme,
+n, f, season, days (closed in it), open (bytes in the open day), values (in its book), checkable (the
+greatest D that can be checked; 0 none), interrupted (yes where a stopped run left something; the next
+run takes it away), clean (the last D that the folder keeps as verified clean; 0 none).
+
+  --season T   what season T has (else: the present one)
 ";
 
 pub const SEAL: &str = "\
@@ -114,12 +124,12 @@ bytes is refusal 4, in a ledger refusal 10. Fewer days than D is refusal 9.
 
 pub const CHECK: &str = "\
 daybook check --scheme S --n N --f F [--d D] SOURCE --book FILE --outcomes FILE [--digests FILE]
-daybook check --state DIR [--d D] SOURCE --outcomes FILE [--digests FILE]
+daybook check --state DIR [--season T] [--d D] SOURCE --outcomes FILE [--digests FILE]
 
 Hashes the days again, compares them with the book and writes the outcomes. Exit status 0: every value
 passes; 1: some value fails. With --state, where every value passes, the folder keeps D as verified clean.
-Where no value passes, the book may be of a delivery before 0.8.0 or of another layout: standard
-error says so.
+Where no value passes, the book may be of another season, of another layout or of a delivery before
+0.8.0: standard error says so.
 
   --scheme S --n N --f F   the layout that the book was sealed under
   --d D                    check the first D days (else: all days of the source, and the book must
@@ -129,6 +139,7 @@ error says so.
   --book FILE              the book
   --state DIR              layout and book of this state folder; D is then the greatest that is
                            allowed and not above the days closed
+  --season T               with --state: days and book of season T (else: the present season)
   --outcomes FILE          the outcomes to write: a byte for each value, in book order, 1 pass, 0 fail
   --digests FILE           the digests of the days to write, 32 bytes each
 
@@ -138,7 +149,7 @@ of more than 4,294,967,295 bytes has no 32-bit ends and is a fault.
 
 pub const READ: &str = "\
 daybook read --scheme S --n N --f F --d D --outcomes FILE [--passed P] [--days DIR] [--names]
-daybook read --state DIR [--d D] --outcomes FILE [--passed P] [--days DIR] [--names]
+daybook read --state DIR [--season T] [--d D] --outcomes FILE [--passed P] [--days DIR] [--names]
 
 Reads the outcomes of D days and prints which days may have been altered.
 
@@ -146,6 +157,7 @@ Reads the outcomes of D days and prints which days may have been altered.
   --d D                    the number of days
   --state DIR              layout and book of this state folder; D is then the greatest that is
                            allowed and not above the days closed
+  --season T               with --state: days and book of season T (else: the present season)
   --outcomes FILE          a byte for each value, in book order, 1 pass, 0 fail; bytes past the
                            last value are not read
   --passed P               the last day at which a check really passed, 0 if none (else: as for
@@ -157,7 +169,7 @@ Reads the outcomes of D days and prints which days may have been altered.
 
 pub const SEARCH: &str = "\
 daybook search --scheme 3 --n N --f 1 --d D --outcomes FILE [--limit K] [--days DIR] [--names]
-daybook search --state DIR [--d D] --outcomes FILE [--limit K] [--days DIR] [--names]
+daybook search --state DIR [--season T] [--d D] --outcomes FILE [--limit K] [--days DIR] [--names]
 
 Searches the outcomes of D days under the tree layout and prints how far it is:
   SEARCH,looked,found,undecided
@@ -171,6 +183,7 @@ read lists.
   --d D                    the number of days
   --state DIR              layout and book of this state folder; D is then the greatest that is
                            allowed and not above the days closed
+  --season T               with --state: days and book of season T (else: the present season)
   --outcomes FILE          a byte for each value, in book order, 1 pass, 0 fail; bytes past the
                            last value are not read
   --limit K                look at no more than K chains, 0 for none (else: search to the end)
@@ -187,7 +200,7 @@ undecided.
 
 pub const VERIFY: &str = "\
 daybook verify --scheme S --n N --f F [--d D] SOURCE --book FILE [--passed P] [--names] [--figure FILE]
-daybook verify --state DIR [--d D] SOURCE [--passed P] [--names] [--figure FILE]
+daybook verify --state DIR [--season T] [--d D] SOURCE [--passed P] [--names] [--figure FILE]
 
 Checks the days against the book and prints which days may have been altered. It writes no file but
 the figure, and with --state keeps a D that is clean in the folder. On a terminal standard error has a
@@ -199,6 +212,7 @@ check.
   --book FILE              the book
   --state DIR              layout and book of this state folder; D is then the greatest that is
                            allowed and not above the days closed
+  --season T               with --state: days and book of season T (else: the present season)
   --passed P               the last day at which a check really passed, 0 if none: below D, and a
                            multiple of N. Low, the day after whose close the altering was done,
                            supposes it. Without this option it is D - F times N, which supposes that
@@ -238,7 +252,7 @@ lengths than D is refusal 16; a day over 16,777,216 bytes, among the first D, is
 pub const LOCATE: &str = "\
 daybook locate --scheme S --n N --f F --d D --position P [--line]
 daybook locate --scheme S --n N --f F --d D --kind K --index I --first G --last H [--line]
-daybook locate --state DIR [--d D] --position P [--line], or with a chain as above
+daybook locate --state DIR [--season T] [--d D] --position P [--line], or with a chain as above
 
 Says which chain stands at a position of the book, counted from 0, and which days it covers: tree level
 2, days 9 to 12. Of a tile chain that leaves out days between its first and its last it says their number
@@ -249,6 +263,7 @@ and the days. With a chain in place of a position it says the position. The book
   --d D                    the days of the book
   --state DIR              layout of this state folder; D is then the greatest that is allowed and not
                            above the days closed
+  --season T               with --state: the days closed in season T (else: in the present one)
   --position P             a position, the first value being at 0
   --kind K                 the kind of a chain: black, tile or tree, or its number 1, 2 or 3
   --index I                i of the tile chain c(i), the level of the tree; black is 0, and need not

@@ -36,11 +36,11 @@ pub fn note(outcomes: &[u8], book: Book) -> Option<String> {
     }
     let else_what = match book {
         Book::Given => format!(
-            "or the book may be of a delivery before 0.8.0, or of another layout (another scheme \
-             or N), and then it says nothing of these days ({HOW})"
+            "or the book may be of another season, of another layout (another scheme or N) or of \
+             a delivery before 0.8.0, and then it says nothing of these days ({HOW})"
         ),
-        Book::OfState => "or these may not be the days that were sealed: by the folder's record \
-             the book is of version 0.8.0 or later, and of this layout"
+        Book::OfState => "or these may not be the days that were sealed in this season: by the \
+             folder's record the book is of version 0.8.0 or later, and of this layout"
             .to_string(),
     };
     Some(format!(
