@@ -6,8 +6,8 @@ use std::fs;
 use std::path::PathBuf;
 use std::process::{self, Command, Stdio};
 
-use crate::folders::{tree, Tree};
-use crate::model::{plain, put, Call, Disk};
+use crate::folders::{self, Tree};
+use crate::model::{self, plain, Call, Disk};
 
 /// The system calls that write, rename, truncate, sync, make or remove.
 const TRACED: &str = "trace=open,openat,openat2,creat,write,writev,pwrite64,pwritev,pwritev2,\
@@ -80,6 +80,8 @@ pub struct Bench {
     pub root: PathBuf,
     program: PathBuf,
     shim: PathBuf,
+    /// Long files that no run writes: they stand in the folder and are left out of its trees.
+    fixed: Vec<(String, Vec<u8>)>,
 }
 
 impl Bench {
@@ -96,7 +98,42 @@ impl Bench {
             root,
             program,
             shim,
+            fixed: Vec::new(),
         }
+    }
+
+    /// The same with long files that no run writes.
+    pub fn with_fixed(mut self, fixed: Vec<(String, Vec<u8>)>) -> Bench {
+        fs::create_dir_all(self.kept()).unwrap();
+        for (number, (_, bytes)) in fixed.iter().enumerate() {
+            fs::write(self.kept().join(number.to_string()), bytes).unwrap();
+        }
+        self.fixed = fixed;
+        self
+    }
+
+    /// Where the long files are kept; trees have links to them.
+    fn kept(&self) -> PathBuf {
+        self.root.with_extension("fixed")
+    }
+
+    /// Puts a tree into the folder, in the place of all that is there.
+    pub fn put(&self, tree: &Tree) {
+        model::put(&self.root, tree);
+        for (number, (path, _)) in self.fixed.iter().enumerate() {
+            let kept = self.kept().join(number.to_string());
+            fs::hard_link(kept, self.root.join(path)).unwrap();
+        }
+    }
+
+    /// The tree of the folder. The long files are as they were.
+    pub fn tree(&self) -> Tree {
+        let mut tree = folders::tree(&self.root);
+        for (path, bytes) in &self.fixed {
+            let now = tree.remove(path).flatten();
+            assert!(now.as_ref() == Some(bytes), "{path} was written");
+        }
+        tree
     }
 
     pub fn run(&self, line: &str) -> Ran {
@@ -120,9 +157,9 @@ impl Bench {
     /// The number of calls that the shim sees, and the number that strace sees; none where there is no
     /// strace, or it may not trace.
     pub fn counted(&self, start: &Tree, line: &str) -> (usize, Option<usize>) {
-        put(&self.root, start);
+        self.put(start);
         let seen = self.log(line).0.len();
-        put(&self.root, start);
+        self.put(start);
         let log = self.root.with_extension("log");
         let mut command = Command::new("strace");
         command.args(["-f", "-qq", "-e", TRACED, "-o"]).arg(&log);
@@ -160,10 +197,10 @@ impl Bench {
 
     /// The calls of an undisturbed run from `start`, and the files that it leaves.
     pub fn traced(&self, start: &Tree, step: &Step) -> (Vec<Call>, Tree) {
-        put(&self.root, start);
+        self.put(start);
         let (calls, ran) = self.log(&step.line);
         assert_eq!(ran.status, Some(0), "{}: {}", step.line, ran.messages);
-        (calls, tree(&self.root))
+        (calls, self.tree())
     }
 
     pub fn explore(&self, start: &Tree, step: &Step) -> Found {
@@ -196,9 +233,9 @@ impl Bench {
         let mut differences = Vec::new();
         for other in &step.others {
             let ends = |tree: &Tree| {
-                put(&self.root, tree);
+                self.put(tree);
                 let ran = self.run(other);
-                (ran.status, crate::folders::tree(&self.root))
+                (ran.status, self.tree())
             };
             let expected = [ends(start), ends(after)];
             for stopped in left {
@@ -216,7 +253,7 @@ impl Bench {
     }
 
     fn look(&self, tree: &Tree, step: &Step) -> (Option<i32>, String) {
-        put(&self.root, tree);
+        self.put(tree);
         let ran = self.run(&step.look);
         // whether a run was stopped is not part of the state
         let lines = ran
@@ -229,7 +266,7 @@ impl Bench {
     /// Repeats the step on what is in the folder: it must be done then, as if undisturbed.
     fn repeat(&self, step: &Step, after: &Tree, where_: &str) -> Option<String> {
         let ran = self.run(&step.line);
-        let left = tree(&self.root);
+        let left = self.tree();
         if ran.status == Some(0) && left == *after {
             return None;
         }
@@ -246,10 +283,10 @@ impl Bench {
         let mut disk = Disk::of(start);
         for (number, call) in calls.iter().enumerate() {
             let where_ = format!("killed before call {}, {call:?}", number + 1);
-            put(&self.root, start);
+            self.put(start);
             let ran = self.stopped(&step.line, number as u64 + 1, "kill");
             assert_eq!(ran.status, None, "{where_}");
-            let left = plain(&tree(&self.root));
+            let left = plain(&self.tree());
             assert_eq!(left, plain(&disk.now()), "{where_}: the model is wrong");
             differences.extend(self.repeat(step, after, &where_));
             disk.apply(call);
@@ -274,15 +311,15 @@ impl Bench {
         let mut differences = Vec::new();
         for call in 1..=calls as u64 {
             let where_ = format!("{how} at call {call}");
-            put(&self.root, start);
+            self.put(start);
             let ran = self.stopped(&step.line, call, how);
-            let left = tree(&self.root);
+            let left = self.tree();
             match ran.status {
                 Some(3) => {}
                 Some(0) if good.contains(&self.look(&left, step)) => {}
                 status => differences.push(format!("{where_}: status {status:?}")),
             }
-            put(&self.root, &left);
+            self.put(&left);
             differences.extend(self.repeat(step, after, &where_));
         }
         differences
@@ -314,7 +351,7 @@ impl Bench {
                 if looked != before && looked != done {
                     differences.push(format!("{where_}: neither before nor after: {looked:?}"));
                 }
-                if tree(&self.root) != left {
+                if self.tree() != left {
                     differences.push(format!("{where_}: looking wrote"));
                 }
                 if !(step.holds)(&left) {
@@ -344,7 +381,7 @@ impl Bench {
         let mut disk = Disk::of(start);
         let mut seen = BTreeSet::new();
         for (number, call) in calls.iter().enumerate() {
-            put(&self.root, &disk.now());
+            self.put(&disk.now());
             let (repeated, ran) = self.log(&step.line);
             if ran.status != Some(0) {
                 let (status, messages) = (ran.status, ran.messages);
@@ -358,7 +395,7 @@ impl Bench {
                 let left = again.synced();
                 let where_ = format!("killed before call {}, repeated, power cut", number + 1);
                 if seen.insert(left.clone()) {
-                    put(&self.root, &left);
+                    self.put(&left);
                     differences.extend(self.repeat(step, after, &where_));
                 }
                 again.apply(repeat);
@@ -380,12 +417,13 @@ impl Bench {
 impl Drop for Bench {
     fn drop(&mut self) {
         let _ = fs::remove_dir_all(&self.root);
+        let _ = fs::remove_dir_all(self.kept());
         let _ = fs::remove_file(self.root.with_extension("log"));
     }
 }
 
 /// All that power cuts can leave of a run.
-fn states(start: &Tree, calls: &[Call]) -> BTreeSet<Tree> {
+pub fn states(start: &Tree, calls: &[Call]) -> BTreeSet<Tree> {
     let mut disk = Disk::of(start);
     let mut left = disk.after_power_cut();
     for call in calls {

@@ -9,6 +9,8 @@ mod explore;
 mod folder_before;
 #[path = "../common/folders.rs"]
 mod folders;
+#[path = "../common/full.rs"]
+mod full;
 mod model;
 mod plain;
 #[path = "../common/random.rs"]
@@ -22,9 +24,10 @@ use std::path::PathBuf;
 
 use common::{book, book_before, digest};
 use daybook::Layout;
-use explore::{Bench, Step};
+use explore::{states, Bench, Step};
 use folder_before::Before;
 use folders::{tree, Tree};
+use full::Season;
 use model::{put, Call};
 use plain::{Asked, Plain};
 use random::Random;
@@ -145,6 +148,156 @@ fn a_service_under_tiles() {
     start.insert("s".to_string(), None);
     let bench = bench("daybook-tiles", PROGRAM);
     explore_all(&bench, start, &service(&lines));
+}
+
+/// Files of a state folder `s` beside the sources, its season 0 full: a bench on which its long book
+/// and index are fixed, since nothing writes them any more, and the rest. The bytes of day 65,536 are
+/// there, as if they had been added.
+fn full_season(name: &str, layout: Layout, version: u32) -> (Bench, Tree) {
+    let season = Season::full(layout, 0);
+    let files = match version {
+        2 => full::files_of_version_2(&season, b""),
+        _ => full::files(&[&season], b""),
+    };
+    let (mut start, mut fixed) = (sources(), Vec::new());
+    start.insert("s".to_string(), None);
+    for (name, bytes) in files {
+        match name.as_str() {
+            "book" | "index" => fixed.push((format!("s/{name}"), bytes)),
+            _ => file(&mut start, &format!("s/{name}"), bytes),
+        }
+    }
+    file(&mut start, "s/day-65536", [full::byte_of(0, 65_536)]);
+    (bench(name, PROGRAM).with_fixed(fixed), start)
+}
+
+/// The steps of a turn, each with some that may come next.
+fn turning(lines: &[&str]) -> Vec<Step> {
+    let others = ["add s --day 1 --at 0 b", "close s --day 65536"];
+    let step = |line: &&str| Step::new(line, "status s").or_next(&others);
+    lines.iter().map(step).collect()
+}
+
+/// A close across the turn, with values on day 1 of the new season.
+#[test]
+#[ignore = "run by .ci/crash"]
+fn a_turn_by_a_close() {
+    let (bench, start) = full_season("turn-close", Layout::black(1, 1), 3);
+    explore_all(&bench, start, &turning(&["close s --day 1 a"]));
+}
+
+/// An add across the turn, and the close of the day that it began.
+#[test]
+#[ignore = "run by .ci/crash"]
+fn a_turn_by_an_add() {
+    let (bench, start) = full_season("turn-add", Layout::black(256, 1), 3);
+    let lines = ["add s --day 1 --at 0 a", "close s --day 1"];
+    explore_all(&bench, start.clone(), &turning(&lines));
+    explore_all(&bench, start, &turning(&["add s --day 1 --at 0 none"]));
+}
+
+/// A full folder of version 0.8: its version is raised and its season turned in one run.
+#[test]
+#[ignore = "run by .ci/crash"]
+fn a_turn_of_version_2() {
+    let (bench, start) = full_season("turn-2", Layout::black(256, 1), 2);
+    let close = Step::new("close s --day 1 a", "status s").or_next(&["add s --day 1 --at 0 b"]);
+    explore_all(&bench, start.clone(), &[close]);
+    let add = steps(&["add s --day 1 --at 0 b"], "status s");
+    explore_all(&bench, start, &add);
+}
+
+/// The files of a folder of version 0.8 with four days closed and these bytes in the fifth.
+fn version_2(open: &[u8]) -> Tree {
+    let season = Season::of(Layout::tile(2, 1), 0, 4);
+    let mut start = sources();
+    start.insert("s".to_string(), None);
+    for (name, bytes) in full::files_of_version_2(&season, open) {
+        file(&mut start, &format!("s/{name}"), bytes);
+    }
+    start
+}
+
+/// The raising of a folder of version 0.8, by each step that writes.
+#[test]
+#[ignore = "run by .ci/crash"]
+fn a_folder_of_version_2() {
+    let bench = bench("daybook-2", PROGRAM);
+    for (open, line) in [
+        (&b""[..], "close s --day 5 a"),
+        (b"", "close s --day 5"),
+        (b"", "add s --day 5 --at 0 a"),
+        (b"noon", "add s --day 5 --at 4 a"),
+        (b"noon", "close s --day 5"),
+    ] {
+        explore_all(&bench, version_2(open), &service(&[line]));
+    }
+    // the layout of this version beside the record of the one before is a good state
+    let mut between = version_2(b"noon");
+    file(
+        &mut between,
+        "s/layout",
+        full::layout_text(3, Layout::tile(2, 1)),
+    );
+    let lines = ["add s --day 5 --at 4 a", "close s --day 5"];
+    explore_all(&bench, between, &service(&lines));
+}
+
+/// Whether what the record says is there: it is the one of before, or the new one, and with that all
+/// files that were written before it are those of the end.
+fn together(tree: &Tree, start: &Tree, after: &Tree) -> bool {
+    let same = |name: &String| tree.get(name) == after.get(name);
+    let record = "s/record".to_string();
+    match same(&record) {
+        true => after.keys().filter(|name| name.starts_with("s/")).all(same),
+        false => tree.get(&record) == start.get(&record),
+    }
+}
+
+/// Each flush of a step counts but the first, which is of the record found, and the last, which makes
+/// the commit last: with one left out, a power cut leaves a record that says more than there is. Gives
+/// how many were found.
+fn each_sync(bench: &Bench, start: &Tree, line: &str) -> usize {
+    let (calls, after) = bench.traced(start, &Step::new(line, "status s"));
+    let whole = |calls: &[Call]| {
+        let states = states(start, calls);
+        states.iter().all(|tree| together(tree, start, &after))
+    };
+    assert!(whole(&calls), "{line}");
+    let syncs = (0..calls.len()).filter(|at| matches!(calls[*at], Call::Sync(_)));
+    let syncs: Vec<usize> = syncs.collect();
+    let mut counted = 0;
+    for at in &syncs[1..syncs.len() - 1] {
+        let mut others = calls.clone();
+        others.remove(*at);
+        let Call::Sync(path) = &calls[*at] else {
+            unreachable!()
+        };
+        // an empty book has nothing to lose; and at a turn the folder is flushed again before the commit
+        let empty = after.get(path).is_some_and(|bytes| *bytes == Some(vec![]));
+        let twice = matches!(&calls[at - 1], Call::Move(..)) && after.contains_key("s/seasons");
+        assert_eq!(whole(&others), empty || twice, "{line}: {path}");
+        counted += usize::from(!empty && !twice);
+    }
+    counted
+}
+
+#[test]
+#[ignore = "run by .ci/crash"]
+fn each_sync_of_a_turn_counts() {
+    let mut counted = 0;
+    for version in [3, 2] {
+        let (bench, start) = full_season("turn-syncs", Layout::black(1, 1), version);
+        for line in ["close s --day 1 a", "add s --day 1 --at 0 a"] {
+            counted += each_sync(&bench, &start, line);
+        }
+    }
+    let bench = bench("raise-syncs", PROGRAM);
+    for line in ["add s --day 5 --at 4 a", "close s --day 5"] {
+        counted += each_sync(&bench, &version_2(b"noon"), line);
+    }
+    counted += each_sync(&bench, &version_2(b""), "close s --day 5 a");
+    println!("crash: each of {counted} flushes of turns and raisings that is left out is found");
 }
 
 /// The files of four days, and the steps that close them.
