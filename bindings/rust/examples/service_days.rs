@@ -8,8 +8,14 @@
 //!
 //! STATE is one file: the record, the digest of each closed day, the book, and a checksum over
 //! these. A close has one commit, in which the new file takes the place of the old one; a run that
-//! is stopped leaves the service before or after it. The number K makes a repeat harmless. A record
-//! of before version 0.8.0 is named by its length: its days are closed again, in a new file.
+//! is stopped leaves the service before or after it. The number K makes a repeat harmless.
+//!
+//! A season has 65,536 days and a book of its own. When day 65,536 is closed, the next close is that
+//! of day 1 of the next season: STATE goes on with that one's days and book, and the full season's are
+//! put into STATE-T before, T its number. Until then day 65,536 can be repeated.
+//!
+//! A record of version 0.8, which has no season, goes on as one of season 0. One of before version
+//! 0.8.0 is named by its length: its days are closed again, in a new file.
 
 use std::env;
 use std::error::Error;
@@ -18,7 +24,8 @@ use std::io::Write;
 use std::path::{Path, PathBuf};
 use std::process::ExitCode;
 
-use daybook::{check, check_to_vecs, read_to_vec, Layout, Reading, Service, RECORD, VALUE};
+use daybook::{check, check_to_vecs, read_to_vec, Layout, Reading, Service};
+use daybook::{DAYS_LIMIT, LAST_SEASON, RECORD, VALUE};
 
 const LAYOUT: Layout = Layout::tile(4, 2);
 
@@ -77,7 +84,8 @@ fn eight_days(state: &Path) -> Answer<()> {
 fn open(state: &Path) -> Answer<()> {
     let _lock = locked(state)?;
     if state.exists() {
-        if Kept::load(state)?.service.days() > 0 {
+        let service = Kept::load(state)?.service;
+        if service.days() > 0 || service.season() > 0 {
             return Err("it has days already".into());
         }
         return flush_folder(state);
@@ -95,8 +103,11 @@ fn open(state: &Path) -> Answer<()> {
 fn close(state: &Path, day: u32, text: &[u8]) -> Answer<()> {
     let _lock = locked(state)?;
     let mut kept = Kept::load(state)?;
-    let next = kept.service.days() + 1;
-    if (1..next).contains(&day) {
+    let (season, closed) = (kept.service.season(), kept.service.days());
+    // behind a full season day 1 is that of the next one; every other day is one of the full season
+    let turns = closed == DAYS_LIMIT && season < LAST_SEASON;
+    let next = if turns { 1 } else { closed + 1 };
+    if (1..=closed).contains(&day) && day != next {
         let at = VALUE * (day as usize - 1);
         if kept.digests[at..at + VALUE] != digest(text)? {
             return Err(format!("day {day} is closed, with other bytes").into());
@@ -110,22 +121,31 @@ fn close(state: &Path, day: u32, text: &[u8]) -> Answer<()> {
     for piece in text.chunks(4) {
         kept.service.add(piece)?;
     }
-    kept.book.extend(kept.service.close_day()?);
+    let values = kept.service.close_day()?;
+    // the season after the close is the one whose book the values belong to
+    if kept.service.season() != season {
+        let past = [&kept.digests[..], &kept.book].concat();
+        write(&beside(state, &season.to_string()), &past)?;
+        flush_folder(state)?;
+        (kept.digests, kept.book) = (Vec::new(), Vec::new());
+    }
+    kept.book.extend(values);
     kept.digests.extend(digest(text)?);
     kept.save(state)
 }
 
 fn status(state: &Path) -> Answer<()> {
     let kept = Kept::load(state)?;
-    let (days, values) = (kept.service.days(), kept.book.len() / VALUE);
-    println!("{days} days, {values} values");
+    let (season, days) = (kept.service.season(), kept.service.days());
+    let values = kept.book.len() / VALUE;
+    println!("season {season}: {days} days, {values} values");
     Ok(())
 }
 
 /// What is kept between two runs.
 struct Kept {
     service: Service,
-    /// The digest of each closed day.
+    /// The digest of each closed day of the season.
     digests: Vec<u8>,
     book: Vec<u8>,
 }
@@ -143,7 +163,7 @@ impl Kept {
         let (days, values) = counts(body)?;
         let length = body.len().checked_sub(VALUE * (days + values));
         let (record, rest) = body.split_at(length.ok_or("the state is too short")?);
-        // one of an earlier version is shorter, and the error says so
+        // one of version 0.8 is of season 0; one of before is shorter, and the error says so
         let service = Service::from_slice(record)?;
         let (digests, book) = rest.split_at(VALUE * days);
         Ok(Kept {
@@ -159,15 +179,27 @@ impl Kept {
         let sum = digest(&bytes)?;
         bytes.extend(sum);
         let new = state.with_extension("new");
-        let mut file = File::create(&new)?;
-        file.write_all(&bytes)?;
-        file.sync_all()?;
+        write(&new, &bytes)?;
         fs::rename(&new, state)?;
         flush_folder(state)
     }
 }
 
-/// The days and values of a record, by the numbers that stand first in it in every version.
+/// A file with these bytes, flushed to disk.
+fn write(path: &Path, bytes: &[u8]) -> Answer<()> {
+    let mut file = File::create(path)?;
+    file.write_all(bytes)?;
+    Ok(file.sync_all()?)
+}
+
+/// STATE-NAME.
+fn beside(state: &Path, name: &str) -> PathBuf {
+    let mut path = state.as_os_str().to_os_string();
+    path.push(format!("-{name}"));
+    path.into()
+}
+
+/// The days and values of a record's season, by the numbers that stand first in it in every version.
 fn counts(record: &[u8]) -> Answer<(usize, usize)> {
     let mut numbers = [0; RECORD];
     let front = record.get(..20).ok_or("the state is too short")?;

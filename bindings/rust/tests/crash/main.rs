@@ -527,6 +527,108 @@ fn the_examples_name_a_state_of_before() {
     println!("crash: the examples name a state of before version 0.8.0");
 }
 
+/// The state that the example in C keeps of a season, its book left out: the record's bytes, the
+/// digest of the book.
+fn state_in_c(season: &Season, record: &[u8]) -> Vec<u8> {
+    let parts = [record, &full::digest(&season.book)].concat();
+    [&parts[..], &full::digest(&parts)].concat()
+}
+
+/// The state that the example in Rust keeps: record, digests of the days, book.
+fn state_in_rust(season: &Season, record: &[u8]) -> Vec<u8> {
+    let digests: Vec<[u8; 32]> = (0..=255).map(|byte| digest(&[byte])).collect();
+    let days = 1..=season.service.days();
+    let digest = |day| digests[full::byte_of(season.number, day) as usize];
+    let parts = [
+        record,
+        &days.flat_map(digest).collect::<Vec<u8>>(),
+        &season.book,
+    ]
+    .concat();
+    [&parts[..], &full::digest(&parts)].concat()
+}
+
+/// Both examples go on from a state of version 0.8, whose record has 724 bytes: it is of season 0, and
+/// what they leave is what they leave of one of now.
+#[test]
+#[ignore = "run by .ci/crash"]
+fn the_examples_go_on_from_version_0_8() {
+    let c = bench("go-on-c", built("CRASH_C_EXAMPLE"));
+    let rust = bench("go-on-rust", built("CRASH_RUST_EXAMPLE"));
+    for closed in [0, 1, 5] {
+        let line = format!("close s {} rye", closed + 1);
+        let season = Season::of(Layout::tree(1), 0, closed);
+        let tiles = Season::of(Layout::tile(4, 2), 0, closed);
+        let after = [724, 728].map(|length| {
+            let mut start = Tree::new();
+            start.insert("s".to_string(), None);
+            file(&mut start, "s/book", &season.book);
+            for day in 1..=closed {
+                file(&mut start, &format!("s/day-{day}"), [full::byte_of(0, day)]);
+            }
+            let record = &season.service.to_bytes()[..length];
+            file(&mut start, "s/state", state_in_c(&season, record));
+            let after_c = went_on(&c, &start, closed, &line);
+            let mut start = Tree::new();
+            let record = &tiles.service.to_bytes()[..length];
+            file(&mut start, "s", state_in_rust(&tiles, record));
+            (after_c, went_on(&rust, &start, closed, &line))
+        });
+        assert!(after[0] == after[1], "{closed} days");
+    }
+    println!("crash: the examples go on from a state of version 0.8");
+}
+
+/// What an example leaves of a step, after it has told where it stands.
+fn went_on(bench: &Bench, start: &Tree, closed: u32, line: &str) -> Tree {
+    bench.put(start);
+    let told = bench.run("status s");
+    let text = format!("season 0: {closed} days, ");
+    assert!(told.printed.starts_with(&text), "{}", told.messages);
+    assert!(bench.tree() == *start, "{}: looking wrote", bench.name);
+    bench.traced(start, &Step::new(line, "status s")).1
+}
+
+/// Both examples at the turn of a season, stopped at every call: the next season has a book of its own.
+#[test]
+#[ignore = "run by .ci/crash"]
+fn the_examples_turn() {
+    let (book, day) = (book(Layout::tree(1), &[b"rye".to_vec()]), b"rye".to_vec());
+    let season = Season::full(Layout::tree(1), 0);
+    let mut start = Tree::new();
+    start.insert("s".to_string(), None);
+    let record = season.service.to_bytes();
+    file(&mut start, "s/state", state_in_c(&season, &record));
+    file(&mut start, "s/day-65536", [full::byte_of(0, 65_536)]);
+    let fixed = vec![("s/book".to_string(), season.book)];
+    let c = bench("turn-c", built("CRASH_C_EXAMPLE")).with_fixed(fixed);
+    c.put(&start);
+    assert_eq!(c.run("close s 65536 x").status, Some(3));
+    assert_eq!(c.run("close s 65537 x").status, Some(3));
+    let (_, after) = c.traced(&start, &Step::new("close s 1 rye", ""));
+    assert_eq!(after["s/book-1"], Some(book));
+    assert_eq!(after["s/day-1-1"], Some(day));
+    assert!(c.run("status s").printed == "season 1: 1 days, 1 values\n");
+    assert!(c.run("check s").printed == "1 days, clean\n");
+    explore_all(&c, start, &steps(&["close s 1 rye"], "status s"));
+
+    let tiles = Season::full(Layout::tile(4, 2), 0);
+    let state = state_in_rust(&tiles, &tiles.service.to_bytes());
+    let mut start = Tree::new();
+    file(&mut start, "s", &state);
+    let rust = bench("turn-rust", built("CRASH_RUST_EXAMPLE"));
+    rust.put(&start);
+    assert_eq!(rust.run("close s 65537 x").status, Some(3));
+    let (_, after) = rust.traced(&start, &Step::new("close s 1 rye", ""));
+    // of the full season all but record and checksum
+    let past = state[daybook::RECORD..state.len() - 32].to_vec();
+    assert!(after["s-0"] == Some(past));
+    let kept = after["s"].as_ref().unwrap();
+    assert_eq!(kept.len(), daybook::RECORD + 32 + 32);
+    assert!(rust.run("status s").printed == "season 1: 1 days, 0 values\n");
+    explore_all(&rust, start, &steps(&["close s 1 rye"], "status s"));
+}
+
 /// Each command of an example ends with 3 and these words alone, and writes nothing.
 fn named(bench: &Bench, start: &Tree, words: &str) {
     for line in ["open s", "close s 1 rye", "close s 6 oats", "status s"] {
