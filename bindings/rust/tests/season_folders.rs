@@ -889,6 +889,53 @@ fn the_last_season() {
     assert_eq!(read(&folder, "s/record"), state[2].1);
 }
 
+/// The commands for a clerk at the turn, as docs/SERVICE.md has them, one after the other; the man page
+/// has them too.
+#[test]
+fn the_commands_of_the_page() {
+    let page = include_str!("../../../docs/SERVICE.md");
+    let (_, part) = page.split_once("\n## Seasons\n").unwrap();
+    let (part, _) = part.split_once("\n## ").unwrap();
+    let lines = part.lines().filter_map(|line| line.strip_prefix("    "));
+    let lines: Vec<&str> = lines
+        .map(|line| line.split(" #").next().unwrap().trim_end())
+        .collect();
+    let folder = Folder::in_memory("seasons-page");
+    let season = Season::of(Layout::tile(1, 1), 0, 65_535);
+    write(&folder.file("books"), &files(&[&season], b""));
+    for (season, days) in [(0, 65_536), (1, 2)] {
+        let path = folder.file(&format!("days-{season}"));
+        fs::create_dir(&path).unwrap();
+        for day in 1..=days {
+            fs::write(path.join(format!("day-{day:05}")), [byte_of(season, day)]).unwrap();
+        }
+    }
+    let said: Vec<String> = lines
+        .iter()
+        .map(|line| {
+            let line = line.strip_prefix("daybook ").unwrap();
+            let (status, out, messages) = run(&folder, line);
+            assert_eq!(status, 0, "{line}: {messages}");
+            out
+        })
+        .collect();
+    assert_eq!(said.len(), 8);
+    assert_eq!(said[1], "REF,2,0,0,0,0,65536\n");
+    assert!(said[3].contains("season 1\ndays 1\n"));
+    assert_eq!(said[5], "REF,2,0,0,0,0,2\n");
+    assert_eq!(said[6], "REF,2,0,0,0,0,65536\n");
+    assert!(said[7].contains("season 0\ndays 65536\n") && said[7].ends_with("clean 65536\n"));
+    let man = include_str!("../../../docs/daybook.1").replace("\\-", "-");
+    let (_, man) = man.split_once("The commands at a turn:\n").unwrap();
+    let (man, _) = man.split_once("\n.fi\n").unwrap();
+    let man: Vec<&str> = man
+        .lines()
+        .filter(|line| line.starts_with("daybook "))
+        .collect();
+    assert_eq!(man.len(), 5);
+    assert!(man.iter().all(|line| lines.contains(line)), "{man:?}");
+}
+
 /// A tail behind the index of a full season, as for any other.
 #[test]
 fn a_tail_at_the_turn() {
