@@ -32,7 +32,9 @@ fn day_digest(bytes: &[u8]) -> Digest {
 }
 
 pub fn hex(digest: &Digest) -> String {
-    digest.iter().map(|byte| format!("{byte:02x}")).collect()
+    let halves = digest.iter().flat_map(|byte| [byte >> 4, byte & 15]);
+    let digits = halves.map(|half| b"0123456789abcdef"[usize::from(half)]);
+    digits.map(char::from).collect()
 }
 
 #[cfg(test)]
