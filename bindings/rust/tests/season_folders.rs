@@ -118,6 +118,9 @@ fn the_turn_by_a_close() {
     for layout in [LAYOUT, Layout::tile(1, 3), Layout::tree(256)] {
         let past = &Season::full(layout, 0);
         let folder = folder(&format!("close-{}", layout.scheme), &files(&[past], b""));
+        // as if day 65,536 had been added: its bytes go with the close of the next day
+        fs::write(folder.file("s/day-65536"), [byte_of(0, 65_536)]).unwrap();
+        assert!(status(&folder, "").contains("interrupted no\n"));
         said(
             &folder,
             "close s --day 1 a",
