@@ -10,9 +10,9 @@
 //! these. A close has one commit, in which the new file takes the place of the old one; a run that
 //! is stopped leaves the service before or after it. The number K makes a repeat harmless.
 //!
-//! A season has 65,536 days and a book of its own. When day 65,536 is closed, the next close is that
-//! of day 1 of the next season: STATE goes on with that one's days and book, and the full season's are
-//! put into STATE-T before, T its number. Until then day 65,536 can be repeated.
+//! A season has 65,536 days and a book of its own. When day 65,536 is closed, the next close is
+//! that of day 1 of the next season: STATE goes on with that one's days and book, and the full
+//! season's are put into STATE-T before, T its number. Until then day 65,536 can be repeated.
 //!
 //! A record of version 0.8, which has no season, goes on as one of season 0. One of before version
 //! 0.8.0 is named by its length: its days are closed again, in a new file.
@@ -199,7 +199,8 @@ fn beside(state: &Path, name: &str) -> PathBuf {
     path.into()
 }
 
-/// The days and values of a record's season, by the numbers that stand first in it in every version.
+/// The days and values of a record's season, by the numbers that stand first in it in every
+/// version.
 fn counts(record: &[u8]) -> Answer<(usize, usize)> {
     let mut numbers = [0; RECORD];
     let front = record.get(..20).ok_or("the state is too short")?;
