@@ -1,5 +1,7 @@
 //! The forms of the files of a state folder. docs/SERVICE.md describes them.
 
+use std::str::FromStr;
+
 use daybook::{Layout, NotARecord, Service, VALUE};
 use daybook::{DAYS_LIMIT, EARLIER_RECORD, LAST_SEASON, RECORD, RECORD_WITHOUT_SEASON};
 
@@ -274,8 +276,8 @@ impl Line {
         let text = std::str::from_utf8(text).ok()?;
         let mut fields = text.splitn(4, ',');
         let line = Line {
-            day: fields.next()?.parse().ok()?,
-            bytes: fields.next()?.parse().ok()?,
+            day: number_of(fields.next()?)?,
+            bytes: number_of(fields.next()?)?,
             digest: digest_of(fields.next()?)?,
             names: fields.next()?.to_string(),
         };
@@ -283,8 +285,7 @@ impl Line {
             .names
             .bytes()
             .all(|byte| (b' '..=b'~').contains(&byte) && byte != b',');
-        let same = line.text().strip_suffix('\n') == Some(text);
-        (line.day <= DAYS_LIMIT && own && same).then_some(line)
+        (line.day <= DAYS_LIMIT && own).then_some(line)
     }
 }
 
@@ -358,15 +359,32 @@ impl PastSeason {
     }
 }
 
+/// A number in plain digits, with no sign and no leading zero.
+fn number_of<T: FromStr>(text: &str) -> Option<T> {
+    let digits = text.bytes().all(|byte| byte.is_ascii_digit());
+    let leading = text.len() > 1 && text.starts_with('0');
+    let number = text.parse().ok()?;
+    (digits && !leading).then_some(number)
+}
+
+/// A digest in small hex digits.
 fn digest_of(text: &str) -> Option<Digest> {
     let mut digest = [0; VALUE];
-    if text.len() != 2 * VALUE || !text.is_ascii() {
+    if text.len() != 2 * VALUE {
         return None;
     }
-    for (at, byte) in digest.iter_mut().enumerate() {
-        *byte = u8::from_str_radix(&text[2 * at..2 * at + 2], 16).ok()?;
+    for (byte, pair) in digest.iter_mut().zip(text.as_bytes().chunks_exact(2)) {
+        *byte = 16 * half_of(pair[0])? + half_of(pair[1])?;
     }
     Some(digest)
+}
+
+fn half_of(digit: u8) -> Option<u8> {
+    match digit {
+        b'0'..=b'9' => Some(digit - b'0'),
+        b'a'..=b'f' => Some(digit - b'a' + 10),
+        _ => None,
+    }
 }
 
 /// The names of a day's sources with those that come after them. One that comes twice in a row
@@ -576,7 +594,15 @@ mod tests {
         no("");
         no(&text);
         no(&text.trim_end().replace("7,3", "07,3"));
+        no(&text.trim_end().replace("7,3", "7,03"));
+        no(&text.trim_end().replace("7,3", "+7,3"));
+        no(&text.trim_end().replace("7,3", "7,+3"));
+        no(&text.trim_end().replace("7,3", "7,-3"));
+        no(&text.trim_end().replace("7,3", ",3"));
         no(&text.trim_end().replace("7,3", "65537,3"));
+        no(&text.trim_end().to_uppercase());
+        no(&text.trim_end().replace("7,3,", "7,3,+"));
+        no(&text.trim_end().replace("a.csv", "\u{e9}.csv"));
         no(&text[..60]);
         let longest = Line {
             day: 65_536,
