@@ -5,7 +5,7 @@
 
 use std::collections::BTreeMap;
 use std::fs;
-use std::path::Path;
+use std::path::{Path, PathBuf};
 
 use crate::common::digest;
 
@@ -14,12 +14,20 @@ pub type Tree = BTreeMap<String, Option<Vec<u8>>>;
 
 /// The tree below a folder.
 pub fn tree(root: &Path) -> Tree {
+    tree_without(root, &[])
+}
+
+/// The same without the files at these paths.
+pub fn tree_without(root: &Path, left_out: &[PathBuf]) -> Tree {
     let mut all = Tree::new();
     for entry in fs::read_dir(root).unwrap() {
         let entry = entry.unwrap().path();
         let name = entry.strip_prefix(root).unwrap().display().to_string();
+        if left_out.contains(&entry) {
+            continue;
+        }
         if entry.is_dir() {
-            let below = tree(&entry).into_iter();
+            let below = tree_without(&entry, left_out).into_iter();
             all.extend(below.map(|(below, bytes)| (format!("{name}/{below}"), bytes)));
             all.insert(name, None);
         } else {

@@ -126,14 +126,23 @@ impl Bench {
         }
     }
 
-    /// The tree of the folder. The long files are as they were.
+    /// The tree of the folder without the long files, which are still there.
     pub fn tree(&self) -> Tree {
-        let mut tree = folders::tree(&self.root);
-        for (path, bytes) in &self.fixed {
-            let now = tree.remove(path).flatten();
-            assert!(now.as_ref() == Some(bytes), "{path} was written");
+        let paths = self.fixed.iter().map(|(path, _)| self.root.join(path));
+        let paths: Vec<PathBuf> = paths.collect();
+        for (path, (_, bytes)) in paths.iter().zip(&self.fixed) {
+            let length = fs::metadata(path).unwrap().len();
+            assert_eq!(length, bytes.len() as u64, "{}", path.display());
         }
-        tree
+        folders::tree_without(&self.root, &paths)
+    }
+
+    /// The long files are as they were.
+    fn test_fixed(&self) {
+        for (number, (path, bytes)) in self.fixed.iter().enumerate() {
+            let kept = fs::read(self.kept().join(number.to_string())).unwrap();
+            assert!(kept == *bytes, "{path} was written");
+        }
     }
 
     pub fn run(&self, line: &str) -> Ran {
@@ -214,6 +223,7 @@ impl Bench {
         let all = |_: &Call| true;
         differences.extend(self.power_cuts_after_repeats(start, step, &calls, &after, all));
         differences.extend(self.others(start, step, &left, &after));
+        self.test_fixed();
         Found {
             after,
             stops: calls.len(),
