@@ -84,9 +84,9 @@ A season has 65,536 days, and a book and an index of its own: DIR/book-T and DIR
 on. When day 65,536 is closed, the next day is day 1 of the next season, and add or close opens it.
 
   --day K      the number of the open day
-  --season T   the season of the day. Without it K is a day of the season that comes next, in which the
-               next add or close is made; but while that has no closed day, K above 1 is a day of the
-               season before. So the script of day 65,536 can be run again until day 1 is closed
+  --season T   the season of the day. Without it K is a day of the season in which the next add or close
+               is made; but while that has no closed day, K above 1 is a day of the season before. So
+               the script of day 65,536 can be run again until day 1 of the next season is closed
 ";
 
 pub const STATUS: &str = "\
