@@ -18,7 +18,7 @@ use Rattle.chains.specs.Step.{startValue, linked, each, linksSlot, storesSlot, 
 use Rattle.chains.specs.Book.{bookOf}
 use Rattle.chains.proofs.BookLaws.{book-length}
 use Rattle.service.specs.declared.Record.{Record}
-use Rattle.service.specs.Contract.{fresh, opened, turns, turned, current, grown, digestOf, nextDay, added, addRefusal, closing, closeRefusal, writtenSoFar}
+use Rattle.service.specs.Contract.{atStart, fresh, opened, turns, turned, current, grown, digestOf, nextDay, added, addRefusal, closing, closeRefusal, writtenSoFar}
 use Rattle.service.proofs.CallLaws.{opened-number}
 use Rattle.journal.specs.Journal.{Journal}
 use Rattle.journal.specs.Run.{Call, add, close, called, stateAfter, seasonsOf}
@@ -121,7 +121,7 @@ chained-next r c =
 
 -- a new season has the start in each chain
 pub chained-current : (r : Record) → Chained r → Chained (current r)
-unfolding current turned
+unfolding current turned atStart
 chained-current r c = elim (turns r) as (λ b. Chained (cond b (turned r) r)) [
   | true ↦ record { black-fits = c .start-fits; running-fit = same-slots 17 (r .start) (c .start-fits); start-fits = c .start-fits }
   | false ↦ c
@@ -146,7 +146,7 @@ chained-after r [] h = h
 chained-after r (c ∷ cs) h = chained-after (called r c .state) cs (chained-called r c h)
 
 pub chained-open : (s n f : ℕ) → numberOf (opened s n f .answer) ≡ 0 → Chained (opened s n f .state)
-unfolding opened fresh
+unfolding opened fresh atStart
 chained-open s n f e =
     let w = start-words s n in
     rw (sym (opened-number s n f) ∙ e) (record { black-fits = w; running-fit = same-slots 17 (startValue s n) w; start-fits = w })

@@ -22,7 +22,7 @@ use Rattle.chains.specs.Step.{startValue}
 use Rattle.chains.proofs.Running.{Holds, holds-fresh, holds-next, day-values-are}
 use Rattle.chains.proofs.BookLaws.{book-suc, values-of-length}
 use Rattle.service.specs.declared.Record.{Record}
-use Rattle.service.specs.Contract.{fresh, opened, allowedRecord, current, addRefusal, openDay, grown, added, dayCount, closeRefusal, digestOf, dayBytes, nextDay, countOf, closing}
+use Rattle.service.specs.Contract.{atStart, fresh, opened, allowedRecord, current, addRefusal, openDay, grown, added, dayCount, closeRefusal, digestOf, dayBytes, nextDay, countOf, closing}
 use Rattle.journal.specs.Journal.{Journal, empty, Argument, adds, closes, testsOf, refusalOf, entered}
 use Rattle.journal.specs.Run.{Call, add, close, argumentOf, called}
 use Rattle.service.proofs.RecordLaws.{is-allowed, current-before}
@@ -45,9 +45,10 @@ pub record Keeps (s n f : ℕ) (j : Journal) (r : Record) : Type 0 where
   pub start-is : r .start ≡ startValue s n
   pub chains-hold : Holds s n (j .entries) (r .black) (r .running)
 
-pub keeps-fresh : (s n f : ℕ) → setupRefusal s n f ≡ 0 → Keeps s n f empty (fresh s n f)
-unfolding fresh
-keeps-fresh s n f e =
+-- day 1 of a season, with no entry and an empty open day
+pub keeps-start : (s n f season : ℕ) → setupRefusal s n f ≡ 0 → season ≤ lastSeason → Keeps s n f empty (atStart s n f (startValue s n) season)
+unfolding atStart
+keeps-start s n f season e l =
     record {
       setup-ok = e;
       scheme-is = refl;
@@ -57,7 +58,7 @@ keeps-fresh s n f e =
       bytes-are = refl;
       days-most = omega arith;
       bytes-most = omega arith;
-      season-most = omega arith;
+      season-most = l;
       full-empty = λ h. refl;
       open-day = refl;
       start-is = refl;
@@ -70,8 +71,8 @@ day-left s n j (adds piece) e = ltb-true (length (j .entries)) bookLimit (none-f
 day-left s n j (closes size) e = ltb-true (length (j .entries)) bookLimit (none-fails (testsOf s n j (closes size)) refl e .0)
 
 pub keeps-open : (s n f : ℕ) → setupRefusal s n f ≡ 0 → Keeps s n f empty (opened s n f .state)
-unfolding opened
-keeps-open s n f e = rw e (keeps-fresh s n f e)
+unfolding opened fresh
+keeps-open s n f e = rw e (keeps-start s n f 0 e (omega arith))
 
 module _ {s n f : ℕ} {j : Journal} {r : Record} (k : Keeps s n f j r) where
   n-allowed : allowedN n ≡ true

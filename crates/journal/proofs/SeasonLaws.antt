@@ -14,19 +14,17 @@ use Rattle.lists.specs.Lists.{_among_}
 use Rattle.lists.proofs.Laws.{split, and-both, flatMap-append, flatMap-one}
 use Rattle.refusals.specs.Refusals.{bookLimit, lastSeason, numberOf, unlessRefused}
 use Rattle.layouts.specs.Layouts.{setupRefusal}
-use Rattle.layouts.proofs.AllowedLaws.{setup-is}
 use Rattle.chains.specs.Book.{bookOf}
-use Rattle.chains.proofs.Running.{holds-fresh}
 use Rattle.chains.proofs.BookLaws.{book-none}
 use Rattle.service.specs.declared.Record.{Record}
 use Rattle.service.specs.Contract as service
-use Rattle.service.specs.Contract.{opened, fresh, turned, grown, nextDay, added, closing}
+use Rattle.service.specs.Contract.{atStart, fresh, opened, turned, grown, nextDay, added, closing}
 use Rattle.service.proofs.RecordLaws.{current-turned, current-same}
 use Rattle.service.proofs.CallLaws.{opened-number}
 use Rattle.journal.specs.Journal.{Journal, empty, Argument, adds, closes, refusalOf, entered, kept, journalAfter, refusals}
 use Rattle.journal.specs.Seasons.{Seasons, first, turns, next, current, refusalIn, enteredIn, keptIn, seasonsAfter, refusalsIn, allEntries, entriesOf}
 use Rattle.journal.specs.Run.{Call, add, close, argumentOf, Called, called, stateAfter, answers, bookWritten, calledAll, ofSeason, madeIn, wroteAll, seasonsOf}
-use Rattle.journal.proofs.RunLaws.{Keeps, keeps-open, record-allowed, add-same, close-same, number-called, keeps-called, book-called}
+use Rattle.journal.proofs.RunLaws.{Keeps, keeps-start, keeps-open, record-allowed, add-same, close-same, number-called, keeps-called, book-called}
 
 -- ---- the entries of a season
 
@@ -100,25 +98,10 @@ pub record InSeason (s n f : ℕ) (d : Seasons) (r : Record) : Type 0 where
 -- the next season is a fresh service's, but for its number
 keeps-turned : {s n f : ℕ} {j : Journal} {r : Record} → Keeps s n f j r → r .season < lastSeason → Keeps s n f empty (turned r)
 unfolding turned
-keeps-turned {s} {n} {f} k l =
-    record {
-      setup-ok = k .setup-ok;
-      scheme-is = k .scheme-is;
-      n-is = k .n-is;
-      f-is = k .f-is;
-      days-are = refl;
-      bytes-are = refl;
-      days-most = omega arith;
-      bytes-most = omega arith;
-      season-most = omega arith;
-      full-empty = λ h. refl;
-      open-day = refl;
-      start-is = k .start-is;
-      chains-hold = rw (k .start-is) (holds-fresh s n (setup-is s n f (k .setup-ok) .n-ok));
-    }
+keeps-turned {s} {n} {f} {r = r} k l = rw (k .scheme-is, k .n-is, k .f-is, k .start-is) (keeps-start s n f (suc (r .season)) (k .setup-ok) (omega arith))
 
 turned-season : (r : Record) → turned r .season ≡ suc (r .season)
-unfolding turned
+unfolding turned atStart
 turned-season r = refl
 
 module _ {s n f : ℕ} {d : Seasons} {r : Record} (k : InSeason s n f d r) where
@@ -275,7 +258,7 @@ all-calls {s} {n} {d = d} {r = r} k (c ∷ cs) =
 -- ---- from an accepted open
 
 open-season : (s n f : ℕ) → setupRefusal s n f ≡ 0 → opened s n f .state .season ≡ 0
-unfolding opened fresh
+unfolding opened fresh atStart
 open-season s n f e = rw e
 
 pub in-open : (s n f : ℕ) → numberOf (opened s n f .answer) ≡ 0 → InSeason s n f first (opened s n f .state)

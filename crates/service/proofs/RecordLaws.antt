@@ -15,7 +15,7 @@ use Rattle.layouts.specs.Layouts.{allowedScheme, allowedN, allowedF, setupTests
 use Rattle.layouts.proofs.AllowedLaws.{setup-is}
 use Rattle.service.specs.declared.Record.{Record}
 use Rattle.service.specs.declared.Writing.the-variants.{Wrote, Refused}
-use Rattle.service.specs.Contract.{allowedRecord, turns, turned, current, recordTests, writtenSoFar}
+use Rattle.service.specs.Contract.{atStart, allowedRecord, turns, turned, current, recordTests, writtenSoFar}
 use Rattle.service.specs.Private.{recordRefusal, Open}
 
 -- ---- test 6
@@ -117,7 +117,7 @@ current-before r d = current-same r refl (stays-before r d)
 
 module _ (r : Record) (a : Allowed r) where
   turned-allowed : turns r ≡ true → Allowed (turned r)
-  unfolding turned
+  unfolding turned atStart
   turned-allowed t =
       let p = turns-is r t in
       record { setup = a .setup; days-most = omega arith; bytes-most = omega arith; season-most = omega (arith, p .1); full-empty = λ h. refl }
@@ -130,7 +130,7 @@ module _ (r : Record) (a : Allowed r) where
   ]
 
   turned-bytes : turned r .bytes ≡ 0
-  unfolding turned
+  unfolding turned atStart
   turned-bytes = refl
 
   pub current-bytes : current r .bytes ≡ r .bytes
@@ -141,20 +141,20 @@ module _ (r : Record) (a : Allowed r) where
 
 -- scheme, n and f stay
 pub current-scheme : (r : Record) → current r .scheme ≡ r .scheme
-unfolding current turned
+unfolding current turned atStart
 current-scheme r = elim (turns r) as (λ b. cond b (turned r) r .scheme ≡ r .scheme) [ true ↦ refl | false ↦ refl ]
 
 pub current-n : (r : Record) → current r .n ≡ r .n
-unfolding current turned
+unfolding current turned atStart
 current-n r = elim (turns r) as (λ b. cond b (turned r) r .n ≡ r .n) [ true ↦ refl | false ↦ refl ]
 
 -- and a block has its size
 pub current-block : (r : Record) → length (r .block) ≡ 64 → length (current r .block) ≡ 64
-unfolding current turned begun onward filled rest
+unfolding current turned atStart begun onward filled rest
 current-block r e = elim (turns r) as (λ b. length (cond b (turned r) r .block) ≡ 64) [ true ↦ refl | false ↦ e ]
 
 turned-days : (r : Record) → turned r .days ≡ 0
-unfolding turned
+unfolding turned atStart
 turned-days r = refl
 
 pub current-days : (r : Record) → turns r ≡ true → current r .days ≡ 0

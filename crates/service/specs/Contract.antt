@@ -22,10 +22,9 @@ use Rattle.service.specs.declared.Closed.{Closed}
 
 -- ---- open (SPEC 5.2): 01's tests 1 2 3 (SPEC 11.1)
 
--- 01's fresh service (SPEC 5.2): scheme, n and f, no day closed, no byte in the open day, each chain at its start; 02:
--- the start, worked out here and kept (SPEC 22.2), and season 0 (SPEC 23.1)
-unfoldable pub fresh : ℕ → ℕ → ℕ → Record
-fresh scheme n f =
+-- day 1 of a season: no day closed, no byte in the open day, each chain at the start
+unfoldable pub atStart : ℕ → ℕ → ℕ → Value → ℕ → Record
+atStart scheme n f start season =
     record {
       scheme = scheme;
       n = n;
@@ -34,11 +33,15 @@ fresh scheme n f =
       bytes = 0;
       hash = begun (0 ∷ []) .words;
       block = begun (0 ∷ []) .block;
-      black = startValue scheme n;
-      running = replicate 17 (startValue scheme n);
-      start = startValue scheme n;
-      season = 0;
+      black = start;
+      running = replicate 17 start;
+      start = start;
+      season = season;
     }
+
+-- 01's fresh service (SPEC 5.2); 02: its start, worked out here and kept (SPEC 22.2), and season 0 (SPEC 23.1)
+unfoldable pub fresh : ℕ → ℕ → ℕ → Record
+fresh scheme n f = atStart scheme n f (startValue scheme n) 0
 
 -- 01's record of zeros, of a refused open (SPEC 5.2)
 unfoldable pub noValue : Value
@@ -72,22 +75,9 @@ opened scheme n f =
 abbrev pub turns : Record → Bool
 turns r = leb bookLimit (r .days) && ltb (r .season) lastSeason
 
--- the next season: as an accepted open gives it, with the scheme, n, f and start of the record handed in
+-- the next season: as a fresh service, with the start of the record handed in
 unfoldable pub turned : Record → Record
-turned r =
-    record {
-      scheme = r .scheme;
-      n = r .n;
-      f = r .f;
-      days = 0;
-      bytes = 0;
-      hash = begun (0 ∷ []) .words;
-      block = begun (0 ∷ []) .block;
-      black = r .start;
-      running = replicate 17 (r .start);
-      start = r .start;
-      season = suc (r .season);
-    }
+turned r = atStart (r .scheme) (r .n) (r .f) (r .start) (suc (r .season))
 
 -- the record that a call is tested and made on
 unfoldable pub current : Record → Record

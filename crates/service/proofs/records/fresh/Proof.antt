@@ -2,7 +2,7 @@
 use borrow.Author.Needs.{needs}
 use Rattle.layouts.proofs.AllowedLaws.{setup-is}
 use Rattle.chains.proofs.Running.{start-asks}
-use Rattle.service.specs.Contract.{fresh}
+use Rattle.service.specs.Contract.{atStart, fresh}
 use Rattle.service.proofs.records.fresh.Statement.{statement}
 use Rattle.service.proofs.records.fresh.Tie as tie
 
@@ -13,7 +13,7 @@ start-requires c κs =
     start-asks (b .args .scheme) (b .args .n) (a .scheme-ok) (a .n-ok)
 
 returns : tie.Need-returns
-unfolding fresh
+unfolding fresh atStart
 returns c = rw (c .before .before .before .begin .ensures, c .start .ensures)
 
 pub fresh-spec : {M : Type 1} → statement M
