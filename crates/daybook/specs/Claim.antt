@@ -131,7 +131,7 @@ PremisesMet =
     (passed : ℕ) → allowedPassed n d passed ≡ true →
     (x : Handed) × SameDays scheme n f cs t d passed x
 
--- ---- every season can be reached: for each t and each number of days of a season some list of calls seals so many in it
+-- ---- every season can be reached: for each t and each number of its days some list of calls seals so many in it
 
 abbrev pub SeasonsReached : Type 0
 SeasonsReached =
