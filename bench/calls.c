@@ -132,8 +132,7 @@ static void compare_blocks(const struct books *b) {
   free(lengths);
 }
 
-/* What the chains of this build start with: before version 0.8.0 zeros, whatever the layout. */
-static void start_of(const struct books *b, uint8_t start[32]) {
+void start_of(const struct books *b, uint8_t start[32]) {
   memset(start, 0, 32);
   if (daybook_version() >= 800)
     model_start(b->scheme, b->n, start);

@@ -32,6 +32,9 @@ size_t value_count(uint32_t scheme, uint32_t n, uint32_t days);
 struct books make_books(uint32_t scheme, uint32_t n, struct ledger ledger);
 void drop_books(struct books *books);
 
+/* What the chains of this build start with: before version 0.8.0 zeros, whatever the layout. */
+void start_of(const struct books *books, uint8_t start[32]);
+
 /* Jobs: arg is struct books. A refusal ends the run. */
 void seal_job(void *arg);
 void check_job(void *arg);

@@ -11,10 +11,11 @@
 
 enum { SEAL, CHECK, PLAIN, UNROLLED, OPENSSL, JOBS };
 
-/* The black value of a ledger by one of the C hashes; no block function means OpenSSL. */
+/* The black value of a ledger by one of the C hashes, from the start of its chain on; no block function means OpenSSL. */
 struct black {
   blocks_function *blocks;
   const struct ledger *ledger;
+  const uint8_t *start;
   uint8_t value[32];
 };
 
@@ -27,7 +28,8 @@ static void hash(blocks_function *blocks, uint8_t first, const uint8_t *bytes, s
 
 static void black_job(void *arg) {
   struct black *b = arg;
-  uint8_t link[64] = {0};
+  uint8_t link[64];
+  memcpy(link, b->start, 32);
   for (uint32_t day = 1; day <= b->ledger->days; day++) {
     const uint8_t *bytes = b->ledger->bytes + day_start(b->ledger, day);
     hash(b->blocks, 0, bytes, day_size(b->ledger, day), link + 32);
@@ -62,7 +64,9 @@ static void print_row(const char *name, const double *t, int jobs) {
 static void row(const char *name, uint32_t days, size_t size) {
   struct ledger ledger = make_ledger(days, size);
   struct books books = make_books(1, days, ledger);
-  struct black blacks[] = {{plain_blocks, &ledger, {0}}, {unrolled_blocks, &ledger, {0}}, {NULL, &ledger, {0}}};
+  uint8_t start[32];
+  struct black blacks[] = {
+      {plain_blocks, &ledger, start, {0}}, {unrolled_blocks, &ledger, start, {0}}, {NULL, &ledger, start, {0}}};
   struct job jobs[JOBS] = {{seal_job, &books, 1},
                            {check_job, &books, 1},
                            {black_job, &blacks[0], 1},
@@ -70,6 +74,7 @@ static void row(const char *name, uint32_t days, size_t size) {
                            {black_job, &blacks[2], 1}};
   int count = openssl_version() != NULL ? JOBS : OPENSSL;
   double t[JOBS];
+  start_of(&books, start);
   compare_books(&books);
   least_times(jobs, count, SECONDS, t);
   compare_values(&books, blacks, count - PLAIN);
