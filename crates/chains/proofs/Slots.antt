@@ -1,16 +1,16 @@
 -- The cases of the tests on slots, and the loops over them.
 use mathlib.Core.Path.{_≡_, refl, sym, ap, ap₂, _∙_}
-use mathlib.Core.Bool.{Bool, true, false, not}
+use mathlib.Core.Bool.{Bool, true, false, not, _&&_, cond}
 use mathlib.Core.Logic.{_⊎_, inl, inr}
-use mathlib.Core.List.{List, [], _∷_}
+use mathlib.Core.List.{List, [], _∷_, _++_, map}
 use Prim.Native.Nat.{ℕ, zero, suc, pred, _+_, _-_, _%_, _^_, _≤_, _<_}
 use native.Mathlib.Omega.{arith}
 use lib.Dec.{eqb, leb}
-use lib.ListN.{length, getD, set}
+use lib.ListN.{length, getD, set, length-append, length-map}
 use lib.Pow.{pow-lt, pow-mono}
 use borrow.Author.Tests.{eqb-true, eq-eqb, ne-eqb, leb-true, leb-false, le-leb, lt-leb}
 use Rattle.lists.proofs.Laws.{split, bool-ext}
-use Rattle.layouts.specs.Layouts.{allowedScheme, lg, covers, storedOnce}
+use Rattle.layouts.specs.Layouts.{divides, allowedScheme, lg, covers, black, tree, levels, storedOnce, storesBlackOfTree, namesOfDay}
 use Rattle.layouts.proofs.AllowedLaws.{allowed-scheme-is}
 use Rattle.layouts.proofs.Counts.{lg-unique, lg-bounds, power-of, of-power}
 use Rattle.chains.specs.declared.Value.{Value}
@@ -127,41 +127,17 @@ pub restarted-done : (s n g : ℕ) (start : Value) (i : ℕ) (l : List Value) {r
 unfolding restarted
 restarted-done s n g start i l e p q = e ∙ upto-all (restartSlot s n g start) 0 i l (omega arith)
 
--- ---- scheme 1: no slot is linked, none starts again
+-- ---- scheme 1: no slot is linked
 
 each-same : (f : ℕ → Value → Value) → ((i : ℕ) (v : Value) → f i v ≡ v) → (j : ℕ) (l : List Value) → each f j l ≡ l
 each-same f h j [] = refl
 each-same f h j (x ∷ l) = ap₂ (λ (v : Value) (r : List Value). v ∷ r) (h j x) (each-same f h (suc j) l)
 
-pub black-slots : (n g : ℕ) (start : Value) (h : List ℕ) (l : List Value) → l ≡ restarted 1 n g start (linkedSlots 1 n g h l)
-unfolding linkedSlots restarted
-black-slots n g start h l =
-    sym (each-same (restartSlot 1 n g start) (λ i v. refl) 0 (each (linkSlot 1 n g h) 0 l) ∙ each-same (linkSlot 1 n g h) (λ i v. refl) 0 l)
+pub black-slots : (n g : ℕ) (h : List ℕ) (l : List Value) → l ≡ linkedSlots 1 n g h l
+unfolding linkedSlots
+black-slots n g h l = sym (each-same (linkSlot 1 n g h) (λ i v. refl) 0 l)
 
--- ---- scheme 2: the slots of the tile chains, linked and started again in one loop
-
--- a slot linked, and then started again if its chain is a value
-abbrev pub turnSlot : ℕ → ℕ → ℕ → Value → List ℕ → ℕ → Value → Value
-turnSlot s n g start h i v = restartSlot s n g start i (linkSlot s n g h i v)
-
--- the element that a loop comes to is as it was
-upto-at : (z : Value) (f : ℕ → Value → Value) (j k : ℕ) (l : List Value) → getD (upto f j k l) k z ≡ getD l k z
-upto-at z f j zero l = refl
-upto-at z f j (suc k) [] = refl
-upto-at z f j (suc k) (x ∷ l) = upto-at z f (suc j) k l
-
--- a turn of the loop: the slot that it comes to, linked in the one list and turned in the other
-pub turn-links : (z : Value) (s n g : ℕ) (start : Value) (h : List ℕ) (i : ℕ) (l vs next : List Value) (w : Value) → vs ≡ upto (linkSlot s n g h) 0 i l → next ≡ upto (turnSlot s n g start h) 0 i l →
-    w ≡ linkSlot s n g h i (getD next i z) → i < length l → set vs i w ≡ upto (linkSlot s n g h) 0 (i + 1) l
-turn-links z s n g start h i l vs next w ev en q p =
-    upto-next z (linkSlot s n g h) i l vs w ev (q ∙ ap (linkSlot s n g h i) (as-was next (turnSlot s n g start h) en ∙ sym (as-was vs (linkSlot s n g h) ev))) p
-  where
-    as-was : (r : List Value) (f : ℕ → Value → Value) → r ≡ upto f 0 i l → getD r i z ≡ getD l i z
-    as-was r f e = ap (λ (x : List Value). getD x i z) e ∙ upto-at z f 0 i l
-
-pub turn-restarts : (z : Value) (s n g : ℕ) (start : Value) (h : List ℕ) (i : ℕ) (l next : List Value) (w v : Value) → next ≡ upto (turnSlot s n g start h) 0 i l →
-    w ≡ linkSlot s n g h i (getD next i z) → v ≡ restartSlot s n g start i w → i < length l → set next i v ≡ upto (turnSlot s n g start h) 0 (i + 1) l
-turn-restarts z s n g start h i l next w v en q e p = upto-next z (turnSlot s n g start h) i l next v en (e ∙ ap (restartSlot s n g start i) q) p
+-- ---- scheme 2: the slots of the tile chains
 
 -- a function that leaves the slots from m on is done after m of them
 upto-used : (f : ℕ → Value → Value) (m : ℕ) → ((i : ℕ) (v : Value) → m ≤ i → f i v ≡ v) → (j k : ℕ) (l : List Value) → m ≤ j + k → upto f j k l ≡ each f j l
@@ -170,23 +146,32 @@ upto-used f m h j zero (x ∷ l) p = ap₂ (λ (v : Value) (r : List Value). v �
 upto-used f m h j (suc k) [] p = refl
 upto-used f m h j (suc k) (x ∷ l) p = ap (λ (r : List Value). f j x ∷ r) (upto-used f m h (suc j) k l (omega arith))
 
-each-after : (f e : ℕ → Value → Value) (j : ℕ) (l : List Value) → each (λ i v. f i (e i v)) j l ≡ each f j (each e j l)
-each-after f e j [] = refl
-each-after f e j (x ∷ l) = ap (λ (r : List Value). f j (e j x) ∷ r) (each-after f e (suc j) l)
+pub tiles-linked : (n g : ℕ) (h : List ℕ) (i : ℕ) (l : List Value) {r : List Value} → lg n < i → r ≡ upto (linkSlot 2 n g h) 0 i l → r ≡ linkedSlots 2 n g h l
+unfolding linkedSlots
+tiles-linked n g h i l past e = e ∙ upto-used (linkSlot 2 n g h) (suc (lg n)) (λ j v p. rw (lt-leb j (lg n) p)) 0 i l (omega arith)
 
-module _ (n g : ℕ) (start : Value) (h : List ℕ) (i : ℕ) (l : List Value) (past : lg n < i) where
-  link-stays : (j : ℕ) (v : Value) → suc (lg n) ≤ j → linkSlot 2 n g h j v ≡ v
-  link-stays j v p = rw (lt-leb j (lg n) p)
+-- ---- a day without values: no slot starts again
 
-  turn-stays : (j : ℕ) (v : Value) → suc (lg n) ≤ j → turnSlot 2 n g start h j v ≡ v
-  turn-stays j v p = rw (lt-leb j (lg n) p)
+-- its own chain ends at each day
+some-level : (g : ℕ) → 1 ≤ g → length (levels g) ≡ 0 → ⊥
+some-level zero p e = omega arith
+some-level (suc g) p e =
+    let o : suc g % 1 ≡ 0 = omega arith in
+    let q = rw (eq-eqb (suc g % 1) 0 o) at e in
+    omega (arith, q)
 
-  pub tiles-linked : {r : List Value} → r ≡ upto (linkSlot 2 n g h) 0 i l → r ≡ linkedSlots 2 n g h l
-  unfolding linkedSlots
-  tiles-linked e = e ∙ upto-used (linkSlot 2 n g h) (suc (lg n)) link-stays 0 i l (omega arith)
+pub none-restarted : (s n g : ℕ) (start : Value) (l : List Value) → 1 ≤ g → length (namesOfDay s n g) ≡ 0 → restarted s n g start l ≡ l
+unfolding restarted
+none-restarted zero n g start l p e = each-same (restartSlot 0 n g start) (λ i v. refl) 0 l
+none-restarted (suc zero) n g start l p e = each-same (restartSlot 1 n g start) (λ i v. refl) 0 l
+none-restarted (suc (suc zero)) n g start l p e = go (divides n g) refl
+  where
+    off : (c : Bool) → c && false ≡ false
+    off c = elim c as (λ c. c && false ≡ false) [ true ↦ refl | false ↦ refl ]
 
-  pub tiles-turned : {r : List Value} → r ≡ upto (turnSlot 2 n g start h) 0 i l → r ≡ restarted 2 n g start (linkedSlots 2 n g h l)
-  unfolding linkedSlots restarted
-  tiles-turned e =
-      e ∙ upto-used (turnSlot 2 n g start h) (suc (lg n)) turn-stays 0 i l (omega arith)
-      ∙ each-after (restartSlot 2 n g start) (linkSlot 2 n g h) 0 l
+    go : (c : Bool) → divides n g ≡ c → each (restartSlot 2 n g start) 0 l ≡ l
+    go true q = absurd (let r = rw q at e in omega (arith, r))
+    go false q = each-same (restartSlot 2 n g start) (λ i v. rw (q, off (leb i (lg n)))) 0 l
+none-restarted (suc (suc (suc zero))) n g start l p e =
+    absurd (some-level g p (let r = length-append (map (λ (k : ℕ). tree k g) (levels g)) (cond (storesBlackOfTree n g) (black g ∷ []) []) in omega (arith, r, length-map (levels g) (λ (k : ℕ). tree k g))))
+none-restarted (suc (suc (suc (suc s)))) n g start l p e = each-same (restartSlot (suc (suc (suc (suc s)))) n g start) (λ i v. refl) 0 l

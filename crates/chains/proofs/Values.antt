@@ -18,9 +18,10 @@ use Rattle.layouts.proofs.Coverage.{divisor-le}
 use Rattle.layouts.proofs.Counts.{of-power}
 use Rattle.layouts.proofs.Positions.{levels-run}
 use Rattle.chains.specs.declared.Value.{Value}
-use Rattle.chains.specs.Step.{linked, storesBlack, linkSlot, linkedSlots, restarted, current, dayValues}
-use Rattle.chains.specs.Private.{Stepped}
-use Rattle.chains.proofs.Slots.{upto, turnSlot, black-slots, tiles-linked, tiles-turned}
+use Rattle.chains.specs.declared.DayStep.{DayStep}
+use Rattle.chains.specs.Step.{linked, storesBlack, linkedSlots, restarted, current, dayValues}
+use Rattle.chains.specs.Private.{DayLinked, Stepped}
+use Rattle.chains.proofs.Slots.{none-restarted}
 
 -- the names of a day: m of slots, in order, then black where it is a value of its own
 pub record InSlots (s n g : ℕ) : Type 0 where
@@ -150,37 +151,34 @@ pub chainsOfDay-length : (s n g : ℕ) → length (chainsOfDay s n g) ≡ length
 unfolding chainsOfDay
 chainsOfDay-length s n g = length-map (namesOfDay s n g) (coveredDays n)
 
-pub stepped : (s n g : ℕ) (start old : Value) (slots : List Value) (h : List ℕ) {b : Value} {l v next : List Value} {k : ℕ} → b ≡ linked old h → l ≡ linkedSlots s n g h slots →
-    k ≡ length (chainsOfDay s n g) → take k v ≡ dayValues s n g b l → next ≡ restarted s n g start l →
-    Stepped s n g start old slots h (record { black = b; slots = next; values = v; count = k })
-stepped s n g start old slots h {b} {l} {v} {next} {k} eb el ek ev en =
+-- one more day linked, from what the code computes
+pub day-linked : (s n g : ℕ) (old : Value) (slots : List Value) (h : List ℕ) {b : Value} {l : List Value} {k : ℕ} → k ≡ length (chainsOfDay s n g) → b ≡ linked old h → l ≡ linkedSlots s n g h slots →
+    DayLinked s n g old slots h (record { black = b; slots = l; count = k })
+day-linked s n g old slots h ek eb el = record { black-is = eb; slots-are = el; count-is = ek ∙ chainsOfDay-length s n g }
+
+-- and started again: on a day that has values, and on one that has none
+pub day-ended : (s n g : ℕ) (start old : Value) (slots : List Value) (h : List ℕ) (d : DayStep) {next : List Value} → DayLinked s n g old slots h d → next ≡ restarted s n g start (d .slots) →
+    Stepped s n g start old slots h (record { black = d .black; slots = next; count = d .count })
+day-ended s n g start old slots h d e q =
+    record { black-is = e .black-is; slots-are = q ∙ ap (restarted s n g start) (e .slots-are); count-is = e .count-is }
+
+pub day-quiet : (s n g : ℕ) (start old : Value) (slots : List Value) (h : List ℕ) (d : DayStep) → DayLinked s n g old slots h d → d .count ≡ 0 → 1 ≤ g → Stepped s n g start old slots h d
+day-quiet s n g start old slots h d e z p =
     record {
-      black-is = eb;
-      slots-are = en ∙ ap (restarted s n g start) el;
-      count-is = ek ∙ chainsOfDay-length s n g;
-      values-are = ev ∙ ap₂ (dayValues s n g) eb el;
+      black-is = e .black-is;
+      slots-are = e .slots-are ∙ sym (none-restarted s n g start (linkedSlots s n g h slots) p (sym (e .count-is) ∙ z));
+      count-is = e .count-is;
     }
 
--- scheme 1: black alone, at most
-pub black-stepped : (n g : ℕ) (start old : Value) (slots : List Value) (h : List ℕ) {b : Value} {k : ℕ} → b ≡ linked old h → k ≡ length (chainsOfDay 1 n g) →
-    Stepped 1 n g start old slots h (record { black = b; slots = slots; values = replicate 17 b; count = k })
+pub quiet-values : (s n g : ℕ) (b : Value) (slots : List Value) → length (namesOfDay s n g) ≡ 0 → dayValues s n g b slots ≡ []
 unfolding dayValues
-black-stepped n g start old slots h {b} {k} eb ek =
-    record {
-      black-is = eb;
-      slots-are = black-slots n g start h slots;
-      count-is = ek ∙ chainsOfDay-length 1 n g;
-      values-are = go (divides n g) refl;
-    }
+quiet-values s n g b slots e = ap (map (current b slots)) (nothing (namesOfDay s n g) e)
   where
-    go : (c : Bool) → divides n g ≡ c → take k (replicate 17 b) ≡ map (current (linked old h) (linkedSlots 1 n g h slots)) (namesOfDay 1 n g)
-    go true e = rw (ek ∙ chainsOfDay-length 1 n g, e, eb)
-    go false e = rw (ek ∙ chainsOfDay-length 1 n g, e)
+    nothing : (l : List Name) → length l ≡ 0 → l ≡ []
+    nothing [] q = refl
+    nothing (x ∷ l) q = absurd (omega arith)
 
--- scheme 2: the lists of the loop over the slots of the tile chains
-pub tile-stepped : (n g : ℕ) (start old : Value) (slots : List Value) (h : List ℕ) (i : ℕ) {b : Value} {l v next : List Value} {k : ℕ} → lg n < i → b ≡ linked old h →
-    l ≡ upto (linkSlot 2 n g h) 0 i slots → next ≡ upto (turnSlot 2 n g start h) 0 i slots → k ≡ length (chainsOfDay 2 n g) → take k v ≡ dayValues 2 n g b l →
-    Stepped 2 n g start old slots h (record { black = b; slots = next; values = v; count = k })
-tile-stepped n g start old slots h i {l = l} past eb el en ek ev =
-    let linked-is : l ≡ linkedSlots 2 n g h slots = tiles-linked n g start h i slots past el in
-    stepped 2 n g start old slots h eb linked-is ek ev (tiles-turned n g start h i slots past en ∙ ap (restarted 2 n g start) (sym linked-is))
+-- the values of a day, from the running hashes with the day linked
+pub linked-values : (s n g : ℕ) (old : Value) (slots : List Value) (h : List ℕ) (d : DayStep) → DayLinked s n g old slots h d →
+    dayValues s n g (d .black) (d .slots) ≡ dayValues s n g (linked old h) (linkedSlots s n g h slots)
+linked-values s n g old slots h d e = ap₂ (dayValues s n g) (e .black-is) (e .slots-are)

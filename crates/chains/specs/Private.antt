@@ -2,20 +2,25 @@
 use mathlib.Core.Path.{_≡_}
 use mathlib.Core.List.{List, []}
 use Prim.Native.Nat.{ℕ, _<_}
-use lib.ListN.{length, getD, take}
+use lib.ListN.{length, getD}
 use Rattle.layouts.specs.Layouts.{namesOfDay}
 use Rattle.lanes.specs.Private.{Lanes}
 use Rattle.links.specs.Private.{front}
 use Rattle.chains.specs.declared.DayStep.{DayStep}
 use Rattle.chains.specs.declared.Value.{Value}
-use Rattle.chains.specs.Step.{linked, each, linkedSlots, restarted, dayValues}
+use Rattle.chains.specs.Step.{linked, each, linkedSlots, restarted}
 
--- what one more day gives: the running hashes after it, the values of the day at the front of a list, and their number
+-- the running hashes with day g linked, and the number of its values
+pub record DayLinked (scheme n g : ℕ) (b : Value) (slots : List Value) (h : List ℕ) (r : DayStep) : Type 0 where
+  pub black-is : r .black ≡ linked b h
+  pub slots-are : r .slots ≡ linkedSlots scheme n g h slots
+  pub count-is : r .count ≡ length (namesOfDay scheme n g)
+
+-- the running hashes after day g: the chains that are values of it have started again
 pub record Stepped (scheme n g : ℕ) (start b : Value) (slots : List Value) (h : List ℕ) (r : DayStep) : Type 0 where
   pub black-is : r .black ≡ linked b h
   pub slots-are : r .slots ≡ restarted scheme n g start (linkedSlots scheme n g h slots)
   pub count-is : r .count ≡ length (namesOfDay scheme n g)
-  pub values-are : take (r .count) (r .values) ≡ dayValues scheme n g (linked b h) (linkedSlots scheme n g h slots)
 
 -- ---- the links of the slots 0 to 15 in lanes
 

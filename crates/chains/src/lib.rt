@@ -7,18 +7,18 @@ ghost use lib.ListN.{length, take};
 ghost use Rattle.refusals.specs.Refusals.{bookLimit};
 ghost use Rattle.layouts.specs.Layouts.{allowedScheme, allowedN, namesOfDay};
 ghost use Rattle.chains.specs.Step.{startValue, linked, linksSlot, storesSlot, storesBlack, linkSlot};
-ghost use Rattle.chains.specs.Step.{restartSlot, restarted, dayValues, linksOf};
+ghost use Rattle.chains.specs.Step.{linkedSlots, restartSlot, restarted, dayValues, linksOf};
 ghost use Rattle.links.specs.Private.{front};
-ghost use Rattle.chains.specs.Private.{Stepped, Fronts, levelsLinked};
+ghost use Rattle.chains.specs.Private.{DayLinked, Fronts, levelsLinked};
 
 pub struct Value {
     pub words: [u32; 8],
 }
 
+// The running hashes after a day, and the number of the day's values.
 pub struct DayStep {
     pub black: Value,
     pub slots: [Value; 17],
-    pub values: [Value; 17],
     pub count: u32,
 }
 
@@ -185,7 +185,8 @@ fn link_levels(slots: [Value; 17], h: [u32; 8]) -> [Value; 17]
     r
 }
 
-fn restart_slots(scheme: u32, n: u32, g: u32, start: Value, slots: [Value; 17]) -> [Value; 17]
+// The slots after day g: those whose chains are values of it start again.
+pub fn restart_slots(scheme: u32, n: u32, g: u32, start: Value, slots: [Value; 17]) -> [Value; 17]
     requires { ⌜ allowedN n ≡ true ⌝ }
     ensures { λ r. ⌜ r ≡ restarted scheme n g start slots ⌝ }
 {
@@ -201,7 +202,7 @@ fn restart_slots(scheme: u32, n: u32, g: u32, start: Value, slots: [Value; 17]) 
 }
 
 // The values of day g, k of them: the slots in their order, then black where it is one of its own.
-fn day_values(scheme: u32, n: u32, g: u32, k: u32, black: Value, slots: [Value; 17]) -> [Value; 17]
+pub fn day_values(scheme: u32, n: u32, g: u32, k: u32, black: Value, slots: [Value; 17]) -> [Value; 17]
     requires { ⌜ (allowedScheme scheme ≡ true) × (allowedN n ≡ true) × (1 ≤ g) × (g ≤ bookLimit)
         × (k ≡ length (namesOfDay scheme n g)) ⌝ }
     ensures { λ r. ⌜ take k r ≡ dayValues scheme n g black slots ⌝ }
@@ -214,81 +215,49 @@ fn day_values(scheme: u32, n: u32, g: u32, k: u32, black: Value, slots: [Value; 
     r
 }
 
-// Day g under scheme 2: each tile chain's slot is linked, and started again if it is a value of the day. One loop, so
-// that the slots are copied as rarely as can be; those behind c(lg N) stay.
-fn tile_step(n: u32, g: u32, start: Value, black: Value, slots: [Value; 17], h: [u32; 8]) -> DayStep
-    requires { ⌜ (allowedN n ≡ true) × (1 ≤ g) × (g ≤ bookLimit) ⌝ }
-    ensures { λ r. ⌜ Stepped 2 n g start black slots h r ⌝ }
+// The slots of the tile chains that cover day g linked; those behind c(lg N) stay.
+fn link_tiles(n: u32, g: u32, slots: [Value; 17], h: [u32; 8]) -> [Value; 17]
+    requires { ⌜ (allowedN n ≡ true) × (1 ≤ g) ⌝ }
+    ensures { λ r. ⌜ r ≡ linkedSlots 2 n g h slots ⌝ }
 {
-    let b = link_value(black, h);
-    let k = layouts::values_of_day(2, n, g);
     let m = layouts::lg(n) as usize + 1;
-    let mut values = slots;
-    let mut next = slots;
+    let mut r = slots;
     let mut i = 0usize;
     while i < m {
-        let v = next[i];
+        let v = r[i];
         let w = slot_linked(2, n, g, i, v, h);
-        let s = slot_restarted(2, n, g, start, i, w);
-        values[i] = w;
-        next[i] = s;
+        r[i] = w;
         i += 1;
     }
-    if stores_black(2, n, g) {
-        let at = (k - 1) as usize;
-        values[at] = b;
-    }
-    DayStep {
-        black: b,
-        slots: next,
-        values,
-        count: k,
-    }
+    r
 }
 
-// Day g under scheme 3.
-fn tree_step(n: u32, g: u32, start: Value, black: Value, slots: [Value; 17], h: [u32; 8]) -> DayStep
-    requires { ⌜ (allowedN n ≡ true) × (1 ≤ g) × (g ≤ bookLimit) ⌝ }
-    ensures { λ r. ⌜ Stepped 3 n g start black slots h r ⌝ }
-{
-    let b = link_value(black, h);
-    let linked = link_levels(slots, h);
-    let k = layouts::values_of_day(3, n, g);
-    let values = day_values(3, n, g, k, b, linked);
-    let next = restart_slots(3, n, g, start, linked);
-    DayStep {
-        black: b,
-        slots: next,
-        values,
-        count: k,
-    }
-}
-
-// One more day, g, whose digest is h. Under scheme 1 no slot is in use.
-pub fn step(
-    scheme: u32,
-    n: u32,
-    g: u32,
-    start: Value,
-    black: Value,
-    slots: [Value; 17],
-    h: [u32; 8],
-) -> DayStep
+// One more day, g, whose digest is h, linked to the chains that cover it. Under scheme 1 no slot is in use. What is a
+// value of the day is taken by `day_values`, and then started again by `restart_slots`: on a day that has none the
+// slots are copied no further.
+pub fn step(scheme: u32, n: u32, g: u32, black: Value, slots: [Value; 17], h: [u32; 8]) -> DayStep
     requires { ⌜ (allowedScheme scheme ≡ true) × (allowedN n ≡ true) × (1 ≤ g) × (g ≤ bookLimit) ⌝ }
-    ensures { λ r. ⌜ Stepped scheme n g start black slots h r ⌝ }
+    ensures { λ r. ⌜ DayLinked scheme n g black slots h r ⌝ }
 {
+    let k = layouts::values_of_day(scheme, n, g);
+    let b = link_value(black, h);
     if scheme == 2 {
-        return tile_step(n, g, start, black, slots, h);
+        return DayStep {
+            black: b,
+            slots: link_tiles(n, g, slots, h),
+            count: k,
+        };
     }
     if scheme == 3 {
-        return tree_step(n, g, start, black, slots, h);
+        return DayStep {
+            black: b,
+            slots: link_levels(slots, h),
+            count: k,
+        };
     }
-    let b = link_value(black, h);
-    let k = layouts::values_of_day(scheme, n, g);
     DayStep {
         black: b,
         slots,
-        values: [b; 17],
         count: k,
     }
 }

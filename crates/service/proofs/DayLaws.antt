@@ -17,11 +17,11 @@ use Rattle.layouts.specs.Layouts.{allowedScheme, allowedN, namesOfDay}
 use Rattle.layouts.proofs.AllowedLaws.{setup-is}
 use Rattle.chains.specs.declared.Value.{Value}
 use Rattle.chains.specs.declared.DayStep.{DayStep}
-use Rattle.chains.specs.Step.{valueBytes}
-use Rattle.chains.proofs.Values.{day-few, chainsOfDay-length}
+use Rattle.chains.specs.Step.{linked, dayValues, valueBytes}
+use Rattle.chains.proofs.Values.{day-few, chainsOfDay-length, day-quiet, quiet-values, linked-values}
 use Rattle.service.specs.declared.Record.{Record}
-use Rattle.service.specs.Contract.{dayCount, dayBytes, nextDay}
-use Rattle.service.specs.Private.{Open, StepOf}
+use Rattle.service.specs.Contract.{dayCount, digestOf, linkedOf, dayBytes, nextDay}
+use Rattle.service.specs.Private.{Open, LinkedOf, StepOf, valuesOf}
 use Rattle.service.proofs.RecordLaws.{Allowed, allowed-is}
 
 -- what the layouts ask of a record, and of its open day
@@ -36,26 +36,39 @@ day-asks r o =
 
 -- ---- the step of the day
 
-module _ (r : Record) (d : DayStep) (s : StepOf r d) where
+module _ (r : Record) (d : DayStep) (s : LinkedOf r d) where
   pub step-count : d .count ≡ dayCount r
   step-count =
       s .count-is ∙ ap (λ (g : ℕ). length (namesOfDay (r .scheme) (r .n) g)) (add-one (r .days)) ∙
       sym (chainsOfDay-length (r .scheme) (r .n) (suc (r .days)))
 
-  pub step-bytes : dayBytes r ≡ valueBytes (take (d .count) (d .values))
-  unfolding dayBytes
-  step-bytes = rw (s .values-are, add-one (r .days))
+  values-are : valuesOf r d ≡ dayValues (r .scheme) (r .n) (suc (r .days)) (linked (r .black) (digestOf r)) (linkedOf r)
+  values-are = linked-values (r .scheme) (r .n) (r .days + 1) (r .black) (r .running) (digestOf r) d s ∙ rw (add-one (r .days))
 
-  pub step-next : {h : Hasher} → h ≡ begun (0 ∷ []) →
-      record { scheme = r .scheme; n = r .n; f = r .f; days = r .days + 1; bytes = 0; hash = h .words; block = h .block; black = d .black; running = d .slots; start = r .start; season = r .season } ≡ nextDay r
-  unfolding nextDay
-  step-next e = rw (e, s .black-is, s .slots-are, add-one (r .days))
+  pub step-bytes : (v : List Value) → take (d .count) v ≡ valuesOf r d → dayBytes r ≡ valueBytes (take (d .count) v)
+  unfolding dayBytes
+  step-bytes v e = sym (ap valueBytes (e ∙ values-are))
+
+  -- a day without values
+  pub quiet-written : (part : List ℕ) → d .count ≡ 0 → Wrote 0 (dayBytes r) part (32 * d .count) part
+  unfolding dayBytes valueBytes
+  quiet-written part z =
+      let e = sym values-are ∙ quiet-values (r .scheme) (r .n) (r .days + 1) (d .black) (d .slots) (sym (s .count-is) ∙ z) in
+      rw (z, e) (record { count = refl; list = refl })
+
+  pub quiet-step : Open r → d .count ≡ 0 → StepOf r d
+  quiet-step o z = day-quiet (r .scheme) (r .n) (r .days + 1) (r .start) (r .black) (r .running) (digestOf r) d s z (omega arith)
 
   pub step-fits : (size : ℕ) → Open r → 32 * dayCount r ≤ size → (d .count ≤ 17) × (32 * d .count ≤ size)
   step-fits size o room =
       let a = day-asks r o in
       let few = day-few (r .scheme) (r .n) (r .days + 1) (a .0) (a .1) (a .2) (a .3) in
       (omega (arith, s .count-is), omega (arith, step-count))
+
+pub step-next : (r : Record) (d : DayStep) → StepOf r d → {h : Hasher} → h ≡ begun (0 ∷ []) →
+    record { scheme = r .scheme; n = r .n; f = r .f; days = r .days + 1; bytes = 0; hash = h .words; block = h .block; black = d .black; running = d .slots; start = r .start; season = r .season } ≡ nextDay r
+unfolding nextDay
+step-next r d s e = rw (e, s .black-is, s .slots-are, add-one (r .days))
 
 -- ---- values written one by one
 

@@ -1,10 +1,13 @@
 -- What the steps of the calls give. Definitions only; private contracts cite them.
 use mathlib.Core.Path.{_≡_}
 use mathlib.Core.Bool.{true}
+use mathlib.Core.List.{List}
 use Prim.Native.Nat.{ℕ, _+_, _<_}
 use Rattle.refusals.specs.Refusals.{bookLimit, firstRefusal}
 use Rattle.chains.specs.declared.DayStep.{DayStep}
-use Rattle.chains.specs.Private.{Stepped}
+use Rattle.chains.specs.declared.Value.{Value}
+use Rattle.chains.specs.Step.{dayValues}
+use Rattle.chains.specs.Private.{DayLinked, Stepped}
 use Rattle.service.specs.declared.Record.{Record}
 use Rattle.service.specs.Contract.{allowedRecord, recordTests, digestOf}
 
@@ -17,7 +20,13 @@ pub record Open (r : Record) : Type 0 where
   pub allowed : allowedRecord r ≡ true
   pub day-left : r .days < bookLimit
 
--- what the digest of the open day does to the chains
+-- the chains with the digest of the open day linked; and started again where they are values of the day
+abbrev pub LinkedOf : Record → DayStep → Type 0
+LinkedOf r step = DayLinked (r .scheme) (r .n) (r .days + 1) (r .black) (r .running) (digestOf r) step
+
 abbrev pub StepOf : Record → DayStep → Type 0
-StepOf r step =
-    Stepped (r .scheme) (r .n) (r .days + 1) (r .start) (r .black) (r .running) (digestOf r) step
+StepOf r step = Stepped (r .scheme) (r .n) (r .days + 1) (r .start) (r .black) (r .running) (digestOf r) step
+
+-- the values of the open day
+abbrev pub valuesOf : Record → DayStep → List Value
+valuesOf r step = dayValues (r .scheme) (r .n) (r .days + 1) (step .black) (step .slots)

@@ -10,7 +10,7 @@ ghost use Rattle.refusals.specs.Refusals.{dayLimit};
 ghost use Rattle.buffers.specs.Private.{Wrote};
 ghost use Rattle.chains.specs.Step.{valueBytes};
 ghost use Rattle.service.specs.Contract.{grown, digestOf, nextDay};
-ghost use Rattle.service.specs.Private.{Open, StepOf};
+ghost use Rattle.service.specs.Private.{Open, LinkedOf, StepOf, valuesOf};
 
 // The record with the piece in its open day.
 pub fn grow(state: Record, piece: &[u8]) -> Record
@@ -49,24 +49,47 @@ fn digest(state: Record) -> [u32; 8]
     hasher::finish(Hasher { words, block }, state.bytes as u64 + 1)
 }
 
-// What the day's digest does to the chains.
+// The chains with the day's digest linked.
 pub fn step(state: Record) -> DayStep
     requires { ⌜ Open state ⌝ }
-    ensures { λ r. ⌜ StepOf state r ⌝ }
+    ensures { λ r. ⌜ LinkedOf state r ⌝ }
 {
     let h = digest(state);
-    let start = state.start;
     let black = state.black;
     let running = state.running;
-    chains::step(
+    chains::step(state.scheme, state.n, state.days + 1, black, running, h)
+}
+
+// The values of the day, at the front.
+pub fn values(state: Record, step: DayStep) -> [Value; 17]
+    requires { ⌜ Open state × LinkedOf state step ⌝ }
+    ensures { λ r. ⌜ take (step .count) r ≡ valuesOf state step ⌝ }
+{
+    let black = step.black;
+    let slots = step.slots;
+    chains::day_values(
         state.scheme,
         state.n,
         state.days + 1,
-        start,
+        step.count,
         black,
-        running,
-        h,
+        slots,
     )
+}
+
+// The chains that are values of the day started again.
+pub fn restart(state: Record, step: DayStep) -> DayStep
+    requires { ⌜ Open state × LinkedOf state step ⌝ }
+    ensures { λ r. ⌜ StepOf state r ⌝ }
+{
+    let black = step.black;
+    let slots = step.slots;
+    let start = state.start;
+    DayStep {
+        black,
+        slots: chains::restart_slots(state.scheme, state.n, state.days + 1, start, slots),
+        count: step.count,
+    }
 }
 
 // Writes the first k values to the front of the part.

@@ -135,7 +135,7 @@ fn close_refusal(state: Record, size: usize) -> u32
     0
 }
 
-// Writes the values of the day to the front of the part.
+// Writes the values of the day to the front of the part. Most days of black and of tiles have none.
 pub fn close(state: Record, part: &mut [u8]) -> Closed
     ensures { λ r. ⌜ r ≡ closing state (now (part .entry)) .result ⌝ }
     ensures { λ r. ⌜ now (part .exit) ≡ closing state (now (part .entry)) .part ⌝ }
@@ -150,12 +150,20 @@ pub fn close(state: Record, part: &mut [u8]) -> Closed
     }
     let made = records::current(state);
     let step = day::step(made);
-    let values = step.values;
     let k = step.count;
+    if k == 0 {
+        return Closed {
+            answer: Writing::Wrote(k),
+            state: day::next(made, step),
+            blocks: blocks::of_close(made),
+        };
+    }
+    let values = day::values(made, step);
     day::write(part, values, k);
+    let ended = day::restart(made, step);
     Closed {
         answer: Writing::Wrote(k),
-        state: day::next(made, step),
+        state: day::next(made, ended),
         blocks: blocks::of_close(made),
     }
 }
