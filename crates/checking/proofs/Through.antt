@@ -30,7 +30,7 @@ use Rattle.buffers.proofs.Lent.{lent-put, lent-length}
 use Rattle.comparing.proofs.Laws.{to-end}
 use Rattle.checking.specs.Contract.{digestsOf, outcomesOf}
 use Rattle.comparing.specs.Private.{compared}
-use Rattle.checking.specs.Private.{DayReady, Ready}
+use Rattle.checking.specs.Private.{DayReady, Ready, comparedDay}
 
 -- ---- digests and outcomes of one more day
 
@@ -214,7 +214,7 @@ module _ {s n d : ℕ} {ledger ends book oldWork oldOutcomes : List ℕ} {i at :
     -- the day's call
     module _ {bytes : List ℕ} {g : ℕ} {first : Value} {r : DayStep} {w o : List ℕ} (is-day : bytes ≡ day) (is-next : g ≡ i + 1) (is-first : first ≡ startValue s n)
         (stepped : Stepped s n g first b slots (hashed (0 ∷ bytes)) r) (worked : w ≡ bytesOf (hashed (0 ∷ bytes)) ++ drop 32 (midOf (32 * i) (length work - 32 * i) work))
-        (found : o ≡ compared (take (r .count) (r .values)) (take (length book - 32 * at) (drop (32 * at) book)) ++ drop (r .count) (midOf at (length outs - at) outs)) where
+        (found : o ≡ comparedDay s n g b slots (hashed (0 ∷ bytes)) (take (length book - 32 * at) (drop (32 * at) book)) ++ drop (r .count) (midOf at (length outs - at) outs)) where
       hash : bytesOf (hashed (0 ∷ bytes)) ≡ digest sha256 day
       unfolding sha256
       hash = ap (λ (x : List ℕ). bytesOf (hashed (0 ∷ x))) is-day
@@ -231,10 +231,11 @@ module _ {s n d : ℕ} {ledger ends book oldWork oldOutcomes : List ℕ} {i at :
       count-is : at + r .count ≡ length (chains s n (suc i))
       count-is = omega (arith, t .at-is, next-count, stepped′ .count-is ∙ ap (λ (x : ℕ). length (namesOfDay s n (suc x))) days-are)
 
-      found-is : compared (take (r .count) (r .values)) (take (length book - 32 * at) (drop (32 * at) book)) ≡ checkOutcomes sha256 (start s n) (E i ++ (day ∷ []))
+      found-is : comparedDay s n g b slots (hashed (0 ∷ bytes)) (take (length book - 32 * at) (drop (32 * at) book)) ≡ checkOutcomes sha256 (start s n) (E i ++ (day ∷ []))
           (chainsOfDay s n (suc (length (E i)))) (drop (32 * at) book)
       found-is =
-          ap₂ compared (stepped′ .values-are) (to-end book (32 * at)) ∙ compared-day s n (E i) day (ok .n-ok) b slots (hashed (0 ∷ bytes)) (t .holds) hash room (drop (32 * at) book)
+          ap₂ (λ (x : ℕ) (l : List ℕ). comparedDay s n x b slots (hashed (0 ∷ bytes)) l) day-is (to-end book (32 * at)) ∙
+          compared-day s n (E i) day (ok .n-ok) b slots (hashed (0 ∷ bytes)) (t .holds) hash room (drop (32 * at) book)
 
       work-put : putMid (32 * i) (length work - 32 * i) work w ≡ digestsOf ledger ends (suc i) ++ drop (32 * suc i) oldWork
       work-put =
@@ -245,10 +246,10 @@ module _ {s n d : ℕ} {ledger ends book oldWork oldOutcomes : List ℕ} {i at :
       outcomes-put : putMid at (length outs - at) outs o ≡ outcomesOf s n (suc i) ledger ends book ++ drop (at + r .count) oldOutcomes
       outcomes-put =
           lent-put (outcomesOf s n i ledger ends book) oldOutcomes outs at (t .outcomes-are) outcomes-size (t .outcomes-length-is) o
-          (compared (take (r .count) (r .values)) (take (length book - 32 * at) (drop (32 * at) book))) (r .count) found ∙
+          (comparedDay s n g b slots (hashed (0 ∷ bytes)) (take (length book - 32 * at) (drop (32 * at) book))) (r .count) found ∙
           ap (λ (p : List ℕ). p ++ drop (at + r .count) oldOutcomes) (ap (λ (p : List ℕ). outcomesOf s n i ledger ends book ++ p) found-is ∙ sym outcomes-next)
 
-      values-length : length (compared (take (r .count) (r .values)) (take (length book - 32 * at) (drop (32 * at) book))) ≡ r .count
+      values-length : length (comparedDay s n g b slots (hashed (0 ∷ bytes)) (take (length book - 32 * at) (drop (32 * at) book))) ≡ r .count
       values-length =
           ap length found-is ∙ checkOutcomes-length (start s n) (E i ++ (day ∷ [])) (chainsOfDay s n (suc (length (E i)))) (drop (32 * at) book) ∙
           chainsOfDay-length s n (suc (length (E i))) ∙ sym (stepped′ .count-is)
@@ -269,5 +270,5 @@ module _ {s n d : ℕ} {ledger ends book oldWork oldOutcomes : List ℕ} {i at :
                 (ap length hash ∙ sha256-length (0 ∷ day)) (omega (arith, ok .work-long));
             outcomes-length-is =
                 lent-length (outcomesOf s n i ledger ends book) oldOutcomes outs at (t .outcomes-are) outcomes-size (t .outcomes-length-is) o
-                (compared (take (r .count) (r .values)) (take (length book - 32 * at) (drop (32 * at) book))) (r .count) found values-length outcomes-fit;
+                (comparedDay s n g b slots (hashed (0 ∷ bytes)) (take (length book - 32 * at) (drop (32 * at) book))) (r .count) found values-length outcomes-fit;
           })

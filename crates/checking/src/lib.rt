@@ -5,15 +5,14 @@ use refusals::Answer;
 ghost use mathlib.Core.Path.{_≡_};
 ghost use mathlib.Core.List.{_∷_, _++_};
 ghost use Prim.Native.Nat.{_+_, _*_, _<_};
-ghost use lib.ListN.{length, take, drop};
+ghost use lib.ListN.{length, drop};
 ghost use Rattle.refusals.specs.Refusals.{bookLimit};
 ghost use Rattle.layouts.specs.Layouts.{chains};
 ghost use Rattle.sha256.specs.Sha256.{hashed};
 ghost use Rattle.sha256_words.specs.Words.{bytesOf};
 ghost use Rattle.chains.specs.Private.{Stepped};
 ghost use Rattle.checking.specs.Contract.{checkRefusal, digestsOf, outcomesOf, checked};
-ghost use Rattle.comparing.specs.Private.{compared};
-ghost use Rattle.checking.specs.Private.{DayReady, Ready};
+ghost use Rattle.checking.specs.Private.{DayReady, Ready, comparedDay};
 
 // Tests 1 2 3 7 9 10 11 8.
 fn check_refusal(
@@ -63,16 +62,26 @@ fn check_day(
     ensures { λ r. ⌜ Stepped scheme n g start black slots (hashed (0 ∷ now (day .entry))) r ⌝ }
     ensures { λ r. ⌜ now (work .exit) ≡ bytesOf (hashed (0 ∷ now (day .entry))) ++ drop 32 (now (work .entry)) ⌝ }
     ensures { λ r. ⌜ now (outcomes .exit) ≡
-        compared (take (r .count) (r .values)) (now (book .entry)) ++ drop (r .count) (now (outcomes .entry)) ⌝ }
+        comparedDay scheme n g black slots (hashed (0 ∷ now (day .entry))) (now (book .entry)) ++
+        drop (r .count) (now (outcomes .entry)) ⌝ }
 {
     let h = hasher::digest(0, day);
     let b = sha256_words::bytes(h);
     buffers::put(work, 0, &b);
-    let step = chains::step(scheme, n, g, start, black, slots, h);
-    let values = step.values;
+    let step = chains::step(scheme, n, g, black, slots, h);
     let k = step.count;
+    if k == 0 {
+        return step;
+    }
+    let v = step.black;
+    let linked = step.slots;
+    let values = chains::day_values(scheme, n, g, k, v, linked);
     comparing::all(book, values, k, outcomes);
-    step
+    DayStep {
+        black: v,
+        slots: chains::restart_slots(scheme, n, g, start, linked),
+        count: k,
+    }
 }
 
 // The day at an index.
