@@ -127,7 +127,7 @@ pub restarted-done : (s n g : ℕ) (start : Value) (i : ℕ) (l : List Value) {r
 unfolding restarted
 restarted-done s n g start i l e p q = e ∙ upto-all (restartSlot s n g start) 0 i l (omega arith)
 
--- ---- scheme 1: no slot is linked
+-- ---- scheme 1: no slot is linked, none starts again
 
 each-same : (f : ℕ → Value → Value) → ((i : ℕ) (v : Value) → f i v ≡ v) → (j : ℕ) (l : List Value) → each f j l ≡ l
 each-same f h j [] = refl
@@ -136,6 +136,10 @@ each-same f h j (x ∷ l) = ap₂ (λ (v : Value) (r : List Value). v ∷ r) (h 
 pub black-slots : (n g : ℕ) (h : List ℕ) (l : List Value) → l ≡ linkedSlots 1 n g h l
 unfolding linkedSlots
 black-slots n g h l = sym (each-same (linkSlot 1 n g h) (λ i v. refl) 0 l)
+
+pub black-kept : (n g : ℕ) (start : Value) (h : List ℕ) (l : List Value) → l ≡ restarted 1 n g start (linkedSlots 1 n g h l)
+unfolding restarted
+black-kept n g start h l = black-slots n g h l ∙ sym (each-same (restartSlot 1 n g start) (λ i v. refl) 0 (linkedSlots 1 n g h l))
 
 -- ---- scheme 2: the slots of the tile chains
 

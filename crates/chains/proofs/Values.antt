@@ -21,7 +21,7 @@ use Rattle.chains.specs.declared.Value.{Value}
 use Rattle.chains.specs.declared.DayStep.{DayStep}
 use Rattle.chains.specs.Step.{linked, storesBlack, linkedSlots, restarted, current, dayValues}
 use Rattle.chains.specs.Private.{DayLinked, Stepped}
-use Rattle.chains.proofs.Slots.{none-restarted}
+use Rattle.chains.proofs.Slots.{none-restarted, black-kept}
 
 -- the names of a day: m of slots, in order, then black where it is a value of its own
 pub record InSlots (s n g : ℕ) : Type 0 where
@@ -169,6 +169,19 @@ day-quiet s n g start old slots h d e z p =
       slots-are = e .slots-are ∙ sym (none-restarted s n g start (linkedSlots s n g h slots) p (sym (e .count-is) ∙ z));
       count-is = e .count-is;
     }
+
+-- scheme 1: black alone, whatever stands in the slots
+pub black-stepped : (n g : ℕ) (start old : Value) (slots : List Value) (h : List ℕ) {b : Value} {k : ℕ} → b ≡ linked old h → k ≡ length (namesOfDay 1 n g) →
+    Stepped 1 n g start old slots h (record { black = b; slots = slots; count = k })
+black-stepped n g start old slots h eb ek = record { black-is = eb; slots-are = black-kept n g start h slots; count-is = ek }
+
+pub black-values : (n g : ℕ) (b : Value) (slots : List Value) → dayValues 1 n g b slots ≡ take (length (namesOfDay 1 n g)) (replicate 17 b)
+unfolding dayValues
+black-values n g b slots = go (divides n g) refl
+  where
+    go : (c : Bool) → divides n g ≡ c → map (current b slots) (namesOfDay 1 n g) ≡ take (length (namesOfDay 1 n g)) (replicate 17 b)
+    go true e = rw e
+    go false e = rw e
 
 pub quiet-values : (s n g : ℕ) (b : Value) (slots : List Value) → length (namesOfDay s n g) ≡ 0 → dayValues s n g b slots ≡ []
 unfolding dayValues

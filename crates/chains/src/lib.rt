@@ -34,7 +34,8 @@ pub fn start(scheme: u32, n: u32) -> Value
     }
 }
 
-fn link_value(v: Value, h: [u32; 8]) -> Value
+// A value linked to the digest h.
+pub fn link_value(v: Value, h: [u32; 8]) -> Value
     ensures { λ r. ⌜ r ≡ linked v h ⌝ }
 {
     let w = v.words;
@@ -202,7 +203,14 @@ pub fn restart_slots(scheme: u32, n: u32, g: u32, start: Value, slots: [Value; 1
 }
 
 // The values of day g, k of them: the slots in their order, then black where it is one of its own.
-pub fn day_values(scheme: u32, n: u32, g: u32, k: u32, black: Value, slots: [Value; 17]) -> [Value; 17]
+pub fn day_values(
+    scheme: u32,
+    n: u32,
+    g: u32,
+    k: u32,
+    black: Value,
+    slots: [Value; 17],
+) -> [Value; 17]
     requires { ⌜ (allowedScheme scheme ≡ true) × (allowedN n ≡ true) × (1 ≤ g) × (g ≤ bookLimit)
         × (k ≡ length (namesOfDay scheme n g)) ⌝ }
     ensures { λ r. ⌜ take k r ≡ dayValues scheme n g black slots ⌝ }

@@ -11,16 +11,33 @@ returns c =
     let a = c .before .before .before .before .before .before .before .args in
     checked-refused _ _ _ _ (a .ledger .now) _ (a .book .now) (a .work .now) (a .outcomes .now) (c .before .check-refusal .ensures) (c .if1 .taken)
 
-check-days-requires : tie.Need-check-days-requires
-check-days-requires c κs = check-ready _ _ _ _ _ _ _ _ _ (sym (c .before .before .before .check-refusal .ensures) ∙ c .before .before .if1 .left)
+check-blacks-requires : tie.Need-check-blacks-requires
+check-blacks-requires c κs =
+    let b = c .before .before in
+    rw (b .if2 .taken) at (check-ready _ _ _ _ _ _ _ _ _ (sym (b .before .before .check-refusal .ensures) ∙ b .before .if1 .left))
 
 returns-2 : tie.Need-returns-2
 returns-2 c =
-    let a = c .before .before .before .before .before .before .before .before .before .before .before .before .before .before .args in
-    let w = c .before .before .before .before .check-days .ensures in
-    checked-done _ _ _ _ (a .ledger .now) _ (a .book .now) (a .work .now) (a .outcomes .now) (c .before .before .before .before .before .before .before .before .check-refusal .ensures)
-    (c .before .before .before .before .before .before .before .if1 .left) (w .0) (w .1)
+    let w = c .before .before .before .before in
+    let t = w .before .before .before in
+    let r = t .before .before in
+    let a = r .before .before .before .before .before .before .args in
+    checked-done _ _ _ _ (a .ledger .now) _ (a .book .now) (a .work .now) (a .outcomes .now) (r .check-refusal .ensures) (t .before .if1 .left)
+    (w .check-blacks .ensures .0) (rw (t .if2 .taken) (w .check-blacks .ensures .1))
+
+check-days-requires : tie.Need-check-days-requires
+check-days-requires c κs =
+    let b = c .before .before .before in check-ready _ _ _ _ _ _ _ _ _ (sym (b .before .check-refusal .ensures) ∙ b .if1 .left)
+
+returns-3 : tie.Need-returns-3
+returns-3 c =
+    let w = c .before .before .before .before in
+    let e = w .before .before .before .before in
+    let r = e .before in
+    let a = r .before .before .before .before .before .before .args in
+    checked-done _ _ _ _ (a .ledger .now) _ (a .book .now) (a .work .now) (a .outcomes .now) (r .check-refusal .ensures) (e .if1 .left)
+    (w .check-days .ensures .0) (w .check-days .ensures .1)
 
 pub check-spec : {M : Type 1} → statement M
-check-spec = tie.close (tie.spec (λ c. λ κs. search needs) returns check-days-requires (λ c. search needs)
-    (λ c. search needs) returns-2)
+check-spec = tie.close (tie.spec (λ c κs. search needs) returns check-blacks-requires (λ c. search needs) (λ c. search needs) returns-2
+    check-days-requires (λ c. search needs) (λ c. search needs) returns-3)

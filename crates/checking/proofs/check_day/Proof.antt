@@ -52,7 +52,7 @@ returns-2 c =
       (
         rw (← (digest .ensures), ← (bytes .ensures)) (wrote-front 32 (s .before .before .before .put .ensures) size),
         rw (← (digest .ensures)) (day-compared (a .scheme) (a .n) (a .g) (a .black) (a .slots) (digest .result) (s .step .result) (s .step .ensures) (a .book .now) (a .outcomes .now)
-        (v .day-values .result) (v .day-values .ensures) (o .all .ensures)),
+            (v .day-values .result) (v .day-values .ensures) (o .all .ensures)),
       ),
     )
 
