@@ -1,14 +1,11 @@
 // Sealing a whole ledger in one call: open, then add and close for each of its days. Each close is lent the unwritten
 // rest of the book.
 use refusals::Answer;
-use service::Closed;
-use service::Record;
 ghost use mathlib.Core.Path.{_≡_};
 ghost use lib.ListN.{length};
 ghost use Rattle.refusals.specs.Refusals.{frontWritten};
 ghost use Rattle.ledger.specs.Ledger.{daysOf};
 ghost use Rattle.chains.specs.Book.{bookOf};
-ghost use Rattle.service.specs.Contract.{added, closing};
 ghost use Rattle.sealing.specs.Contract.{sealRefusal, sealedBook};
 
 // Tests 1 2 3 7 9 10 8 (SPEC 11.7).
@@ -26,17 +23,8 @@ fn seal_refusal(scheme: u32, n: u32, f: u32, d: u32, ends: &[u32], size: usize, 
     0
 }
 
-// One day: its bytes in one piece, its values to the front of the rest of the book.
-fn seal_day(state: Record, day: &[u8], rest: &mut [u8]) -> Closed
-    ensures { λ r. ⌜ r ≡ closing (added state (now (day .entry)) .state) (now (rest .entry)) .result ⌝ }
-    ensures { λ r. ⌜ now (rest .exit) ≡ closing (added state (now (day .entry)) .state) (now (rest .entry)) .part ⌝ }
-{
-    let a = service::add(state, day);
-    let next = a.state;
-    service::close(next, rest)
-}
-
-// Every day, for a call whose tests pass.
+// Every day, for a call whose tests pass: its bytes in one piece, its values to the front of the rest of the book. Both
+// calls stand in the loop: a function for a day would copy the record once more.
 fn seal_days(scheme: u32, n: u32, f: u32, d: u32, ledger: &[u8], ends: &[u32], book: &mut [u8])
     requires { ⌜ sealRefusal scheme n f d (now ends) (length (now ledger)) (length (now book)) ≡ 0 ⌝ }
     ensures { λ r. ⌜ now (book .exit) ≡
@@ -50,7 +38,9 @@ fn seal_days(scheme: u32, n: u32, f: u32, d: u32, ledger: &[u8], ends: &[u32], b
     while i < days {
         let a = ledger::start_of(ends, i);
         let e = ledger::end_of(ends, i);
-        let c = seal_day(state, &ledger[a..e], &mut book[at..]);
+        let x = service::add(state, &ledger[a..e]);
+        let grown = x.state;
+        let c = service::close(grown, &mut book[at..]);
         let answer = c.answer;
         let next = c.state;
         state = next;
