@@ -1,17 +1,20 @@
 -- The cases of a message that comes in pieces, as the code tells them apart.
 -- Assumes nothing.
-use Prim.Native.Nat.{ℕ, _+_, _-_, _*_, _/_, _%_, _≤_, _<_}
+use Prim.Native.Nat.{ℕ, suc, _+_, _-_, _*_, _/_, _%_, _≤_, _<_}
 use mathlib.Core.Path.{_≡_, refl, sym, ap, ap₂, _∙_}
 use mathlib.Core.List.{List, [], _∷_, _++_, append-assoc, append-nil}
 use native.Mathlib.Omega.{arith}
 use native.Mathlib.Numerals.{add-one}
-use lib.ListN.{length, take, drop, replicate, length-append, length-drop, length-replicate, replicate-append-replicate, take-append-drop}
+use lib.ListN.{length, take, drop, set, replicate, length-append, length-drop, length-replicate, replicate-append-replicate, take-append-drop}
 use lib.Seq.{take-all, take-at, length-take-le}
 use Rattle.sha256_words.specs.Words.{initial, words}
 use Rattle.sha256.specs.Sha256.{compress, chunks, blocks, wide, padding, hashed}
 use Rattle.sha256.proofs.Laws.{blocks-short, blocks-one, blocks-cons}
+use Rattle.buffers.specs.Private.{Wrote}
+use Rattle.buffers.proofs.Writes.{wrote-one, wrote-join, wrote-length}
 use Rattle.hasher.specs.declared.Hasher.{Hasher}
 use Rattle.hasher.specs.Hasher.{rest, filled, onward, begun, absorbed, finished}
+use Rattle.hasher.proofs.Filling.{filled-by}
 use Rattle.hasher.proofs.Laws.{rest-short, rest-cons, absorbed-begun, finished-begun}
 
 abbrev hasher : List ℕ → List ℕ → Hasher
@@ -115,6 +118,32 @@ finish-two st f g d r n ef eg ed er lf eb l =
     let h : List ℕ = st .words in
     let e : f ++ d ≡ take (n % 64) (st .block) ++ padding n = ap₂ (λ (x y : List ℕ). x ++ y) ef ed ∙ padded-two (st .block) n eb l in
     er ∙ ap (λ (x : List ℕ). blocks x d) (eg ∙ blocks-one h f lf) ∙ sym (blocks-cons h f d lf) ∙ ap (blocks h) e
+
+-- ---- a message of one block
+
+-- the byte p, the bytes s and the mark, put into a block of zeros one after the other
+pub marked-by : (p at : ℕ) (s b c e : List ℕ) → b ≡ p ∷ replicate 63 0 → Wrote 1 s b at c → e ≡ set c at 0x80 → length s < 55 → e ≡ filled ((p ∷ s) ++ 0x80 ∷ [])
+marked-by p at s b c e eb w ee l =
+    let z : List ℕ = replicate 64 0 in
+    let u : Wrote 0 (p ∷ []) z 1 b = rw eb (wrote-one 0 p (p ∷ []) z refl (omega arith)) in
+    let v : Wrote 0 (p ∷ s) z at c = wrote-join 0 (p ∷ s) (p ∷ []) s z b c 1 at refl (omega arith) u w in
+    let n : length c ≡ 64 = wrote-length 0 at (p ∷ s) z c v (omega arith) in
+    let k : at ≡ suc (length s) = omega (arith, w .count) in
+    filled-by (p ∷ s) (0x80 ∷ []) c e (suc (length s)) at (at + 1) refl (omega arith) v (rw ee (wrote-one at 0x80 (0x80 ∷ []) c refl (omega arith)))
+
+grouped : (x r w : List ℕ) (y : ℕ) → ((x ++ y ∷ []) ++ r) ++ w ≡ x ++ (y ∷ r ++ w)
+grouped x r w y = simp append-assoc
+
+pub digest-one : (p : ℕ) (s e d i r : List ℕ) → e ≡ filled ((p ∷ s) ++ 0x80 ∷ []) → d ≡ take 56 e ++ wide (8 * (length s + 1)) → i ≡ initial → r ≡ blocks i d → length s < 55
+    → r ≡ hashed (p ∷ s)
+unfolding hashed padding
+digest-one p s e d i r ee ed ei er l =
+    let m : length ((p ∷ s) ++ 0x80 ∷ []) ≡ length s + 2 = length-append (p ∷ s) (0x80 ∷ []) ∙ omega arith in
+    let k : 56 - length ((p ∷ s) ++ 0x80 ∷ []) ≡ (119 - suc (length s) % 64) % 64 = omega arith in
+    let n : length s + 1 ≡ suc (length s) = omega arith in
+    let q : d ≡ (p ∷ s) ++ (0x80 ∷ replicate ((119 - suc (length s) % 64) % 64) 0 ++ wide (8 * suc (length s))) =
+    ed ∙ rw (ee, filled-56 ((p ∷ s) ++ 0x80 ∷ []) (omega arith), k, n) (grouped (p ∷ s) (replicate ((119 - suc (length s) % 64) % 64) 0) (wide (8 * suc (length s))) 0x80) in
+    er ∙ ap₂ blocks ei q
 
 pub digest-of : (p : ℕ) (s r : List ℕ) (a b : Hasher) → a ≡ begun (p ∷ []) → b ≡ absorbed a 1 s → r ≡ finished b (length s + 1)
     → r ≡ hashed (p ∷ s)

@@ -1,7 +1,7 @@
 // SHA-256 of a message that comes in pieces, and of one that is all at hand. A result is the eight words of the digest.
 ghost use mathlib.Core.Path.{_≡_};
 ghost use mathlib.Core.List.{[], _∷_, _++_};
-ghost use Prim.Native.Nat.{_+_, _*_, _≤_};
+ghost use Prim.Native.Nat.{_+_, _*_, _≤_, _<_};
 ghost use lib.ListN.{length, take};
 ghost use Rattle.sha256_words.specs.Words.{words};
 ghost use Rattle.sha256.specs.Sha256.{wide, hashed};
@@ -113,10 +113,26 @@ pub fn finish(st: Hasher, count: u64) -> [u32; 8]
     sha256::blocks(g, &d)
 }
 
+// The digest of the byte first and fewer than 55 bytes: one block, with no hasher between.
+fn digest_short(first: u8, s: &[u8]) -> [u32; 8]
+    requires { ⌜ length (now s) < 55 ⌝ }
+    ensures { λ r. ⌜ r ≡ hashed (first ∷ now (s .entry)) ⌝ }
+{
+    let mut b = [0u8; 64];
+    b[0] = first;
+    let at = buffers::put(&mut b, 1, s);
+    b[at] = 128;
+    let d = ended(b, s.len() as u64 + 1);
+    sha256::blocks(sha256_words::constants::initial(), &d)
+}
+
 // The digest of the byte first and the bytes of s.
 pub fn digest(first: u8, s: &[u8]) -> [u32; 8]
     ensures { λ r. ⌜ r ≡ hashed (first ∷ now (s .entry)) ⌝ }
 {
+    if s.len() < 55 {
+        return digest_short(first, s);
+    }
     let st = absorb(begin(first), 1, s);
     finish(st, s.len() as u64 + 1)
 }
