@@ -1,12 +1,12 @@
 -- A block's schedule made ready, and the rounds with it. Assumes nothing.
 use Prim.Native.Nat.{ℕ, zero, suc, _+_, _-_, _%_, _≤_, _<_}
-use mathlib.Core.{Path._≡_, Path.refl, Path.sym, Path.ap, Path.ap₂, Path._∙_, List.List, List.[], List._∷_, List._++_}
+use mathlib.Core.{Path._≡_, Path.refl, Path.sym, Path.ap, Path._∙_, List.List, List.[], List._∷_, List._++_}
 use native.Mathlib.{Omega.arith, Numerals.add-one, Nat.add-zero, Nat.add-suc, Nat.zero-add}
 use borrow.Author.{Count.below-more, Needs.read-below, Needs.read-above, Tests.le-ltb}
 use lib.ListN.{length, getD, take, set, length-set}
 use lib.Seq.{take-suc, take-suc-set, take-all, length-take-le, getD-set-same}
 use Rattle.sha256_words.specs.Words.{add32, kTable}
-use Rattle.sha256.specs.Sha256.{later, scheduled, grown, schedule, t1, turned, round, rounds, summed, compress}
+use Rattle.sha256.specs.Sha256.{later, scheduled, grown, schedule, t1, round, rounds, summed, compress}
 use Rattle.sha256.specs.Private.{mixed, roundsOn}
 use Rattle.sha256.proofs.Steps.{begins, later-take}
 use Rattle.prepared.specs.Private.{Prepared, worked}

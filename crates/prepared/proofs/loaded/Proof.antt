@@ -14,6 +14,12 @@ abbrev μ-loop : tie.MeasureT-loop
 μ-loop m w₀ i₀ w i = 16 - i
 
 pub loaded-spec : {M : Type 1} → statement M
-loaded-spec = tie.close (tie.spec Inv-loop μ-loop (λ c. (search needs, search needs, refl)) (λ c. search needs) (λ c. search needs) (λ c. search needs) (λ c. search needs) (λ c. search needs) (λ c. search needs)
-    (λ c. (search needs, search needs, loaded-next (c .before .before .args .t1) (c .before .loop .w) (c .before .loop .i) (c .before .loop .inv .2) (search needs) (search needs)))
+loaded-spec = tie.close (tie.spec Inv-loop μ-loop (λ c. (search needs, search needs, refl)) (λ c. search needs) (λ c. search needs)
+    (λ c. search needs) (λ c. search needs) (λ c. search needs) (λ c. search needs)
+    (λ c. (
+      search needs,
+      search needs,
+      loaded-next (c .before .before .args .t1) (c .before .loop .w) (c .before .loop .i)
+          (c .before .loop .inv .2) (search needs) (search needs),
+    ))
     (λ c. loaded-all _ _ (c .before .loop .i) (c .before .loop .inv .2) (search needs) (search needs) (search needs)))

@@ -12,6 +12,9 @@ abbrev μ-loop : tie.MeasureT-loop
 μ-loop k w₀ i₀ w i = 64 - i
 
 pub prepare-spec : {M : Type 1} → statement M
-prepare-spec = tie.close (tie.spec Inv-loop μ-loop (λ c κs. search needs) (λ c κs. search needs) (λ c. added-none _ _ (search needs)) (λ c. search needs) (λ c. search needs) (λ c. search needs) (λ c. search needs) (λ c κs. search needs) (λ c. search needs) (λ c. search needs) (λ c. search needs) (λ c. search needs)
+prepare-spec = tie.close (tie.spec Inv-loop μ-loop (λ c κs. search needs) (λ c κs. search needs) (λ c. added-none _ _ (search needs))
+    (λ c. search needs) (λ c. search needs) (λ c. search needs) (λ c. search needs) (λ c κs. search needs) (λ c. search needs)
+    (λ c. search needs) (λ c. search needs) (λ c. search needs)
     (λ c. added-next _ _ _ _ (c .before .before .loop .inv) (search needs) (c .add32 .ensures))
-    (λ c. let s = c .before .before in prepared-of _ _ _ _ _ (c .before .loop .inv) (search needs) (s .before .table .ensures) (s .scheduled .ensures)))
+    (λ c. let s = c .before .before in prepared-of _ _ _ _ _ (c .before .loop .inv) (search needs) (s .before .table .ensures)
+    (s .scheduled .ensures)))

@@ -17,7 +17,9 @@ abbrev μ-loop : tie.MeasureT-loop
 pub scheduled-spec : {M : Type 1} → statement M
 scheduled-spec = tie.close (tie.spec Inv-loop μ-loop (λ c κs. search needs)
     (λ c. (search needs, search needs, search needs, schedule-first (c .loaded .result) (search needs)))
-    (λ c. search needs) (λ c. search needs) (λ c. search needs) (λ c. search needs) (λ c. search needs) (λ c. search needs) (λ c. search needs) (λ c. search needs) (λ c. search needs) (λ c. search needs) (λ c. search needs) (λ c. search needs) (λ c κs. search needs) (λ c. search needs) (λ c. search needs) (λ c. search needs) (λ c. search needs)
+    (λ c. search needs) (λ c. search needs) (λ c. search needs) (λ c. search needs) (λ c. search needs) (λ c. search needs)
+    (λ c. search needs) (λ c. search needs) (λ c. search needs) (λ c. search needs) (λ c. search needs) (λ c. search needs)
+    (λ c κs. search needs) (λ c. search needs) (λ c. search needs) (λ c. search needs) (λ c. search needs)
     (λ c. let l = c .before .before .loop in (
       search needs,
       search needs,
