@@ -1,5 +1,5 @@
-// The link of a chain: SHA-256 of the byte 1, a value and a digest, 65 bytes, as two blocks of words. One by itself, one
-// with its second block prepared for all links to the digest, or sixteen to the same digest side by side.
+// The link of a chain: SHA-256 of the byte 1, a value and a digest, 65 bytes, as two blocks of words. One by itself,
+// one with its second block prepared for all links to the digest, or sixteen to the same digest side by side.
 ghost use mathlib.Core.Path.{_≡_};
 ghost use mathlib.Core.List.{_∷_, _++_};
 ghost use Rattle.sha256.specs.Sha256.{hashed};
