@@ -1,10 +1,11 @@
-// The link of a chain: SHA-256 of the byte 1, a value and a digest, 65 bytes, as two blocks of words. One by itself, or
-// sixteen to the same digest side by side.
+// The link of a chain: SHA-256 of the byte 1, a value and a digest, 65 bytes, as two blocks of words. One by itself,
+// one with its second block prepared for all links to the digest, or sixteen to the same digest side by side.
 ghost use mathlib.Core.Path.{_≡_};
 ghost use mathlib.Core.List.{_∷_, _++_};
 ghost use Rattle.sha256.specs.Sha256.{hashed};
 ghost use Rattle.sha256_words.specs.Words.{initial, bytesOf};
 ghost use Rattle.lanes.specs.Private.{Lanes, always};
+ghost use Rattle.prepared.specs.Private.{Prepared};
 ghost use lib.ListN.{length};
 ghost use Rattle.links.specs.Private as form;
 
@@ -69,8 +70,26 @@ pub fn link_words(v: [u32; 8], h: [u32; 8]) -> [u32; 8]
 {
     let m = front(v, h);
     let n = back(h);
+    let k = sha256_words::constants::table();
+    let g = sha256::compress_with(sha256_words::constants::initial(), m, &k);
+    sha256::compress_with(g, n, &k)
+}
+
+// The second block of every link to the digest h, prepared.
+pub fn tail(h: [u32; 8]) -> [u32; 64]
+    ensures { λ r. ⌜ Prepared (form.back h) r ⌝ }
+{
+    prepared::prepare(back(h))
+}
+
+// The same as link_words, its second block prepared.
+pub fn link_by(v: [u32; 8], h: [u32; 8], w: &[u32; 64]) -> [u32; 8]
+    requires { ⌜ Prepared (form.back h) (now w) ⌝ }
+    ensures { λ r. ⌜ r ≡ hashed (1 ∷ (bytesOf v ++ bytesOf h)) ⌝ }
+{
+    let m = front(v, h);
     let g = sha256::compress(sha256_words::constants::initial(), m);
-    sha256::compress(g, n)
+    prepared::compress(g, w)
 }
 
 // The first hash value in every lane.

@@ -37,7 +37,7 @@ prefix m i (suc k) =
 pub before : (m : List ℕ) (i n : ℕ) → i ≤ n → take i (schedule m n) ≡ schedule m i
 before m i n l = let e : n ≡ i + (n - i) = omega arith in rw e (prefix m i (n - i))
 
-later-take : (w : List ℕ) (t : ℕ) → 16 ≤ t → later (take t w) t ≡ later w t
+pub later-take : (w : List ℕ) (t : ℕ) → 16 ≤ t → later (take t w) t ≡ later w t
 unfolding later
 later-take w t h =
     rw (getD-take t w (t - 2) 0 (omega arith), getD-take t w (t - 7) 0 (omega arith), getD-take t w (t - 15) 0 (omega arith), getD-take t w (t - 16) 0 (omega arith))

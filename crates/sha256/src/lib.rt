@@ -1,6 +1,7 @@
 // SHA-256 (FIPS 180-4): schedule, rounds, compression of a block and of the blocks of a list.
 ghost use mathlib.Core.Path.{_≡_};
 ghost use Prim.Native.Nat.{_+_, _≤_, _<_};
+ghost use Rattle.sha256_words.specs.Words.{kTable};
 ghost use Rattle.sha256.specs.Sha256 as spec;
 ghost use Rattle.sha256.specs.Private as form;
 
@@ -129,17 +130,17 @@ fn rounds(v: [u32; 8], w: [u32; 16], k: &[u32; 64], t: usize) -> [u32; 8]
     round(v15, k[t + 15], w[15])
 }
 
-// The hash value after h, by the block whose words are m. `rounds` and `slides` are called in one place each, so that
-// the compiler puts them there.
-pub fn compress(h: [u32; 8], m: [u32; 16]) -> [u32; 8]
+// The hash value after h, by the block whose words are m. The table of constants, k, is lent, so that it is made once
+// for many blocks. `rounds` and `slides` are called in one place each, so that the compiler puts them there.
+pub fn compress_with(h: [u32; 8], m: [u32; 16], k: &[u32; 64]) -> [u32; 8]
+    requires { ⌜ now k ≡ kTable ⌝ }
     ensures { λ r. ⌜ r ≡ spec.compress h m ⌝ }
 {
-    let k = sha256_words::constants::table();
     let mut v = h;
     let mut w = m;
     let mut t = 0usize;
     while t < 64 {
-        let u = rounds(v, w, &k, t);
+        let u = rounds(v, w, k, t);
         v = u;
         if t < 48 {
             let x = slides(w);
@@ -150,10 +151,19 @@ pub fn compress(h: [u32; 8], m: [u32; 16]) -> [u32; 8]
     summed(h, v)
 }
 
+// The same, with a table of its own.
+pub fn compress(h: [u32; 8], m: [u32; 16]) -> [u32; 8]
+    ensures { λ r. ⌜ r ≡ spec.compress h m ⌝ }
+{
+    let k = sha256_words::constants::table();
+    compress_with(h, m, &k)
+}
+
 // The hash value after h, by the whole blocks of s, one after the other.
 pub fn blocks(h: [u32; 8], s: &[u8]) -> [u32; 8]
     ensures { λ r. ⌜ r ≡ spec.blocks h (now (s .entry)) ⌝ }
 {
+    let k = sha256_words::constants::table();
     let mut v = h;
     let n = s.len() / 64;
     let mut i = 0;
@@ -161,7 +171,7 @@ pub fn blocks(h: [u32; 8], s: &[u8]) -> [u32; 8]
         let a = i * 64;
         let e = a + 64;
         let m = sha256_words::words(&s[a..e]);
-        let y = compress(v, m);
+        let y = compress_with(v, m, &k);
         v = y;
         i += 1;
     }

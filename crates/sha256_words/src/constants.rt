@@ -70,7 +70,7 @@ const K: [u32; 64] = [
 ];
 
 // The constants. An element of a constant at an index that is not known copies the whole constant to the stack each
-// time, so a block's 64 rounds share one copy, by reference.
+// time, so the rounds of one block or of many share one copy, by reference.
 pub fn table() -> [u32; 64]
     ensures { λ r. ⌜ r ≡ spec.kTable ⌝ }
 {

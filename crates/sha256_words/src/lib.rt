@@ -19,10 +19,11 @@ pub fn ch(x: u32, y: u32, z: u32) -> u32
     z ^ (x & (y ^ z))
 }
 
+// The standard's (x & y) ^ (x & z) ^ (y & z), with one operation less; its x ^ y is the next round's y ^ z.
 pub fn maj(x: u32, y: u32, z: u32) -> u32
     ensures { λ r. ⌜ r ≡ spec.maj x y z ⌝ }
 {
-    (x & y) ^ (x & z) ^ (y & z)
+    y ^ ((x ^ y) & (y ^ z))
 }
 
 pub fn bsig0(x: u32) -> u32

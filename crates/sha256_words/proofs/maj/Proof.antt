@@ -1,12 +1,7 @@
 -- `sha256_words::maj` meets its contract.
-use borrow.Author.Needs.{needs}
-use Rattle.sha256_words.specs.Words.{maj}
-use Rattle.sha256_words.proofs.maj.Statement.{statement}
+use Rattle.sha256_words.proofs.{Choose.maj-by, maj.Statement.statement}
 use Rattle.sha256_words.proofs.maj.Tie as tie
 
-returns : tie.Need-returns
-unfolding maj
-returns c = search needs
-
 pub maj-spec : {M : Type 1} → statement M
-maj-spec = tie.close (tie.spec returns)
+maj-spec = tie.close (tie.spec
+    (λ c. maj-by (c .args .x) (c .args .y) (c .args .z) (c .fits .x .fits) (c .fits .y .fits)))
