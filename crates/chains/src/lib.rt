@@ -5,10 +5,11 @@ ghost use mathlib.Core.Bool.{true, cond};
 ghost use Prim.Native.Nat.{_+_, _≤_, _<_};
 ghost use lib.ListN.{length, take};
 ghost use Rattle.refusals.specs.Refusals.{bookLimit};
-ghost use Rattle.layouts.specs.Layouts.{allowedScheme, allowedN, namesOfDay};
+ghost use Rattle.layouts.specs.Layouts.{allowedScheme, allowedN, namesOfDay, chainsOfDay};
 ghost use Rattle.chains.specs.Step.{startValue, linked, linksSlot, storesSlot, storesBlack, linkSlot};
 ghost use Rattle.chains.specs.Step.{linkedSlots, restartSlot, restarted, dayValues, linksOf};
-ghost use Rattle.links.specs.Private.{front};
+ghost use Rattle.prepared.specs.Private.{Prepared};
+ghost use Rattle.links.specs.Private.{front, back};
 ghost use Rattle.chains.specs.Private.{DayLinked, Fronts, levelsLinked};
 
 pub struct Value {
@@ -41,6 +42,17 @@ pub fn link_value(v: Value, h: [u32; 8]) -> Value
     let w = v.words;
     Value {
         words: links::link_words(w, h),
+    }
+}
+
+// The same, with the second block of every link to h prepared.
+fn link_by(v: Value, h: [u32; 8], t: &[u32; 64]) -> Value
+    requires { ⌜ Prepared (back h) (now t) ⌝ }
+    ensures { λ r. ⌜ r ≡ linked v h ⌝ }
+{
+    let w = v.words;
+    Value {
+        words: links::link_by(w, h, t),
     }
 }
 
@@ -125,12 +137,13 @@ fn stores_black(scheme: u32, n: u32, g: u32) -> bool
     layouts::size(layouts::lg(g)) != g
 }
 
-fn slot_linked(scheme: u32, n: u32, g: u32, i: usize, v: Value, h: [u32; 8]) -> Value
-    requires { ⌜ (allowedN n ≡ true) × (1 ≤ g) × (i < 17) ⌝ }
-    ensures { λ r. ⌜ r ≡ linkSlot scheme n g h i v ⌝ }
+// Slot i of a tile chain, linked if the chain covers day g.
+fn tile_linked(n: u32, g: u32, i: usize, v: Value, h: [u32; 8], t: &[u32; 64]) -> Value
+    requires { ⌜ (allowedN n ≡ true) × (1 ≤ g) × (i < 17) × Prepared (back h) (now t) ⌝ }
+    ensures { λ r. ⌜ r ≡ linkSlot 2 n g h i v ⌝ }
 {
-    if links_slot(scheme, n, g, i as u32) {
-        return link_value(v, h);
+    if links_slot(2, n, g, i as u32) {
+        return link_by(v, h, t);
     }
     v
 }
@@ -224,8 +237,8 @@ pub fn day_values(
 }
 
 // The slots of the tile chains that cover day g linked; those behind c(lg N) stay.
-fn link_tiles(n: u32, g: u32, slots: [Value; 17], h: [u32; 8]) -> [Value; 17]
-    requires { ⌜ (allowedN n ≡ true) × (1 ≤ g) ⌝ }
+fn link_tiles(n: u32, g: u32, slots: [Value; 17], h: [u32; 8], t: &[u32; 64]) -> [Value; 17]
+    requires { ⌜ (allowedN n ≡ true) × (1 ≤ g) × Prepared (back h) (now t) ⌝ }
     ensures { λ r. ⌜ r ≡ linkedSlots 2 n g h slots ⌝ }
 {
     let m = layouts::lg(n) as usize + 1;
@@ -233,11 +246,24 @@ fn link_tiles(n: u32, g: u32, slots: [Value; 17], h: [u32; 8]) -> [Value; 17]
     let mut i = 0usize;
     while i < m {
         let v = r[i];
-        let w = slot_linked(2, n, g, i, v, h);
+        let w = tile_linked(n, g, i, v, h, t);
         r[i] = w;
         i += 1;
     }
     r
+}
+
+// Day g under scheme 2. The second block of a link depends on the digest alone, so it is prepared once for all.
+fn tile_step(n: u32, g: u32, k: u32, black: Value, slots: [Value; 17], h: [u32; 8]) -> DayStep
+    requires { ⌜ (allowedN n ≡ true) × (1 ≤ g) × (k ≡ length (chainsOfDay 2 n g)) ⌝ }
+    ensures { λ r. ⌜ DayLinked 2 n g black slots h r ⌝ }
+{
+    let t = links::tail(h);
+    DayStep {
+        black: link_by(black, h, &t),
+        slots: link_tiles(n, g, slots, h, &t),
+        count: k,
+    }
 }
 
 // One more day, g, whose digest is h, linked to the chains that cover it. Under scheme 1 no slot is in use. What is a
@@ -248,14 +274,10 @@ pub fn step(scheme: u32, n: u32, g: u32, black: Value, slots: [Value; 17], h: [u
     ensures { λ r. ⌜ DayLinked scheme n g black slots h r ⌝ }
 {
     let k = layouts::values_of_day(scheme, n, g);
-    let b = link_value(black, h);
     if scheme == 2 {
-        return DayStep {
-            black: b,
-            slots: link_tiles(n, g, slots, h),
-            count: k,
-        };
+        return tile_step(n, g, k, black, slots, h);
     }
+    let b = link_value(black, h);
     if scheme == 3 {
         return DayStep {
             black: b,

@@ -12,10 +12,10 @@ use Rattle.chains.proofs.link_tiles.Statement.{statement}
 use Rattle.chains.proofs.link_tiles.Tie as tie
 
 abbrev Inv-loop : tie.InvT-loop
-Inv-loop n g h m r₀ i₀ r i = (i ≤ m) × (m ≤ 17) × (length r ≡ 17) × (r ≡ upto (linkSlot 2 n g h) 0 i r₀)
+Inv-loop n g h t m r₀ i₀ r i = (i ≤ m) × (m ≤ 17) × (length r ≡ 17) × (r ≡ upto (linkSlot 2 n g h) 0 i r₀)
 
 abbrev μ-loop : tie.MeasureT-loop
-μ-loop n g h m r₀ i₀ r i = m - i
+μ-loop n g h t m r₀ i₀ r i = m - i
 
 -- the lg of n as a wider number
 wide : (c : tie.After-lg Inv-loop μ-loop) → c .lg .result ≤ 8
@@ -31,7 +31,7 @@ link-tiles-spec = tie.close (tie.spec Inv-loop μ-loop (λ c κs. allowed-n-is _
       search needs,
       search needs,
       search needs,
-      upto-next _ _ _ _ _ _ (c .before .before .before .loop .inv .3) (c .slot-linked .ensures) (search needs),
+      upto-next _ _ _ _ _ _ (c .before .before .before .loop .inv .3) (c .tile-linked .ensures) (search needs),
     ))
     (λ c. let a = c .before .before .before .args in let l = c .before .loop in
     tiles-linked (a .n) (a .g) (a .h) (l .i) (a .slots) (omega (arith, c .before .before .lg .ensures)) (l .inv .3)))
