@@ -123,7 +123,8 @@ upto-all f j zero (x ∷ l) h = absurd (omega arith)
 upto-all f j (suc k) [] h = refl
 upto-all f j (suc k) (x ∷ l) h = ap (λ (r : List Value). f j x ∷ r) (upto-all f (suc j) k l (omega arith))
 
-pub restarted-done : (s n g : ℕ) (start : Value) (i : ℕ) (l : List Value) {r : List Value} → r ≡ upto (restartSlot s n g start) 0 i l → 17 ≤ i → length l ≡ 17 → r ≡ restarted s n g start l
+pub restarted-done : (s n g : ℕ) (start : Value) (i : ℕ) (l : List Value) {r : List Value} → r ≡ upto (restartSlot s n g start) 0 i l → 17 ≤ i → length l ≡ 17 → r ≡
+    restarted s n g start l
 unfolding restarted
 restarted-done s n g start i l e p q = e ∙ upto-all (restartSlot s n g start) 0 i l (omega arith)
 
@@ -177,5 +178,9 @@ none-restarted (suc (suc zero)) n g start l p e = go (divides n g) refl
     go true q = absurd (let r = rw q at e in omega (arith, r))
     go false q = each-same (restartSlot 2 n g start) (λ i v. rw (q, off (leb i (lg n)))) 0 l
 none-restarted (suc (suc (suc zero))) n g start l p e =
-    absurd (some-level g p (let r = length-append (map (λ (k : ℕ). tree k g) (levels g)) (cond (storesBlackOfTree n g) (black g ∷ []) []) in omega (arith, r, length-map (levels g) (λ (k : ℕ). tree k g))))
+    absurd (some-level g p (let r = length-append (map (λ (k : ℕ). tree k g) (levels g)) (cond (storesBlackOfTree n g) (black g ∷ []) []) in omega (
+      arith,
+      r,
+      length-map (levels g) (λ (k : ℕ). tree k g),
+    )))
 none-restarted (suc (suc (suc (suc s)))) n g start l p e = each-same (restartSlot (suc (suc (suc (suc s)))) n g start) (λ i v. refl) 0 l

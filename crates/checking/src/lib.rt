@@ -1,19 +1,19 @@
 // Checking: the ledger is rehashed day by day, as at sealing, and each value is compared with the book's.
+mod blacks;
+
 use chains::DayStep;
 use chains::Value;
 use refusals::Answer;
 ghost use mathlib.Core.Path.{_≡_};
 ghost use mathlib.Core.List.{_∷_, _++_};
 ghost use Prim.Native.Nat.{_+_, _*_, _<_};
-ghost use lib.ListN.{length, take, drop, replicate};
+ghost use lib.ListN.{length, drop};
 ghost use Rattle.refusals.specs.Refusals.{bookLimit};
-ghost use Rattle.layouts.specs.Layouts.{namesOfDay, chains};
+ghost use Rattle.layouts.specs.Layouts.{chains};
 ghost use Rattle.sha256.specs.Sha256.{hashed};
 ghost use Rattle.sha256_words.specs.Words.{bytesOf};
-ghost use Rattle.chains.specs.Step.{linked};
 ghost use Rattle.chains.specs.Private.{Stepped};
 ghost use Rattle.checking.specs.Contract.{checkRefusal, digestsOf, outcomesOf, checked};
-ghost use Rattle.comparing.specs.Private.{compared};
 ghost use Rattle.checking.specs.Private.{DayReady, Ready, comparedDay};
 
 // Tests 1 2 3 7 9 10 11 8.
@@ -145,85 +145,6 @@ fn check_days(
     }
 }
 
-// What a day under scheme 1 leaves: black after it, and the number of its values.
-struct BlackDay {
-    black: Value,
-    count: u32,
-}
-
-// One day under scheme 1, which has no slots to carry on.
-fn check_black(
-    n: u32,
-    g: u32,
-    black: Value,
-    day: &[u8],
-    book: &[u8],
-    work: &mut [u8],
-    outcomes: &mut [u8],
-) -> BlackDay
-    requires { ⌜ DayReady 1 n g (length (now book)) (length (now work)) (length (now outcomes)) ⌝ }
-    ensures { λ r. ⌜ (r .black ≡ linked black (hashed (0 ∷ now (day .entry)))) × (r .count ≡ length (namesOfDay 1 n g)) ⌝ }
-    ensures { λ r. ⌜ now (work .exit) ≡ bytesOf (hashed (0 ∷ now (day .entry))) ++ drop 32 (now (work .entry)) ⌝ }
-    ensures { λ r. ⌜ now (outcomes .exit) ≡
-        compared (take (r .count) (replicate 17 (r .black))) (now (book .entry)) ++
-        drop (r .count) (now (outcomes .entry)) ⌝ }
-{
-    let h = hasher::digest(0, day);
-    let b = sha256_words::bytes(h);
-    buffers::put(work, 0, &b);
-    let v = chains::link_value(black, h);
-    let k = layouts::values_of_day(1, n, g);
-    if k == 0 {
-        return BlackDay { black: v, count: k };
-    }
-    comparing::all(book, [v; 17], k, outcomes);
-    BlackDay { black: v, count: k }
-}
-
-// Every day under scheme 1.
-fn check_blacks(
-    n: u32,
-    d: u32,
-    ledger: &[u8],
-    ends: &[u32],
-    book: &[u8],
-    work: &mut [u8],
-    outcomes: &mut [u8],
-)
-    requires { ⌜ Ready 1 n d (now ends) (length (now ledger)) (length (now book)) (length (now work))
-        (length (now outcomes)) ⌝ }
-    ensures { λ r. ⌜ now (work .exit) ≡
-        digestsOf (now (ledger .entry)) (now (ends .entry)) d ++ drop (32 * d) (now (work .entry)) ⌝ }
-    ensures { λ r. ⌜ now (outcomes .exit) ≡
-        outcomesOf 1 n d (now (ledger .entry)) (now (ends .entry)) (now (book .entry)) ++
-        drop (length (chains 1 n d)) (now (outcomes .entry)) ⌝ }
-{
-    let mut black = chains::start(1, n);
-    let mut at = 0usize;
-    let mut i = 0usize;
-    let days = buffers::wide(d);
-    while i < days {
-        let a = ledger::start_of(ends, i);
-        let e = ledger::end_of(ends, i);
-        let from = 32 * at;
-        let done = 32 * i;
-        let after = check_black(
-            n,
-            day_number(i),
-            black,
-            &ledger[a..e],
-            &book[from..],
-            &mut work[done..],
-            &mut outcomes[at..],
-        );
-        let b = after.black;
-        let k = after.count;
-        black = b;
-        at = at + buffers::wide(k);
-        i += 1;
-    }
-}
-
 // Writes the digests of the ledger's days and the outcomes of the book's values to the front of their buffers, or
 // refuses and writes nothing.
 pub fn check(
@@ -262,7 +183,7 @@ pub fn check(
         return Answer::Refused(x);
     }
     if scheme == 1 {
-        check_blacks(n, d, ledger, ends, book, work, outcomes);
+        blacks::days(n, d, ledger, ends, book, work, outcomes);
         return Answer::Done;
     }
     check_days(scheme, n, d, ledger, ends, book, work, outcomes);

@@ -50,11 +50,14 @@ module _ (r : Record) (d : DayStep) (s : LinkedOf r d) where
   step-bytes v e = sym (ap valueBytes (e ∙ values-are))
 
   -- a day without values
-  pub quiet-written : (part : List ℕ) → d .count ≡ 0 → Wrote 0 (dayBytes r) part (32 * d .count) part
+  pub quiet-written : (part : List ℕ) → d .count ≡ 0 → Wrote 0 (dayBytes r) part (32 * 0) part
   unfolding dayBytes valueBytes
   quiet-written part z =
       let e = sym values-are ∙ quiet-values (r .scheme) (r .n) (r .days + 1) (d .black) (d .slots) (sym (s .count-is) ∙ z) in
-      rw (z, e) (record { count = refl; list = refl })
+      rw e (record { count = refl; list = refl })
+
+  pub quiet-count : d .count ≡ 0 → 0 ≡ dayCount r
+  quiet-count z = sym z ∙ step-count
 
   pub quiet-step : Open r → d .count ≡ 0 → StepOf r d
   quiet-step o z = day-quiet (r .scheme) (r .n) (r .days + 1) (r .start) (r .black) (r .running) (digestOf r) d s z (omega arith)
@@ -66,7 +69,20 @@ module _ (r : Record) (d : DayStep) (s : LinkedOf r d) where
       (omega (arith, s .count-is), omega (arith, step-count))
 
 pub step-next : (r : Record) (d : DayStep) → StepOf r d → {h : Hasher} → h ≡ begun (0 ∷ []) →
-    record { scheme = r .scheme; n = r .n; f = r .f; days = r .days + 1; bytes = 0; hash = h .words; block = h .block; black = d .black; running = d .slots; start = r .start; season = r .season } ≡ nextDay r
+    record {
+      scheme = r .scheme;
+      n = r .n;
+      f = r .f;
+      days = r .days + 1;
+      bytes = 0;
+      hash = h .words;
+      block = h .block;
+      black = d .black;
+      running = d .slots;
+      start =
+          r .start;
+      season = r .season;
+    } ≡ nextDay r
 unfolding nextDay
 step-next r d s e = rw (e, s .black-is, s .slots-are, add-one (r .days))
 

@@ -65,15 +65,15 @@ pub fn values(state: Record, step: DayStep) -> [Value; 17]
     requires { ⌜ Open state × LinkedOf state step ⌝ }
     ensures { λ r. ⌜ take (step .count) r ≡ valuesOf state step ⌝ }
 {
-    let black = step.black;
-    let slots = step.slots;
+    let last = step.black;
+    let linked = step.slots;
     chains::day_values(
         state.scheme,
         state.n,
         state.days + 1,
         step.count,
-        black,
-        slots,
+        last,
+        linked,
     )
 }
 

@@ -153,7 +153,7 @@ pub fn close(state: Record, part: &mut [u8]) -> Closed
     let k = step.count;
     if k == 0 {
         return Closed {
-            answer: Writing::Wrote(k),
+            answer: Writing::Wrote(0),
             state: day::next(made, step),
             blocks: blocks::of_close(made),
         };

@@ -11,8 +11,8 @@ returns c =
     let a = c .before .before .before .before .before .before .before .args in
     checked-refused _ _ _ _ (a .ledger .now) _ (a .book .now) (a .work .now) (a .outcomes .now) (c .before .check-refusal .ensures) (c .if1 .taken)
 
-check-blacks-requires : tie.Need-check-blacks-requires
-check-blacks-requires c κs =
+days-requires : tie.Need-days-requires
+days-requires c κs =
     let b = c .before .before in
     rw (b .if2 .taken) at (check-ready _ _ _ _ _ _ _ _ _ (sym (b .before .before .check-refusal .ensures) ∙ b .before .if1 .left))
 
@@ -23,7 +23,7 @@ returns-2 c =
     let r = t .before .before in
     let a = r .before .before .before .before .before .before .args in
     checked-done _ _ _ _ (a .ledger .now) _ (a .book .now) (a .work .now) (a .outcomes .now) (r .check-refusal .ensures) (t .before .if1 .left)
-    (w .check-blacks .ensures .0) (rw (t .if2 .taken) (w .check-blacks .ensures .1))
+    (w .days .ensures .0) (rw (t .if2 .taken) (w .days .ensures .1))
 
 check-days-requires : tie.Need-check-days-requires
 check-days-requires c κs =
@@ -39,5 +39,5 @@ returns-3 c =
     (w .check-days .ensures .0) (w .check-days .ensures .1)
 
 pub check-spec : {M : Type 1} → statement M
-check-spec = tie.close (tie.spec (λ c κs. search needs) returns check-blacks-requires (λ c. search needs) (λ c. search needs) returns-2
+check-spec = tie.close (tie.spec (λ c κs. search needs) returns days-requires (λ c. search needs) (λ c. search needs) returns-2
     check-days-requires (λ c. search needs) (λ c. search needs) returns-3)

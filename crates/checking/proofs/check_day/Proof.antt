@@ -31,10 +31,12 @@ returns c =
     let start = s .before .before .before .before .before .before .before .before .before .before .before .before in
     let a = start .args in
     let size : length (bytes .result) ≡ 32 = search needs in (
-      rw (← (digest .ensures)) (day-quiet (a .scheme) (a .n) (a .g) (a .start) (a .black) (a .slots) (digest .result) (s .step .result) (s .step .ensures) (c .if1 .taken) (start .pre .some)),
+      rw (← (digest .ensures)) (day-quiet (a .scheme) (a .n) (a .g) (a .start) (a .black) (a .slots) (digest .result) (s .step .result) (s .step .ensures) (c .if1
+          .taken) (start .pre .some)),
       (
         rw (← (digest .ensures), ← (bytes .ensures)) (wrote-front 32 (s .before .before .before .put .ensures) size),
-        rw (← (digest .ensures)) (quiet-compared (a .scheme) (a .n) (a .g) (a .black) (a .slots) (digest .result) (s .step .result) (s .step .ensures) (a .book .now) (a .outcomes .now) (c .if1 .taken)),
+        rw (← (digest .ensures)) (quiet-compared (a .scheme) (a .n) (a .g) (a .black) (a .slots) (digest .result) (s .step .result) (s .step .ensures) (a .book
+            .now) (a .outcomes .now) (c .if1 .taken)),
       ),
     )
 
@@ -48,10 +50,12 @@ returns-2 c =
     let start = s .before .before .before .before .before .before .before .before .before .before .before .before in
     let a = start .args in
     let size : length (bytes .result) ≡ 32 = search needs in (
-      rw (← (digest .ensures)) (day-ended (a .scheme) (a .n) (a .g) (a .start) (a .black) (a .slots) (digest .result) (s .step .result) (s .step .ensures) (c .restart-slots .ensures)),
+      rw (← (digest .ensures)) (day-ended (a .scheme) (a .n) (a .g) (a .start) (a .black) (a .slots) (digest .result) (s .step .result) (s .step .ensures) (c
+          .restart-slots .ensures)),
       (
         rw (← (digest .ensures), ← (bytes .ensures)) (wrote-front 32 (s .before .before .before .put .ensures) size),
-        rw (← (digest .ensures)) (day-compared (a .scheme) (a .n) (a .g) (a .black) (a .slots) (digest .result) (s .step .result) (s .step .ensures) (a .book .now) (a .outcomes .now)
+        rw (← (digest .ensures)) (day-compared (a .scheme) (a .n) (a .g) (a .black) (a .slots) (digest .result) (s .step .result) (s .step .ensures) (a .book .now)
+            (a .outcomes .now)
             (v .day-values .result) (v .day-values .ensures) (o .all .ensures)),
       ),
     )

@@ -43,7 +43,8 @@ sealed c =
     let loop = e .before .before .before .loop in
     let ledger = e .before .before .before .before .before .before .before .before .before .before .args .ledger .now in
     day-sealed (loop .inv .2) (loop .inv .3) (turn (e .before .before))
-    (take (e .end-of .result - e .before .start-of .result) (drop (e .before .start-of .result) ledger)) (b .close .last .1 .0) (b .close .result) (c .before .count-of .result) (c .wide2 .result) (ap₂ (λ x y. take (y - x) (drop x ledger)) (e .before .start-of .ensures) (e .end-of .ensures))
+    (take (e .end-of .result - e .before .start-of .result) (drop (e .before .start-of .result) ledger)) (b .close .last .1 .0) (b .close .result) (c .before
+    .count-of .result) (c .wide2 .result) (ap₂ (λ x y. take (y - x) (drop x ledger)) (e .before .start-of .ensures) (e .end-of .ensures))
     (rw (← (add .ensures)) (b .close .ensures .0)) (rw (← (add .ensures)) (b .close .ensures .1)) (c .before .count-of .ensures) (c .wide2 .ensures)
 
 pub seal-days-spec : {M : Type 1} → statement M
@@ -56,7 +57,12 @@ seal-days-spec = tie.close (tie.spec Inv-loop μ-loop (λ c κs. search needs) (
     omega (arith, c .end-of .ensures, loop .inv .2 .ends-hold .within (loop .i) (turn (c .before .before))))
     (λ c κs. search needs) rest-starts rest-starts (λ c. search needs) (λ c κs. search needs) (λ c κs. search needs) (λ c κs. search needs)
     (λ c. search needs)
-    (λ c. let b = c .before .before .before .before .before .before .before .before .before .before .before .before .before in omega (arith, sealed c .0, b .before .before .before .before .before .before .before .good .1 .1 .1 .1 .1 .1 .0))
+    (λ c. let b = c .before .before .before .before .before .before .before .before .before .before .before .before .before in omega (
+      arith,
+      sealed c .0,
+      b .before
+          .before .before .before .before .before .before .good .1 .1 .1 .1 .1 .1 .0,
+    ))
     (λ c. search needs) (λ c. search needs)
     (λ c. (search needs, search needs, c .before .before .before .before .before .before .before .before .before .before .before .before .before .loop .inv .2, sealed c .1))
     (λ c. search needs)

@@ -4,7 +4,7 @@ use Rattle.buffers.proofs.Writes.{wrote-as}
 use Rattle.service.specs.Contract.{dayBytes}
 use Rattle.service.specs.Private.{Open}
 use Rattle.service.proofs.CallLaws.{close-open, close-room, closing-refused, closing-done}
-use Rattle.service.proofs.DayLaws.{step-count, step-bytes, step-fits, quiet-written, quiet-step}
+use Rattle.service.proofs.DayLaws.{step-count, step-bytes, step-fits, quiet-written, quiet-count, quiet-step}
 use Rattle.service.proofs.close.Statement.{statement}
 use Rattle.service.proofs.close.Tie as tie
 
@@ -20,7 +20,7 @@ returns-2 c =
     let r = b .before .before .before .before .args in
     let m = b .current .result in
     closing-done (r .state) _ (b .before .before .close-refusal .ensures) (b .before .if1 .left) (b .current .ensures)
-    (step-count m (s .result) (s .ensures)) (c .before .next .ensures) (c .of-close .ensures)
+    (quiet-count m (s .result) (s .ensures) (t .if2 .taken)) (c .before .next .ensures) (c .of-close .ensures)
     (quiet-written m (s .result) (s .ensures) (r .part .now) (t .if2 .taken))
 
 write-requires : tie.Need-write-requires

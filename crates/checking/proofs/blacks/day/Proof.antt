@@ -1,4 +1,4 @@
--- `checking::check_black` meets its contract.
+-- `checking::blacks::day` meets its contract.
 use mathlib.Core.Path.{_≡_, _∙_}
 use lib.ListN.{length}
 use native.Mathlib.Omega.{arith}
@@ -6,8 +6,8 @@ use borrow.Author.Needs.{needs}
 use Rattle.buffers.proofs.Writes.{wrote-front}
 use Rattle.chains.proofs.Values.{day-few, chainsOfDay-length}
 use Rattle.checking.proofs.DayLaws.{black-quiet}
-use Rattle.checking.proofs.check_black.Statement.{statement}
-use Rattle.checking.proofs.check_black.Tie as tie
+use Rattle.checking.proofs.blacks.day.Statement.{statement}
+use Rattle.checking.proofs.blacks.day.Tie as tie
 
 all-requires : tie.Need-all-requires
 all-requires c κs =
@@ -38,7 +38,7 @@ returns-2 c =
       (rw (← (digest .ensures), ← (bytes .ensures)) (wrote-front 32 (s .before .before .before .before .put .ensures) size), o .all .ensures),
     )
 
-pub check-black-spec : {M : Type 1} → statement M
-check-black-spec = tie.close (tie.spec (λ c κs. search needs) (λ c κs. search needs) (λ c. search needs)
+pub day-spec : {M : Type 1} → statement M
+day-spec = tie.close (tie.spec (λ c κs. search needs) (λ c κs. search needs) (λ c. search needs)
     (λ c κs. search needs) (λ c κs. search needs) (λ c κs. search needs) (λ c. search needs) returns all-requires
     (λ c. search needs) (λ c. search needs) returns-2)
