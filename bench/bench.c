@@ -2,9 +2,11 @@
 #include "peers.h"
 #include "report.h"
 #include "sha256.h"
+#include "timing.h"
 
 #include <cpuid.h>
 #include <stdio.h>
+#include <string.h>
 
 /* Whether the processor has instructions for SHA-256, which OpenSSL then uses. */
 static int has_sha_instructions(void) {
@@ -20,17 +22,24 @@ static void print_openssl(void) {
            has_sha_instructions() ? "yes" : "no");
 }
 
+/* With the word compare each job is run once, for its results alone. */
 int main(int count, char **words) {
-  if (count == 2)
+  int timed = count != 2 || strcmp(words[1], "compare") != 0;
+  if (count == 2 && timed)
     return peer(words[1]);
   setvbuf(stdout, NULL, _IOLBF, 0);
-  print_openssl();
+  if (timed)
+    print_openssl();
+  else
+    time_once();
   long_days();
-  peers();
+  if (timed)
+    peers();
   short_days();
   reading();
   searching();
   growth();
-  print_targets();
+  if (timed)
+    print_targets();
   return 0;
 }

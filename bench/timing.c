@@ -31,6 +31,14 @@ static int undisturbed(struct turn t) {
   return t.processor > 0.9 * t.elapsed && t.processor <= t.elapsed * 1.01;
 }
 
+static int once;
+
+void time_once(void) { once = 1; }
+
+static int goes_on(int round, double end) {
+  return once ? round == 0 : round < ROUNDS_LEAST || clock_seconds(CLOCK_MONOTONIC) < end;
+}
+
 static void keep_least(double t, double *least) {
   if (t > 0 && (*least == 0 || t < *least))
     *least = t;
@@ -41,7 +49,7 @@ void least_times(const struct job *jobs, int count, double seconds, double *leas
   require(count <= JOBS_LIMIT, "too many jobs");
   for (int j = 0; j < count; j++)
     least[j] = 0;
-  for (int round = 0; round < ROUNDS_LEAST || clock_seconds(CLOCK_MONOTONIC) < end; round++)
+  for (int round = 0; goes_on(round, end); round++)
     for (int j = 0; j < count; j++) {
       struct turn t = turn_of(&jobs[j]);
       if (undisturbed(t))
