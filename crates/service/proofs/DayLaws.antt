@@ -67,7 +67,7 @@ pub day-fits : (r : Record) (size : ℕ) {k : ℕ} → k ≡ dayCount r → Open
 day-fits r size e o room =
     let a = day-asks r o in
     let few = day-few (r .scheme) (r .n) (r .days + 1) (a .0) (a .1) (a .2) (a .3) in
-    (omega (arith, sym (chainsOfDay-length (r .scheme) (r .n) (r .days + 1)) , count-is r {k = length (chainsOfDay (r .scheme) (r .n) (r .days + 1))} refl), omega arith)
+    (omega (arith, sym (chainsOfDay-length (r .scheme) (r .n) (r .days + 1)), count-is r {k = length (chainsOfDay (r .scheme) (r .n) (r .days + 1))} refl), omega arith)
 
 module _ (r : Record) {b : Value} {slots : List Value} (l : Linked r b slots) where
   values-are : dayValues (r .scheme) (r .n) (r .days + 1) b slots ≡ dayValues (r .scheme) (r .n) (suc (r .days)) (linked (r .black) (digestOf r)) (linkedOf r)
