@@ -46,7 +46,7 @@ pub fn link_value(v: Value, h: [u32; 8]) -> Value
 }
 
 // The same, with the second block of every link to h prepared.
-fn link_by(v: Value, h: [u32; 8], t: &[u32; 64]) -> Value
+pub fn link_by(v: Value, h: [u32; 8], t: &[u32; 64]) -> Value
     requires { ⌜ Prepared (back h) (now t) ⌝ }
     ensures { λ r. ⌜ r ≡ linked v h ⌝ }
 {
@@ -182,7 +182,7 @@ fn fronts(slots: [Value; 17], h: [u32; 8]) -> [u32; 256]
 }
 
 // Every slot linked, as the tree's levels are each day: 0 to 15 side by side, 16 by itself.
-fn link_levels(slots: [Value; 17], h: [u32; 8]) -> [Value; 17]
+pub fn link_levels(slots: [Value; 17], h: [u32; 8]) -> [Value; 17]
     ensures { λ r. ⌜ r ≡ levelsLinked h slots ⌝ }
 {
     let s = links::link_lanes(fronts(slots, h), h);
@@ -237,7 +237,7 @@ pub fn day_values(
 }
 
 // The slots of the tile chains that cover day g linked; those behind c(lg N) stay.
-fn link_tiles(n: u32, g: u32, slots: [Value; 17], h: [u32; 8], t: &[u32; 64]) -> [Value; 17]
+pub fn link_tiles(n: u32, g: u32, slots: [Value; 17], h: [u32; 8], t: &[u32; 64]) -> [Value; 17]
     requires { ⌜ (allowedN n ≡ true) × (1 ≤ g) × Prepared (back h) (now t) ⌝ }
     ensures { λ r. ⌜ r ≡ linkedSlots 2 n g h slots ⌝ }
 {

@@ -4,7 +4,7 @@ use mathlib.Core.{Path._≡_, Path.refl, Path.sym, Path.ap, Path._∙_, List.Lis
 use native.Mathlib.{Omega.arith, Numerals.add-one, Nat.add-zero, Nat.add-suc, Nat.zero-add}
 use borrow.Author.{Count.below-more, Needs.read-below, Needs.read-above, Tests.le-ltb}
 use lib.ListN.{length, getD, take, set, length-set}
-use lib.Seq.{take-suc, take-suc-set, take-all, length-take-le, getD-set-same}
+use lib.Seq.{take-suc, take-suc-set, take-all, length-take-le, getD-take, getD-set-same, getD-set-other}
 use Rattle.sha256_words.specs.Words.{add32, kTable}
 use Rattle.sha256.specs.Sha256.{later, scheduled, grown, schedule, t1, round, rounds, summed, compress}
 use Rattle.sha256.specs.Private.{mixed, roundsOn}
@@ -24,13 +24,23 @@ schedule-first w n =
     let e : length (take 16 w) ≡ 16 = length-take-le 16 w (omega arith) in
     sym (begins (take 16 w) 16 e (omega arith) ∙ take-all 16 (take 16 w) (omega arith))
 
-pub schedule-next : (m w : List ℕ) (i : ℕ) {x : ℕ} → take i w ≡ schedule m i → 16 ≤ i → i < length w
-    → x ≡ mixed (getD w (i - 2) 0) (getD w (i - 7) 0) (getD w (i - 15) 0) (getD w (i - 16) 0)
+pub schedule-next : (m w : List ℕ) (i a : ℕ) {x : ℕ} → take i w ≡ schedule m i → 16 ≤ i → i < length w → a ≡ getD w (i - 2) 0
+    → x ≡ mixed a (getD w (i - 7) 0) (getD w (i - 15) 0) (getD w (i - 16) 0)
     → take (i + 1) (set w i x) ≡ schedule m (i + 1)
 unfolding schedule grown scheduled later mixed
-schedule-next m w i {x} e l k ex =
+schedule-next m w i a {x} e l k ea ex =
     rw (add-one, take-suc-set w i x k, le-ltb i 16 l, e)
-    (ap (λ (y : ℕ). schedule m i ++ y ∷ []) (ex ∙ sym (later-take w i l) ∙ ap (λ (z : List ℕ). later z i) e))
+    (ap (λ (y : ℕ). schedule m i ++ y ∷ []) ((rw ea at ex) ∙ sym (later-take w i l) ∙ ap (λ (z : List ℕ). later z i) e))
+
+-- the two words that are carried, at first and after a turn
+pub carried-first : (m w : List ℕ) (j : ℕ) → take 16 w ≡ m → j < 16 → getD m j 0 ≡ getD w j 0
+carried-first m w j e l = ap (λ (z : List ℕ). getD z j 0) (sym e) ∙ getD-take 16 w j 0 l
+
+pub carried-on : (w : List ℕ) (i x : ℕ) {b : ℕ} → b ≡ getD w (i - 1) 0 → 16 ≤ i → b ≡ getD (set w i x) (i + 1 - 2) 0
+carried-on w i x e l = let p : i + 1 - 2 ≡ i - 1 = omega arith in e ∙ rw p (sym (getD-set-other w i (i - 1) x 0 (λ q. omega arith)))
+
+pub carried-new : (w : List ℕ) (i x : ℕ) → i < length w → x ≡ getD (set w i x) (i + 1 - 1) 0
+carried-new w i x l = let p : i + 1 - 1 ≡ i = omega arith in rw p (sym (getD-set-same w i x 0 l))
 
 -- from the block m, put at the front of w₀
 pub schedule-all : (m w₀ w : List ℕ) (i : ℕ) → take i w ≡ schedule (take 16 w₀) i → take 16 w₀ ≡ m → i ≤ 64 → 64 ≤ i → length w ≡ 64 → w ≡ schedule m 64

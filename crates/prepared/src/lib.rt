@@ -20,14 +20,19 @@ fn loaded(m: [u32; 16]) -> [u32; 64]
     w
 }
 
-// The schedule of the block m.
+// The schedule of the block m. The last two words, a and b, are carried: the next one waits for a.
 fn scheduled(m: [u32; 16]) -> [u32; 64]
     ensures { λ r. ⌜ r ≡ schedule m 64 ⌝ }
 {
     let mut w = loaded(m);
+    let mut a = m[14];
+    let mut b = m[15];
     let mut i = 16usize;
     while i < 64 {
-        w[i] = sha256::mixed(w[i - 2], w[i - 7], w[i - 15], w[i - 16]);
+        let x = sha256::mixed(a, w[i - 7], w[i - 15], w[i - 16]);
+        w[i] = x;
+        a = b;
+        b = x;
         i += 1;
     }
     w

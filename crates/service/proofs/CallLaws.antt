@@ -18,7 +18,7 @@ use Rattle.service.specs.declared.Added.{Added}
 use Rattle.service.specs.declared.Closed.{Closed}
 use Rattle.service.specs.Contract.{fresh, zeros, opened, current, recordTests, addTests, addRefusal, grown, grownBlocks, added, dayCount, closeTests, closeRefusal}
 use Rattle.service.specs.Contract.{dayBytes, nextDay, closedBlocks, writingOf, writingNumber, closing}
-use Rattle.service.specs.Private.{recordRefusal, Open}
+use Rattle.service.specs.Private.{recordRefusal, Open, ClosedDay}
 use Rattle.service.proofs.RecordLaws.{record-passes, record-open, current-bytes, current-scheme, current-n}
 
 -- ---- add
@@ -118,14 +118,13 @@ module _ (r : Record) (part : List ℕ) {x : ℕ} (e : x ≡ closeRefusal r (len
       refused zero h count state k = absurd (h refl)
       refused (suc x) h count state k = refl
 
-  pub closing-done : {k m : ℕ} {made state : Record} {next : List ℕ} → x ≡ 0 → made ≡ current r → k ≡ dayCount made → state ≡ nextDay made → m ≡ closedBlocks made →
-      Wrote 0 (dayBytes made) part (32 * k) next →
-      (record { answer = writing.Wrote k; state = state; blocks = m } ≡ closing r part .result) × (next ≡ closing r part .part)
+  pub closing-done : {made : Record} {c : Closed} {next : List ℕ} → x ≡ 0 → made ≡ current r → ClosedDay made part c next → (c ≡ closing r part .result) × (next ≡ closing r part .part)
   unfolding closing
-  closing-done {k} {made = made} {next = next} z p c q b w = (
-    rw (← e, z, c, q, b, p),
-    front-stands (closeRefusal r (length part)) (dayBytes (current r)) part next (32 * k) e z (let v = rw p at w in omega (arith, v .count)) (rw p at w .list),
-  )
+  closing-done {made = made} {next = next} z p d =
+      let w = rw p at (d .part-is) in (
+        d .result-is ∙ rw (← e, z, p),
+        front-stands (closeRefusal r (length part)) (dayBytes (current r)) part next (32 * dayCount (current r)) e z (omega (arith, w .count)) (w .list),
+      )
 
 -- ---- the number of each answer is the refusal's
 

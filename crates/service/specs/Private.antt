@@ -2,14 +2,16 @@
 use mathlib.Core.Path.{_≡_}
 use mathlib.Core.Bool.{true}
 use mathlib.Core.List.{List}
-use Prim.Native.Nat.{ℕ, _+_, _<_}
+use Prim.Native.Nat.{ℕ, suc, _*_, _<_}
 use Rattle.refusals.specs.Refusals.{bookLimit, firstRefusal}
-use Rattle.chains.specs.declared.DayStep.{DayStep}
+use Rattle.buffers.specs.Private as buffers
 use Rattle.chains.specs.declared.Value.{Value}
-use Rattle.chains.specs.Step.{dayValues}
-use Rattle.chains.specs.Private.{DayLinked, Stepped}
+use Rattle.chains.specs.Step.{linked, restarted}
 use Rattle.service.specs.declared.Record.{Record}
-use Rattle.service.specs.Contract.{allowedRecord, recordTests, digestOf}
+use Rattle.service.specs.declared.Closed.{Closed}
+use Rattle.service.specs.declared.Writing.the-variants.{Wrote}
+use Rattle.service.specs.Contract.{allowedRecord, recordTests, digestOf, linkedOf, dayCount, dayBytes}
+use Rattle.service.specs.Contract.{nextDay, closedBlocks}
 
 -- tests 6 5
 unfoldable pub recordRefusal : Record → ℕ
@@ -20,13 +22,17 @@ pub record Open (r : Record) : Type 0 where
   pub allowed : allowedRecord r ≡ true
   pub day-left : r .days < bookLimit
 
--- the chains with the digest of the open day linked; and started again where they are values of the day
-abbrev pub LinkedOf : Record → DayStep → Type 0
-LinkedOf r step = DayLinked (r .scheme) (r .n) (r .days + 1) (r .black) (r .running) (digestOf r) step
+-- the chains of a record with the digest of its open day linked
+pub record Linked (r : Record) (black : Value) (slots : List Value) : Type 0 where
+  pub black-is : black ≡ linked (r .black) (digestOf r)
+  pub slots-are : slots ≡ linkedOf r
 
-abbrev pub StepOf : Record → DayStep → Type 0
-StepOf r step = Stepped (r .scheme) (r .n) (r .days + 1) (r .start) (r .black) (r .running) (digestOf r) step
+-- and started again where they are values of the day
+pub record After (r : Record) (black : Value) (slots : List Value) : Type 0 where
+  pub black-is : black ≡ linked (r .black) (digestOf r)
+  pub slots-are : slots ≡ restarted (r .scheme) (r .n) (suc (r .days)) (r .start) (linkedOf r)
 
--- the values of the open day
-abbrev pub valuesOf : Record → DayStep → List Value
-valuesOf r step = dayValues (r .scheme) (r .n) (r .days + 1) (step .black) (step .slots)
+-- what the close of the open day gives, and leaves in a part that has room for its values
+pub record ClosedDay (r : Record) (old : List ℕ) (c : Closed) (part : List ℕ) : Type 0 where
+  pub result-is : c ≡ record { answer = Wrote (dayCount r); state = nextDay r; blocks = closedBlocks r }
+  pub part-is : buffers.Wrote 0 (dayBytes r) old (32 * dayCount r) part

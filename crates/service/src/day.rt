@@ -1,6 +1,5 @@
 // The open day: a piece more, its digest, its values, the day after it.
 use crate::Record;
-use chains::DayStep;
 use chains::Value;
 use hasher::Hasher;
 ghost use mathlib.Core.Path.{_≡_};
@@ -10,7 +9,7 @@ ghost use Rattle.refusals.specs.Refusals.{dayLimit};
 ghost use Rattle.buffers.specs.Private.{Wrote};
 ghost use Rattle.chains.specs.Step.{valueBytes};
 ghost use Rattle.service.specs.Contract.{grown, digestOf, nextDay};
-ghost use Rattle.service.specs.Private.{Open, LinkedOf, StepOf, valuesOf};
+ghost use Rattle.service.specs.Private.{Open, After};
 
 // The record with the piece in its open day.
 pub fn grow(state: Record, piece: &[u8]) -> Record
@@ -40,56 +39,13 @@ pub fn grow(state: Record, piece: &[u8]) -> Record
     }
 }
 
-fn digest(state: Record) -> [u32; 8]
+pub fn digest(state: Record) -> [u32; 8]
     requires { ⌜ state .bytes ≤ dayLimit ⌝ }
     ensures { λ r. ⌜ r ≡ digestOf state ⌝ }
 {
     let words = state.hash;
     let block = state.block;
     hasher::finish(Hasher { words, block }, state.bytes as u64 + 1)
-}
-
-// The chains with the day's digest linked.
-pub fn step(state: Record) -> DayStep
-    requires { ⌜ Open state ⌝ }
-    ensures { λ r. ⌜ LinkedOf state r ⌝ }
-{
-    let h = digest(state);
-    let black = state.black;
-    let running = state.running;
-    chains::step(state.scheme, state.n, state.days + 1, black, running, h)
-}
-
-// The values of the day, at the front.
-pub fn values(state: Record, step: DayStep) -> [Value; 17]
-    requires { ⌜ Open state × LinkedOf state step ⌝ }
-    ensures { λ r. ⌜ take (step .count) r ≡ valuesOf state step ⌝ }
-{
-    let last = step.black;
-    let linked = step.slots;
-    chains::day_values(
-        state.scheme,
-        state.n,
-        state.days + 1,
-        step.count,
-        last,
-        linked,
-    )
-}
-
-// The chains that are values of the day started again.
-pub fn restart(state: Record, step: DayStep) -> DayStep
-    requires { ⌜ Open state × LinkedOf state step ⌝ }
-    ensures { λ r. ⌜ StepOf state r ⌝ }
-{
-    let black = step.black;
-    let slots = step.slots;
-    let start = state.start;
-    DayStep {
-        black,
-        slots: chains::restart_slots(state.scheme, state.n, state.days + 1, start, slots),
-        count: step.count,
-    }
 }
 
 // Writes the first k values to the front of the part.
@@ -107,16 +63,14 @@ pub fn write(part: &mut [u8], values: [Value; 17], k: u32)
     }
 }
 
-// The record with the day closed and the next one open.
-pub fn next(state: Record, step: DayStep) -> Record
-    requires { ⌜ Open state × StepOf state step ⌝ }
+// The record with the day closed and the next one open, from its chains after the day.
+pub fn next(state: Record, black: Value, running: [Value; 17]) -> Record
+    requires { ⌜ Open state × After state black running ⌝ }
     ensures { λ r. ⌜ r ≡ nextDay state ⌝ }
 {
     let day = hasher::begin(0);
     let hash = day.words;
     let block = day.block;
-    let black = step.black;
-    let running = step.slots;
     let start = state.start;
     Record {
         scheme: state.scheme,

@@ -7,8 +7,11 @@ mod records;
 use chains::Value;
 use refusals::Answer;
 ghost use mathlib.Core.Path.{_≡_};
-ghost use Rattle.service.specs.Contract.{opened, addRefusal, added, closeRefusal, closing, writingNumber};
-ghost use Rattle.service.specs.Contract.{countOf, writtenSoFar};
+ghost use Prim.Native.Nat.{_*_, _≤_};
+ghost use lib.ListN.{length};
+ghost use Rattle.service.specs.Contract.{opened, addRefusal, added, dayCount, closeRefusal, closing};
+ghost use Rattle.service.specs.Contract.{writingNumber, countOf, writtenSoFar};
+ghost use Rattle.service.specs.Private.{Open, ClosedDay};
 
 // 01's five numbers, the running hashes, of the open day (hash, block) and of the chains, the start of a chain, and the
 // season.
@@ -135,7 +138,51 @@ fn close_refusal(state: Record, size: usize) -> u32
     0
 }
 
-// Writes the values of the day to the front of the part. Most days of black and of tiles have none.
+// The open day closed. Its digest is linked to the record's own chains, with no step between: a step would copy the
+// slots twice more. Most days of black and of tiles have no values.
+fn close_day(state: Record, part: &mut [u8]) -> Closed
+    requires { ⌜ Open state × (32 * dayCount state ≤ length (now part)) ⌝ }
+    ensures { λ r. ⌜ ClosedDay state (now (part .entry)) r (now (part .exit)) ⌝ }
+{
+    let g = state.days + 1;
+    let k = layouts::values_of_day(state.scheme, state.n, g);
+    let h = day::digest(state);
+    let old = state.black;
+    let mut black = old;
+    let mut running = state.running;
+    if state.scheme == 2 {
+        let t = links::tail(h);
+        let b = chains::link_by(old, h, &t);
+        let r = chains::link_tiles(state.n, g, running, h, &t);
+        black = b;
+        running = r;
+    } else {
+        let b = chains::link_value(old, h);
+        black = b;
+    }
+    if state.scheme == 3 {
+        let r = chains::link_levels(running, h);
+        running = r;
+    }
+    if k == 0 {
+        return Closed {
+            answer: Writing::Wrote(0),
+            state: day::next(state, black, running),
+            blocks: blocks::of_close(state),
+        };
+    }
+    let values = chains::day_values(state.scheme, state.n, g, k, black, running);
+    day::write(part, values, k);
+    let start = state.start;
+    let again = chains::restart_slots(state.scheme, state.n, g, start, running);
+    Closed {
+        answer: Writing::Wrote(k),
+        state: day::next(state, black, again),
+        blocks: blocks::of_close(state),
+    }
+}
+
+// Writes the values of the day to the front of the part.
 pub fn close(state: Record, part: &mut [u8]) -> Closed
     ensures { λ r. ⌜ r ≡ closing state (now (part .entry)) .result ⌝ }
     ensures { λ r. ⌜ now (part .exit) ≡ closing state (now (part .entry)) .part ⌝ }
@@ -149,23 +196,7 @@ pub fn close(state: Record, part: &mut [u8]) -> Closed
         };
     }
     let made = records::current(state);
-    let step = day::step(made);
-    let k = step.count;
-    if k == 0 {
-        return Closed {
-            answer: Writing::Wrote(0),
-            state: day::next(made, step),
-            blocks: blocks::of_close(made),
-        };
-    }
-    let values = day::values(made, step);
-    day::write(part, values, k);
-    let ended = day::restart(made, step);
-    Closed {
-        answer: Writing::Wrote(k),
-        state: day::next(made, ended),
-        blocks: blocks::of_close(made),
-    }
+    close_day(made, part)
 }
 
 // Our own call: the number of values of the days closed. Test 6 (SPEC 15.5).
