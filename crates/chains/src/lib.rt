@@ -1,5 +1,5 @@
 // The running hashes of a service: what one more day does to black, to the tile chains and to the tree's levels, and
-// which of them are values of that day. Closing a day and checking one use the same step.
+// which of them are values of that day. Closing a day and checking one use the same links.
 ghost use mathlib.Core.Path.{_≡_};
 ghost use mathlib.Core.Bool.{true, cond};
 ghost use Prim.Native.Nat.{_+_, _≤_, _<_};
@@ -16,7 +16,7 @@ pub struct Value {
     pub words: [u32; 8],
 }
 
-// The running hashes after a day, and the number of the day's values.
+// The running hashes with a day linked, and the number of the day's values.
 pub struct DayStep {
     pub black: Value,
     pub slots: [Value; 17],

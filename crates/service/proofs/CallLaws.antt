@@ -9,7 +9,6 @@ use borrow.Author.Tests.{le-leb, lt-leb, leb-true}
 use Rattle.refusals.specs.declared.Answer.the-variants.{Done, Refused}
 use Rattle.refusals.specs.Refusals.{dayLimit, _orRefuse_, numberOf, answerOf, unlessRefused}
 use Rattle.refusals.proofs.TestLaws.{last-fails, last-passes, none-fails, refused-before, answer-refused, answer-done, old-stays, new-stands, front-stands}
-use Rattle.buffers.specs.Private.{Wrote}
 use Rattle.layouts.specs.Layouts.{setupRefusal, chainsOfDay}
 use Rattle.service.specs.declared.Record.{Record}
 use Rattle.service.specs.declared.Writing.the-variants as writing
@@ -17,7 +16,7 @@ use Rattle.service.specs.declared.Opened.{Opened}
 use Rattle.service.specs.declared.Added.{Added}
 use Rattle.service.specs.declared.Closed.{Closed}
 use Rattle.service.specs.Contract.{fresh, zeros, opened, current, recordTests, addTests, addRefusal, grown, grownBlocks, added, dayCount, closeTests, closeRefusal}
-use Rattle.service.specs.Contract.{dayBytes, nextDay, closedBlocks, writingOf, writingNumber, closing}
+use Rattle.service.specs.Contract.{dayBytes, writingOf, writingNumber, closing}
 use Rattle.service.specs.Private.{recordRefusal, Open, ClosedDay}
 use Rattle.service.proofs.RecordLaws.{record-passes, record-open, current-bytes, current-scheme, current-n}
 

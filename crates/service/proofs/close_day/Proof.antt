@@ -1,5 +1,4 @@
 -- `service::close_day` meets its contract.
-use Prim.Native.Nat.{_+_, _*_, _≤_}
 use mathlib.Core.{Path._≡_, Path.sym, Path.ap, Path._∙_, Logic.⊎-elim}
 use native.Mathlib.Omega.{arith}
 use borrow.Author.Needs.{needs}
