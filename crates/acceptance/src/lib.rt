@@ -1,4 +1,6 @@
 // The rules by which a table is accepted, each about a few values, which are looked up by name.
+#![tactic(auto)]
+
 pub mod values;
 
 ghost use Rattle.std.specs.Prelude.{◌≡◌, not, ◌&&◌, ◌||◌, ◌-◌, ◌≤◌, ◌<◌};

@@ -1,5 +1,7 @@
 // How vague one tile is, in whole numbers: over the sets of k of its offsets, how many sets there are and how many days
 // reading lists for them (SPEC 21). The lines of the figures are written here too.
+#![tactic(auto)]
+
 ghost use Rattle.std.specs.Prelude.{◌≡◌, ◌+◌, ◌^◌, ◌≤◌, length};
 ghost use Rattle.buffers.specs.Private.{Wrote};
 ghost use Rattle.ambiguity.specs.Ambiguity.{count_refusal, sets, listed, counted, line_of, text_in, Printed};

@@ -1,4 +1,6 @@
 // Writes to standard output the lines `N,k,sets,listed` for N 1, 2, 4 up to 64 and k 1 to 3.
+#![tactic(auto)]
+
 fn main() {
     let mut out = [0u8; 1024];
     let k = ambiguity::lines(&mut out);

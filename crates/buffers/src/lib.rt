@@ -1,4 +1,6 @@
 // Lent buffers: numbers made wider, and bytes copied to a place.
+#![tactic(auto)]
+
 ghost use Rattle.std.specs.Prelude.{◌≡◌, ◌+◌, ◌≤◌, ◌<◌, length};
 ghost use Rattle.buffers.specs.Private.{Wrote};
 

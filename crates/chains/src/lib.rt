@@ -1,5 +1,7 @@
 // The running hashes of a service: what one more day does to black, to the tile chains and to the tree's levels, and
 // which of them are values of that day. Closing a day and checking one use the same links.
+#![tactic(auto)]
+
 ghost use Rattle.std.specs.Prelude.{◌≡◌, true, cond, ◌+◌, ◌≤◌, ◌<◌, length, take};
 ghost use Rattle.refusals.specs.Refusals.{book_limit};
 ghost use Rattle.layouts.specs.Layouts.{allowed_scheme, allowed_n, names_of_day, chains_of_day};

@@ -1,4 +1,6 @@
 // Checking: the ledger is rehashed day by day, as at sealing, and each value is compared with the book's.
+#![tactic(auto)]
+
 mod blacks;
 
 ghost use Rattle.std.specs.Prelude.{◌≡◌, ◌∷◌, ◌++◌, ◌+◌, ◌*◌, ◌<◌, length, drop};

@@ -1,4 +1,6 @@
 // Comparing: the values of a day against those in the book.
+#![tactic(auto)]
+
 ghost use Rattle.std.specs.Prelude.{◌≡◌, ◌++◌, ◌*◌, ◌≤◌, length, take, drop};
 ghost use Rattle.lists.specs.Lists as lists;
 ghost use Rattle.comparing.specs.Private.{outcome_of, compared};

@@ -1,5 +1,7 @@
 // The calls for C and other languages, thin over the Rattle calls. Each returns 0, or the refusal's number.
 // include/daybook.h says what a caller must keep.
+#![tactic(auto)]
+
 ghost use Rattle.std.specs.Prelude.{◌≡◌};
 ghost use Rattle.refusals.specs.Refusals.{number_of};
 ghost use Rattle.layouts.specs.Layouts.{layout_refusal};

@@ -1,4 +1,6 @@
 // SHA-256 of a message that comes in pieces, and of one that is all at hand. A result is the eight words of the digest.
+#![tactic(auto)]
+
 ghost use Rattle.std.specs.Prelude.{◌≡◌, [], ◌∷◌, ◌++◌, ◌+◌, ◌*◌, ◌≤◌, ◌<◌, length, take};
 ghost use Rattle.sha256_words.specs.Words.{words};
 ghost use Rattle.sha256.specs.Sha256.{wide, hashed};

@@ -1,5 +1,7 @@
 // SHA-256's compression of sixteen hash values side by side, by a block each or by one for all. The words stand in rows
 // of sixteen, word i of lane j at i * 16 + j, so that the compiler makes vector code of a loop over the lanes.
+#![tactic(auto)]
+
 ghost use Rattle.std.specs.Prelude.{◌≡◌, ℕ, ◌+◌, ◌*◌, ◌≤◌, ◌<◌, length, get_or};
 ghost use Rattle.sha256.specs.Sha256.{scheduled, schedule};
 ghost use Rattle.lanes.specs.Lanes as spec;

@@ -1,5 +1,7 @@
 // The three layouts: which scheme, n, f and d are allowed, how many values a book has, where each value stands in it,
 // and whether a tile chain covers a day.
+#![tactic(auto)]
+
 ghost use Rattle.std.specs.Prelude.{◌≡◌, true, ◌/◌, ◌^◌, ◌≤◌, ◌<◌, length};
 ghost use Rattle.refusals.specs.Refusals.{book_limit};
 ghost use Rattle.layouts.specs.Layouts.{allowed_scheme, allowed_n, allowed_f, allowed_d, setup_refusal};

@@ -1,4 +1,6 @@
 // The days of a ledger by 32-bit ends: refusals 9 and 10, starts and ends.
+#![tactic(auto)]
+
 ghost use Rattle.std.specs.Prelude.{◌≡◌, ◌<◌, ◌≤◌, length};
 ghost use Rattle.ledger.specs.Ledger.{start_of, end_of, good_end, ends_refusal, ledger_refusal};
 

@@ -1,5 +1,7 @@
 // The link of a chain: SHA-256 of the byte 1, a value and a digest, 65 bytes, as two blocks of words. One by itself,
 // one with its second block prepared for all links to the digest, or sixteen to the same digest side by side.
+#![tactic(auto)]
+
 ghost use Rattle.std.specs.Prelude.{◌≡◌, ◌∷◌, ◌++◌, length};
 ghost use Rattle.sha256.specs.Sha256.{hashed};
 ghost use Rattle.sha256_words.specs.Words.{initial, bytes_of};

@@ -1,5 +1,7 @@
 // The listed days of an accepted table. Each function writes days to the list from a place on and gives the place
 // behind the last of them.
+#![tactic(auto)]
+
 ghost use Rattle.std.specs.Prelude.{◌≡◌, suc, ◌+◌, ◌-◌, ◌*◌, ◌/◌, ◌^◌, ◌<◌, ◌≤◌, true, map, length, take, drop};
 ghost use Rattle.lists.specs.Lists.{up_from, keep};
 ghost use Rattle.evidence.specs.Evidence.{days};

@@ -1,4 +1,6 @@
 // Numbers as text: digits and fields are read here, decimals are written in the module decimal.
+#![tactic(auto)]
+
 pub mod decimal;
 
 ghost use Rattle.std.specs.Prelude.{◌≡◌, ◌&&◌, ◌+◌, ◌≤◌, ◌<◌, length, take, drop};

@@ -1,4 +1,6 @@
 // From a place in the book to its chain, and back (SPEC 18).
+#![tactic(auto)]
+
 ghost use Rattle.std.specs.Prelude.{◌≡◌, true, [], ◌∷◌, pred, ◌≤◌, ◌<◌, ◌^◌, length, get_or};
 ghost use Rattle.refusals.specs.Refusals.{book_limit};
 ghost use Rattle.lists.specs.Lists.{same};

@@ -1,4 +1,6 @@
 // SHA-256's compression of several hash values by one block: its schedule is made once, with the constants added.
+#![tactic(auto)]
+
 ghost use Rattle.std.specs.Prelude.{◌≡◌, [], ◌+◌, ◌≤◌, take};
 ghost use Rattle.sha256.specs.Sha256.{schedule};
 ghost use Rattle.sha256.specs.Private.{rounds_on};

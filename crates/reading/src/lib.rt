@@ -1,4 +1,6 @@
 // Reading: from a table of outcomes to the days that may have been changed.
+#![tactic(auto)]
+
 pub mod answers;
 
 ghost use Rattle.std.specs.Prelude.{◌≡◌, ◌++◌, ◌≤◌, min, max, length, drop};

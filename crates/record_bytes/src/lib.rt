@@ -1,4 +1,6 @@
 // A service's record as bytes, to be kept on disk and handed to other languages.
+#![tactic(auto)]
+
 ghost use Rattle.std.specs.Prelude.{◌≡◌, [], ◌∷◌, ◌++◌, ◌+◌, ◌≤◌, ◌<◌, length, take, drop};
 ghost use Rattle.record_bytes.specs.Bytes.{hash_at, running_at, block_at, start_at, numbers_bytes, slots_bytes};
 ghost use Rattle.record_bytes.specs.Bytes.{bytes_of_record, number_at, value_at, slots_at, record_of};

@@ -1,5 +1,7 @@
 // What calls answer: done, or refused with 01's number. The tests of a call, its limits and what a refusal leaves are
 // in specs/.
+#![tactic(auto)]
+
 ghost use Rattle.std.specs.Prelude.{◌≡◌};
 ghost use Rattle.refusals.specs.Refusals.{number_of};
 

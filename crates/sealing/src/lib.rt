@@ -1,5 +1,7 @@
 // Sealing a whole ledger in one call: open, then add and close for each of its days. Each close is lent the unwritten
 // rest of the book.
+#![tactic(auto)]
+
 ghost use Rattle.std.specs.Prelude.{◌≡◌, length};
 ghost use Rattle.refusals.specs.Refusals.{front_written};
 ghost use Rattle.ledger.specs.Ledger.{days_of};

@@ -1,4 +1,6 @@
 // Searching a table of the tree for its changed days, chain by chain, with a stop (SPEC 20).
+#![tactic(auto)]
+
 ghost use Rattle.std.specs.Prelude.{◌≡◌, ◌++◌, ◌≤◌, ◌<◌, length, drop};
 ghost use Rattle.refusals.specs.Refusals.{book_limit};
 ghost use Rattle.reading.specs.Private.{Given};

@@ -1,5 +1,7 @@
 // The service: open, add to the open day, close the day. A record goes in by value and comes back; a refused call gives
 // it back as it came. Where a season is full and not the last, add and close are made on the next (SPEC 23.2).
+#![tactic(auto)]
+
 mod blocks;
 mod day;
 mod records;

@@ -1,4 +1,6 @@
 // SHA-256 (FIPS 180-4): schedule, rounds, compression of a block and of the blocks of a list.
+#![tactic(auto)]
+
 ghost use Rattle.std.specs.Prelude.{◌≡◌, ◌+◌, ◌≤◌, ◌<◌};
 ghost use Rattle.sha256_words.specs.Words.{k_table};
 ghost use Rattle.sha256.specs.Sha256 as spec;

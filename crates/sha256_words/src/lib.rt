@@ -1,4 +1,6 @@
 // SHA-256's words (FIPS 180-4): operations, functions, constants, words from bytes and bytes from words.
+#![tactic(auto)]
+
 pub mod constants;
 
 ghost use Rattle.std.specs.Prelude.{◌≡◌, ◌+◌, ◌<◌, ◌≤◌, length};

@@ -1,4 +1,6 @@
 // The size of a season before it is sealed: values, bytes of the book, SHA-256 blocks. Nothing is hashed.
+#![tactic(auto)]
+
 ghost use Rattle.std.specs.Prelude.{◌≡◌, true, ◌≤◌, length, take};
 ghost use Rattle.lists.specs.Lists.{every};
 ghost use Rattle.refusals.specs.Refusals.{day_limit, book_limit};

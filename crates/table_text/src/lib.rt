@@ -1,4 +1,6 @@
 // The text form of reading: two lines that give a table, and the lines that say what reading it finds.
+#![tactic(auto)]
+
 mod input;
 mod lines;
 

@@ -2,6 +2,8 @@
 // and arrays of other lengths. A line has the call, what it returned, and what it wrote: numbers, outcomes, listed
 // days, the lowest bytes of the six numbers of a record, the first 32 bytes of a part, of a book, of digests.
 // reference/calls.py writes what the lines must be.
+#![tactic(auto)]
+
 mod ledgers;
 mod lines;
 mod records;

@@ -1,5 +1,7 @@
 // Tests of sealing, checking and reading. Each module says what its lines are, and which file of reference/ writes
 // what they must be.
+#![tactic(auto)]
+
 mod check_cases;
 mod check_refusals;
 mod check_thousand;

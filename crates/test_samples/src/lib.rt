@@ -1,5 +1,7 @@
 // What the test programs share: days and ledgers of them, made-up records, calls answered by number, cases from
 // standard input, lines of output.
+#![tactic(auto)]
+
 pub mod answers;
 pub mod calls;
 pub mod days;

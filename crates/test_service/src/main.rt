@@ -1,4 +1,6 @@
 // Tests of the service. Each module says what its lines are, and which file of reference/ writes what they must be.
+#![tactic(auto)]
+
 mod books;
 mod compare;
 mod last_day;

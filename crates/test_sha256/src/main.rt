@@ -1,6 +1,8 @@
 // Writes digests, one to a line: of the standard's example messages, of a million bytes, of a message of each length
 // from 0 to 200 in two cuttings and after a first byte, and of links of words. reference/vectors.py writes what they
 // must be.
+#![tactic(auto)]
+
 ghost use Rattle.std.specs.Prelude.{◌≤◌, ◌<◌};
 
 fn wide(x: u32) -> u64 {

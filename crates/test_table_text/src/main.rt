@@ -1,5 +1,7 @@
 // Writes what table_text says to many texts, each after its name. Standard input has the names and texts, with a '#'
 // after each; reference/table_text_cases.py writes it, and what is to be written.
+#![tactic(auto)]
+
 ghost use Rattle.std.specs.Prelude.{◌≡◌, ◌+◌, ◌≤◌, min, length};
 
 fn show(name: &[u8], input: &[u8]) {
