@@ -1,6 +1,6 @@
 -- Laws of tables: acceptance is that some set gives the table; the listing is the union of the sets that do.
 use mathlib.Core.{Path.◌≡◌, Path.refl, Path.sym, Path.ap, Path.◌∙◌, Logic.◌↔◌, Logic.inl, Logic.inr}
-use mathlib.Core.Bool.{Bool, true, false, not, ◌&&◌, and_false}
+use mathlib.Core.Bool.{Bool, true, false, not, ◌&&◌, and-false}
 use mathlib.Core.List.Memᴰ
 use mathlib.Core.List.{List, [], ◌∷◌}
 use Prim.Native.Nat.{ℕ}
@@ -14,9 +14,12 @@ use Rattle.lists.proofs.Laws.{split, true_or_false, or_split, or_left, or_right,
 use Rattle.lists.proofs.Laws.{up_from_mem, up_from_bounds, keep_mem, mem_keep, keep_congr, keep_ascends, no_mem, mem_nil, map_same}
 
 -- a chain covers a day of S exactly if there is such a day
+meets_at : (S : List ℕ) (g : ℕ) (c : List ℕ) → g among c → g among S → meets S c ≡ true
+meets_at S g c (Memᴰ.head {x = x} {xs = xs} e) s = or_left (has x S) (meets S xs) (rw (← e) (mem_has s))
+meets_at S g c (Memᴰ.tail {x = x} {xs = xs} m) s = or_right (has x S) (meets S xs) (meets_at S g xs m s)
+
 pub meets_of : (S c : List ℕ) (g : ℕ) → g among c → g among S → meets S c ≡ true
-meets_of S c g (Memᴰ.head {x = x} {xs = xs} e) s = or_left (has x S) (meets S xs) (rw (← e) (mem_has s))
-meets_of S c g (Memᴰ.tail {x = x} {xs = xs} m) s = or_right (has x S) (meets S xs) (meets_of S xs g m s)
+meets_of S c g m s = meets_at S g c m s
 
 pub meets_day : (S c : List ℕ) → meets S c ≡ true → (g : ℕ) × (g among c) × (g among S)
 meets_day S [] e = absurd (true_or_false e refl)
@@ -41,7 +44,7 @@ unfolding table_of
 set_not_cleared S g s [] = refl
 set_not_cleared S g s (c ∷ chains) = let r = set_not_cleared S g s chains in elim (split (has g c)) [
   | inl h ↦ rw (r, meets_of S c g (has_mem g c h) s)
-  | inr h ↦ rw (r, h, and_false (eqb (set_outcome S c) 1))
+  | inr h ↦ rw (r, h, and-false (eqb (set_outcome S c) 1))
 ]
 
 -- a day of a chain that does not meet S is cleared
