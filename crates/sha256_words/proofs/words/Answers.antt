@@ -1,0 +1,10 @@
+-- `sha256_words::words` meets its contract.
+use Rattle.sha256_words.proofs.{Laws.words_of}
+use Rattle.sha256_words.proofs.words.Goals as goal
+
+pub returns : goal.returns
+returns c =
+    words_of _ c.word_at.ensures c.word_at-2.ensures c.word_at-3.ensures c.word_at-4.ensures c.word_at-5.ensures
+    c.word_at-6.ensures c.word_at-7.ensures c.word_at-8.ensures c.word_at-9.ensures c.word_at-10.ensures
+    c.word_at-11.ensures c.word_at-12.ensures c.word_at-13.ensures c.word_at-14.ensures c.word_at-15.ensures
+    c.word_at-16.ensures
