@@ -209,7 +209,8 @@ length_tree : (n g : ℕ) → length (names_of_day 3 n g) ≡ length (levels g) 
 length_tree n g = simp (length-append, length-map, length_cond)
 
 bits : (a b : Bool) → bit (a && not b) + bit (a && b) ≡ bit a
-bits true b = elim b [ true ↦ refl | false ↦ refl ]
+bits true true = refl
+bits true false = refl
 bits false b = refl
 
 ones_zero : ones 0 ≡ 0
