@@ -60,7 +60,7 @@ fn given(folder: PathBuf) -> Result<PathBuf, String> {
     }
     Err(format!(
         "{FOLDER} is {}, and there is no {ARCHIVE} in it.\n\
-         Make it with `rt staticlib daybook_c` in the repository's top folder: it is then in\n\
+         Make it with `.ci/archive` in the repository's top folder: it is then in\n\
          target/staticlib. Or unset {FOLDER}, and the build makes it.",
         folder.display()
     ))
@@ -70,10 +70,14 @@ fn given(folder: PathBuf) -> Result<PathBuf, String> {
 /// build does not depend on a file that it writes itself.
 fn proved() -> Result<PathBuf, String> {
     let top = top_folder()?;
-    for name in ["crates", "crates.txt"] {
-        println!("cargo:rerun-if-changed={}", top.join(name).display());
+    println!(
+        "cargo:rerun-if-changed={}",
+        top.join("crates.txt").display()
+    );
+    for folder in sources(&top) {
+        println!("cargo:rerun-if-changed={}", folder.display());
     }
-    run_rt(&top)?;
+    run_archive(&top)?;
     let made = top.join("target").join("staticlib").join(ARCHIVE);
     let folder = PathBuf::from(variable("OUT_DIR")?);
     match fs::copy(&made, folder.join(ARCHIVE)) {
@@ -96,12 +100,40 @@ fn top_folder() -> Result<PathBuf, String> {
     }
 }
 
-fn run_rt(top: &Path) -> Result<(), String> {
-    let result = Command::new("rt")
-        .args(["staticlib", "daybook_c"])
-        .current_dir(top)
-        .output();
-    let output = result.map_err(|error| {
+/// What the archive is made from: the folders of each crate but `out`, where `rt` keeps its work.
+fn sources(top: &Path) -> Vec<PathBuf> {
+    let crates = fs::read_dir(top.join("crates"));
+    let mut folders: Vec<PathBuf> = crates
+        .into_iter()
+        .flatten()
+        .flatten()
+        .flat_map(|folder| ["src", "specs", "proofs"].map(|part| folder.path().join(part)))
+        .filter(|folder| folder.is_dir())
+        .collect();
+    folders.sort();
+    folders
+}
+
+fn run_archive(top: &Path) -> Result<(), String> {
+    test_rt()?;
+    let result = Command::new(top.join(".ci").join("archive")).output();
+    let output = result.map_err(|error| format!("`.ci/archive` cannot be run: {error}."))?;
+    if output.status.success() {
+        return Ok(());
+    }
+    Err(format!(
+        "`.ci/archive` failed in {} ({}). It wrote:\n{}{}",
+        top.display(),
+        output.status,
+        String::from_utf8_lossy(&output.stdout),
+        String::from_utf8_lossy(&output.stderr)
+    ))
+}
+
+/// Whether there is an `rt`, without which `.ci/archive` makes nothing.
+fn test_rt() -> Result<(), String> {
+    let result = Command::new("rt").arg("version").output();
+    result.map(|_| ()).map_err(|error| {
         let what = match error.kind() {
             ErrorKind::NotFound => "is not on PATH".to_string(),
             _ => format!("cannot be run: {error}"),
@@ -111,17 +143,7 @@ fn run_rt(top: &Path) -> Result<(), String> {
              Install the Rattle kit and put its `rt` on PATH, or set {FOLDER} to a folder that\n\
              holds {ARCHIVE}."
         )
-    })?;
-    if output.status.success() {
-        return Ok(());
-    }
-    Err(format!(
-        "`rt staticlib daybook_c` failed in {} ({}). It wrote:\n{}{}",
-        top.display(),
-        output.status,
-        String::from_utf8_lossy(&output.stdout),
-        String::from_utf8_lossy(&output.stderr)
-    ))
+    })
 }
 
 fn variable(name: &str) -> Result<String, String> {
