@@ -1,5 +1,5 @@
 // The calls for C and other languages, thin over the Rattle calls. Each returns 0, or the refusal's number.
-// include/daybook.h says what a caller must keep.
+// include/daybook.h says what a caller must keep; the crate daybook_c_c exports them.
 #![tactic(auto)]
 
 ghost use Rattle.std.specs.Prelude.{◌≡◌};
@@ -24,8 +24,7 @@ use record_bytes::RECORD_BYTES;
 use searching::Searched;
 use sizing::Sizing;
 
-#[unsafe(no_mangle)]
-pub extern "C" fn daybook_open(scheme: u32, n: u32, f: u32, state: &mut [u8; RECORD_BYTES]) -> u32
+pub fn daybook_open(scheme: u32, n: u32, f: u32, state: &mut [u8; RECORD_BYTES]) -> u32
     ensures value { result ≡ number_of (opened scheme n f).answer }
     ensures state_after { state.new ≡ bytes_of_record (opened scheme n f).state }
 {
@@ -36,8 +35,7 @@ pub extern "C" fn daybook_open(scheme: u32, n: u32, f: u32, state: &mut [u8; REC
     refusals::number_of(a)
 }
 
-#[unsafe(no_mangle)]
-pub extern "C" fn daybook_add(state: &mut [u8; RECORD_BYTES], piece: &[u8], blocks: &mut u32) -> u32
+pub fn daybook_add(state: &mut [u8; RECORD_BYTES], piece: &[u8], blocks: &mut u32) -> u32
     ensures value { result ≡ (added_bytes state.old piece.now blocks.old).number }
     ensures state_after { state.new ≡
         (added_bytes state.old piece.now blocks.old).state }
@@ -56,8 +54,7 @@ pub extern "C" fn daybook_add(state: &mut [u8; RECORD_BYTES], piece: &[u8], bloc
     x
 }
 
-#[unsafe(no_mangle)]
-pub extern "C" fn daybook_close(
+pub fn daybook_close(
     state: &mut [u8; RECORD_BYTES],
     part: &mut [u8],
     values: &mut u32,
@@ -87,8 +84,7 @@ pub extern "C" fn daybook_close(
     x
 }
 
-#[unsafe(no_mangle)]
-pub extern "C" fn daybook_seal(
+pub fn daybook_seal(
     scheme: u32,
     n: u32,
     f: u32,
@@ -106,8 +102,7 @@ pub extern "C" fn daybook_seal(
     refusals::number_of(a)
 }
 
-#[unsafe(no_mangle)]
-pub extern "C" fn daybook_check(
+pub fn daybook_check(
     scheme: u32,
     n: u32,
     f: u32,
@@ -131,8 +126,7 @@ pub extern "C" fn daybook_check(
     refusals::number_of(a)
 }
 
-#[unsafe(no_mangle)]
-pub extern "C" fn daybook_read(
+pub fn daybook_read(
     scheme: u32,
     n: u32,
     f: u32,
@@ -158,8 +152,7 @@ pub extern "C" fn daybook_read(
     x
 }
 
-#[unsafe(no_mangle)]
-pub extern "C" fn daybook_values(scheme: u32, n: u32, f: u32, d: u32, values: &mut u32) -> u32
+pub fn daybook_values(scheme: u32, n: u32, f: u32, d: u32, values: &mut u32) -> u32
     ensures value { result ≡ layout_refusal scheme n f d }
     ensures values_after { values.new ≡ values_after scheme n f d values.old }
 {
@@ -170,8 +163,7 @@ pub extern "C" fn daybook_values(scheme: u32, n: u32, f: u32, d: u32, values: &m
     x
 }
 
-#[unsafe(no_mangle)]
-pub extern "C" fn daybook_record_values(state: &[u8; RECORD_BYTES], values: &mut u32) -> u32
+pub fn daybook_record_values(state: &[u8; RECORD_BYTES], values: &mut u32) -> u32
     ensures value { result ≡ writing_number (written_so_far (record_of state.now)) }
     ensures values_after { values.new ≡ record_values_after state.now values.old }
 {
@@ -184,8 +176,7 @@ pub extern "C" fn daybook_record_values(state: &[u8; RECORD_BYTES], values: &mut
     x
 }
 
-#[unsafe(no_mangle)]
-pub extern "C" fn daybook_forecast(
+pub fn daybook_forecast(
     scheme: u32,
     n: u32,
     f: u32,
@@ -207,8 +198,7 @@ pub extern "C" fn daybook_forecast(
     }
 }
 
-#[unsafe(no_mangle)]
-pub extern "C" fn daybook_chain_at(
+pub fn daybook_chain_at(
     scheme: u32,
     n: u32,
     f: u32,
@@ -230,8 +220,7 @@ pub extern "C" fn daybook_chain_at(
     }
 }
 
-#[unsafe(no_mangle)]
-pub extern "C" fn daybook_position_of(
+pub fn daybook_position_of(
     scheme: u32,
     n: u32,
     f: u32,
@@ -254,8 +243,7 @@ pub extern "C" fn daybook_position_of(
     }
 }
 
-#[unsafe(no_mangle)]
-pub extern "C" fn daybook_search(
+pub fn daybook_search(
     scheme: u32,
     n: u32,
     f: u32,
@@ -283,8 +271,7 @@ pub extern "C" fn daybook_search(
     }
 }
 
-#[unsafe(no_mangle)]
-pub extern "C" fn daybook_tile_counts(n: u32, k: u32, counts: &mut [u32; 2]) -> u32
+pub fn daybook_tile_counts(n: u32, k: u32, counts: &mut [u32; 2]) -> u32
     ensures value { result ≡ counting_number (counted n k) }
     ensures counts_after { counts.new ≡ counts_after (counted n k) counts.old }
 {
@@ -298,8 +285,7 @@ pub extern "C" fn daybook_tile_counts(n: u32, k: u32, counts: &mut [u32; 2]) -> 
     }
 }
 
-#[unsafe(no_mangle)]
-pub extern "C" fn daybook_version() -> u32
+pub fn daybook_version() -> u32
     ensures { result ≡ version }
 {
     900
