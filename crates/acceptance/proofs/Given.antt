@@ -65,7 +65,8 @@ falls false b = or-true (not (not b))
 
 parts : (a b : Bool) → alike (not (a || b)) (not a && not b) ≡ true
 parts true b = refl
-parts false b = elim b [ true ↦ refl | false ↦ refl ]
+parts false true = refl
+parts false false = refl
 
 inside : (a b : Bool) → (a ≡ true → b ≡ true) → not (not b) || not a ≡ true
 inside true b f = rw (f refl)

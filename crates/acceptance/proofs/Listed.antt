@@ -1,6 +1,6 @@
 -- Under the rules each value passes exactly if no day of its chain is listed locally: what this takes, by scheme.
 use mathlib.Core.{Path.◌≡◌, Path.refl, Path.sym, Path.ap, Path.◌∙◌, Logic.inl, Logic.inr, List.List}
-use mathlib.Core.Bool.{Bool, true, false, not, ◌&&◌, ◌||◌, and_false}
+use mathlib.Core.Bool.{Bool, true, false, not, ◌&&◌, ◌||◌, and-false}
 use Prim.Native.Nat.{ℕ, zero, suc, pred, ◌+◌, ◌-◌, ◌*◌, ◌/◌, ◌%◌, ◌^◌, ◌≤◌, ◌<◌}
 use native.Mathlib.Nat.{le-div_iff_mul-le, div-lt_iff_lt-mul, mul-pos, mul-le-mul_right, suc-mul, zero-mul, pow-succ', mod-lt, div-add-mod'}
 use native.Mathlib.{Decide.dec_lt, Omega.arith}
@@ -109,7 +109,7 @@ black_1 n d t p w r k q =
   where
     fits : (a b : Bool) → not a || b ≡ true → a ≡ b && not (not a)
     fits true b e = rw e
-    fits false b e = sym (and_false b)
+    fits false b e = sym (and-false b)
 
 -- ---- scheme 2
 
@@ -159,7 +159,7 @@ module _ (n d : ℕ) (t : List ℕ) (w : Power n) (k : ℕ) where
       let no : bits_rule (tile_bit n t (suc k * n)) (lg n) (pred day) ≡ false =
       every_fails (bit_rule (tile_bit n t (suc k * n)) (pred day)) (up_from 0 (lg n)) (lg n - suc i) (up_from_mem 0 (lg n) (lg n - suc i) (omega arith) (omega arith))
       (rw (tile_bit_lem n t (suc k * n) (suc i) l, e, bit)) in
-      listed_in_2 n k day t m ∙ rw no (and_false (not (passes 2 n t (tile 0 (suc k * n)))))
+      listed_in_2 n k day t m ∙ rw no (and-false (not (passes 2 n t (tile 0 (suc k * n)))))
 
   -- where c(i) fails, and with it c(0), it covers a day that is listed
   shows : (i : ℕ) → i ≤ lg n → passes 2 n t (tile 0 (suc k * n)) ≡ false → passes 2 n t (tile i (suc k * n)) ≡ false →

@@ -5,7 +5,7 @@ use Prim.Native.Nat.{ℕ, zero, suc, pred, ◌+◌, ◌-◌, ◌*◌, ◌/◌, �
 use native.Mathlib.{Nat.mod-one, Nat.mul-pos, Nat.zero-add, Nat.suc-add, Nat.pow-succ', Nat.eq_of_mul-eq-mul_left, Decide.dec_le, Decide.dec_lt, Decide.ℕ_discrete, Numerals.add-one, Omega.arith}
 use lib.{Dec.leb, Pow.pow_pos}
 use borrow.Author.Tests.{eq-eqb, le-leb, lt-leb, not-true, not-false}
-use Rattle.lists.specs.Lists.{up_from, every}
+use Rattle.lists.specs.Lists.{up_from}
 use Rattle.lists.proofs.Laws.{split, true_or_false, up_from_bounds, every_of}
 use Rattle.layouts.specs.Layouts.{divides, tree, last_days}
 use Rattle.layouts.specs.Private.{position}
