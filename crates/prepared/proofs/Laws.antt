@@ -2,7 +2,7 @@
 use Prim.Native.Nat.{ℕ, zero, suc, ◌+◌, ◌-◌, ◌%◌, ◌≤◌, ◌<◌}
 use mathlib.Core.{Path.◌≡◌, Path.refl, Path.sym, Path.ap, Path.◌∙◌, List.List, List.[], List.◌∷◌, List.◌++◌}
 use native.Mathlib.{Omega.arith, Numerals.add-one, Nat.add-zero, Nat.add-suc, Nat.zero-add}
-use borrow.Author.{Count.below_more, Needs.read_below, Needs.read_above, Tests.le-ltb}
+use borrow.Author.{Count.below_more, Tests.le-ltb}
 use lib.ListN.{length, get_or, take, set, length-set}
 use lib.Seq.{take-suc, take-suc-set, take_all, length-take-le, get_or-take, get_or-set_same, get_or-set_other}
 use Rattle.sha256_words.specs.Words.{add32, k_table}
@@ -62,9 +62,9 @@ added_next k s i w {x} a l ex =
     record {
       within = omega arith;
       size = simp length-set a.size;
-      done = below_more (λ q. get_or (set w i x) q 0 ≡ add32 (get_or k q 0) (get_or s q 0)) i (λ q h. read_below ℕ w i q x 0 _ h (a.done q h))
+      done = below_more (λ q. get_or (set w i x) q 0 ≡ add32 (get_or k q 0) (get_or s q 0)) i (λ q h. get_or-set_other w i q x 0 (λ e. omega arith) ∙ a.done q h)
           (get_or-set_same w i x 0 (omega (arith, a.size)) ∙ ex ∙ ap (add32 (get_or k i 0)) (a.kept i (omega arith)));
-      kept = λ q h. read_above ℕ w i q x 0 _ (omega arith) (a.kept q (omega arith));
+      kept = λ q h. get_or-set_other w i q x 0 (λ e. omega arith) ∙ a.kept q (omega arith);
     }
 
 pub prepared_of : (m k s : List ℕ) (i : ℕ) (w : List ℕ) → Added k s i w → 64 ≤ i → k ≡ k_table → s ≡ schedule m 64 → Prepared m w
