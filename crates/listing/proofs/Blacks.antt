@@ -2,7 +2,7 @@
 use mathlib.Core.{Path.◌≡◌, Path.refl, Path.ap, Path.◌∙◌, Bool.Bool, Bool.true, Bool.false, Bool.not, Bool.◌||◌, List.List, List.[]}
 use Rattle.std.proofs.Common.{ℕ, zero, suc, pred, ◌+◌, ◌-◌, ◌*◌, ◌/◌, ◌<◌, ◌≤◌}
 use native.Mathlib.{Nat.le-div_iff_mul-le, Nat.div-lt_iff_lt-mul, Nat.add-zero, Nat.add-suc, Nat.mul-pos, Numerals.add-one, Omega.arith}
-use Rattle.lists.specs.Lists.{up_from, keep, every}
+use Rattle.lists.specs.Lists.{up_from, keep}
 use Rattle.lists.proofs.Laws.{up_from_mem, up_from_bounds, up_from-append, keep_append, every_at, true_or_false}
 use Rattle.evidence.specs.Evidence.{days}
 use Rattle.layouts.specs.Layouts.{black}

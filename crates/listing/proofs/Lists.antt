@@ -3,7 +3,7 @@ use mathlib.Core.{Path.◌≡◌, Path.sym, Path.◌∙◌, Bool.Bool, Bool.true
 use Rattle.std.proofs.Common.{ℕ, suc, pred, ◌+◌, ◌-◌, ◌*◌, ◌/◌, ◌%◌, ◌^◌, ◌<◌, ◌≤◌, eq-eqb, ne_eqb}
 use native.Mathlib.{Nat.pow-succ', Nat.suc-mul, Nat.div-one, Nat.div-eq_of_lt, Nat.div-mul-le_self, Decide.ℕ_discrete, Numerals.add-one, Omega.arith}
 use lib.{ListN.length, Pow.shr-shr}
-use Rattle.lists.specs.Lists.{up_from, keep}
+use Rattle.lists.specs.Lists.{keep}
 use Rattle.evidence.specs.Evidence.{days}
 use Rattle.lists.proofs.Laws.{and_both, length-up_from}
 use Rattle.layouts.specs.Layouts.{divides, lg, tile, last_days}

@@ -1,7 +1,7 @@
 -- The walks of a tile and a tree's chain list the days that are listed locally.
 use mathlib.Core.{Path.◌≡◌, Path.refl, Path.sym, Path.ap, Path.ap₂, Path.◌∙◌, Logic.inl, Logic.inr}
 use Rattle.std.proofs.Common.{ℕ, zero, suc, pred, ◌+◌, ◌-◌, ◌*◌, ◌/◌, ◌%◌, ◌^◌, ◌≤◌, Bool, true, false, cond, not, ◌&&◌, List, [], ◌∷◌, ◌++◌}
-use mathlib.Core.Bool.{and-true, and_false}
+use mathlib.Core.Bool.{and-true, and-false}
 use native.Mathlib.{Nat.suc-mul, Nat.pow-succ', Omega.arith}
 use lib.Arith.{digits_div}
 use borrow.Author.Tests.{not-true}
@@ -56,12 +56,12 @@ tile_keep p (suc l) q =
 
     one_bit_lem : (day : ℕ) → day among up_from (suc (suc (q + q) * 2 ^ l)) (2 ^ l) → listed_bits p (suc l) day ≡ listed_bits p l day
     one_bit_lem day m = let odd : suc (q + q) % 2 ≡ 1 = omega arith in bits_suc p l (pred day) ∙
-        rw (bit (suc (q + q)) day m, odd, and_false (p l), and-true (bits_rule p l (pred day)))
+        rw (bit (suc (q + q)) day m, odd, and-false (p l), and-true (bits_rule p l (pred day)))
 
     lower : keep (listed_bits p l) (up_from (suc ((q + q) * 2 ^ l)) (2 ^ l)) ≡ tile_days p l (suc ((q + q) * 2 ^ l)) →
         keep (listed_bits p (suc l)) (up_from (suc (q * 2 ^ suc l)) (2 ^ l)) ≡ cond (p l) [] (tile_days p l (suc (q * 2 ^ suc l)))
     lower rec = let run = up_from (suc ((q + q) * 2 ^ l)) (2 ^ l) in elim (split (p l)) [
-      | inl e ↦ rw (e, base) (keep_none (listed_bits p (suc l)) run (λ day m. zero_bit day m ∙ rw (e, and_false (listed_bits p l day))))
+      | inl e ↦ rw (e, base) (keep_none (listed_bits p (suc l)) run (λ day m. zero_bit day m ∙ rw (e, and-false (listed_bits p l day))))
       | inr e ↦ rw (e, base) (keep_congr (listed_bits p (suc l)) (listed_bits p l) run (λ day m. zero_bit day m ∙ rw (e, and-true (listed_bits p l day))) ∙ rec)
     ]
 
