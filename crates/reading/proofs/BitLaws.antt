@@ -1,6 +1,6 @@
 -- Laws of outcomes taken in turn: their greatest and least, tables of 0 and 1, tables of passes.
 use mathlib.Core.{Path.◌≡◌, Path.refl, Path.sym, Path.ap, Path.◌∙◌, Logic.inl, Logic.inr, List.List, List.[], List.◌∷◌}
-use mathlib.Core.Bool.{true, ◌&&◌, ◌||◌, and-true, and_false}
+use mathlib.Core.Bool.{true, ◌&&◌, ◌||◌, and-true, and-false}
 use Prim.Native.Nat.{ℕ, zero, suc, ◌+◌, ◌≤◌, ◌<◌, min, max}
 use native.Mathlib.{Numerals.add-one, Omega.arith}
 use lib.{Dec.eqb, Dec.leb, ListN.length, ListN.get_or, ListN.drop, Seq.drop-cons, Seq.drop-length}
@@ -40,7 +40,7 @@ bits_from (o ∷ t) v = bits_from t (max v o) ∙ go o
     go (suc zero) = rw (same_test (max v 1) v (λ l. omega arith) (λ l. omega arith))
     go (suc (suc x)) =
         rw (ne_eqb (suc (suc x)) 0 (λ e. omega arith), ne_eqb (suc (suc x)) 1 (λ e. omega arith), lt-leb (max v (suc (suc x))) 1 (omega arith))
-        (sym (and_false (leb v 1)))
+        (sym (and-false (leb v 1)))
 
 pub bits_by : (t : List ℕ) → leb (greatest t) 1 ≡ bits t
 bits_by t = bits_from t 0

@@ -1,7 +1,7 @@
 -- Last good: of a table that a set gives it is the last day that n divides with no day of the set before it or on it; of a
 -- changed table, by its first listed day, a division.
 use mathlib.Core.{Path.◌≡◌, Path.refl, Path.sym, Path.ap, Path.◌∙◌, Logic.inl, Logic.inr}
-use mathlib.Core.Bool.{Bool, true, false, not, ◌&&◌, ◌||◌, cond, and_false, or-true}
+use mathlib.Core.Bool.{Bool, true, false, not, ◌&&◌, ◌||◌, cond, and-false, or-true}
 use mathlib.Core.List.Memᴰ
 use mathlib.Core.List.{List, [], ◌∷◌, map}
 use Prim.Native.Nat.{ℕ, suc, ◌+◌, ◌-◌, ◌*◌, ◌/◌, ◌≤◌, ◌<◌}
@@ -31,7 +31,7 @@ black_by n g S [] = refl
 black_by n g S (x ∷ xs) = rw (black_by n g S xs) (elim (split (black_at g x)) [ inl e ↦ rw (e, black_cover n g x e) (flip (meets S (last_days g g)) (is_black g xs)) | inr e ↦ rw e ])
   where
     flip : (m r : Bool) → eqb (cond m 0 1) 1 || (r && not m) ≡ not m
-    flip true r = and_false r
+    flip true r = and-false r
     flip false r = refl
 
 is_black_lem : (g : ℕ) {x : Name} {xs : List Name} → x among xs → black_at g x ≡ true → is_black g xs ≡ true

@@ -1,5 +1,5 @@
 -- 02's P: when 19 is said, D − F-as-N is let pass, and nothing but low moves.
-use mathlib.Core.{Path.◌≡◌, Path.refl, Path.sym, Path.◌∙◌, Logic.◌⊎◌, Logic.inl, Logic.inr, List.List, List.[], List.◌∷◌, Bool.true, Bool.false, Bool.and_false}
+use mathlib.Core.{Path.◌≡◌, Path.refl, Path.sym, Path.◌∙◌, Logic.◌⊎◌, Logic.inl, Logic.inr, List.List, List.[], List.◌∷◌, Bool.true, Bool.false, Bool.and-false}
 use Prim.Native.Nat.{ℕ, zero, suc, ◌-◌, ◌*◌, ◌/◌, ◌≤◌}
 use native.Mathlib.{Nat.mul-sub, Nat.mul_comm, Nat.mul-pos, Decide.ℕ_discrete, Omega.arith}
 use lib.{Dec.ltb, ListN.length}
@@ -24,7 +24,7 @@ not_allowed n d p e = elim (split (ltb p d)) [ inl t ↦ inr (rw t at e) | inr t
 
 allowed_not : (n d p : ℕ) → (d ≤ p) ⊎ (divides n p ≡ false) → allowed_passed n d p ≡ false
 allowed_not n d p (inl l) = rw (le-ltb p d l)
-allowed_not n d p (inr e) = rw e (and_false (ltb p d))
+allowed_not n d p (inr e) = rw e (and-false (ltb p d))
 
 pub says_not_passed : SaysNotPassed
 unfolding layout_refusal

@@ -1,9 +1,0 @@
--- `reading::answers::number_of` meets its contract.
-use Rattle.reading.specs.Contract.{report_of}
-use borrow.Author.Rules.{rules}
-use Rattle.reading.proofs.answers.number_of.Statement.{statement}
-use Rattle.reading.proofs.answers.number_of.Tie as tie
-
-pub number-of-spec : {M : Type 1} → statement M
-unfolding report_of
-number-of-spec = tie.close (tie.spec (λ c. search rules) (λ c. search rules) (λ c. search rules) (λ c. search rules) (λ c. search rules) (λ c. search rules))
