@@ -12,7 +12,7 @@ use Rattle.lanes.proofs.LaneLaws.{Through, through_next}
 use Rattle.links.specs.Private.{front, link_of}
 use Rattle.links.proofs.Links.{link_of_lem}
 use Rattle.chains.specs.declared.Value.{Value}
-use Rattle.chains.specs.Step.{linked, each, linked_slots}
+use Rattle.chains.specs.Step.{linked, linked_slots}
 use Rattle.chains.specs.Private.{none, words_at, front_of, Fronts, link_each, levels_linked}
 use Rattle.chains.proofs.Slots.{upto, upto_next, upto_all}
 

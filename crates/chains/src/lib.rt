@@ -11,7 +11,7 @@ ghost use Rattle.prepared.specs.Private.{Prepared};
 ghost use Rattle.links.specs.Private.{front, back};
 ghost use Rattle.chains.specs.Private.{DayLinked, Fronts, levels_linked};
 
-#[derive(Drop)]
+#[derive(Clone, Copy)]
 pub struct Value {
     pub words: [u32; 8],
 }
