@@ -581,18 +581,3 @@ fn standard_output_that_cannot_be_written() {
         .status();
     assert_eq!(status.unwrap().code(), Some(3));
 }
-
-/// More ends than a season has days are not read to their end, and not counted.
-#[test]
-fn more_ends_than_days() {
-    let folder = Folder::new("many-ends");
-    fs::write(folder.file("ledger"), "").unwrap();
-    fs::write(folder.file("ends"), vec![0; 4 * 70_000]).unwrap();
-    let seal = "seal --scheme 1 --n 1 --f 1 --ledger ledger --ends ends --book book";
-    let (status, out, messages) = run(&folder, seal);
-    assert_eq!((status, out.as_str()), (2, "NO,7\n"), "{messages}");
-    assert!(
-        messages.contains("days found more than 65536)"),
-        "{messages}"
-    );
-}

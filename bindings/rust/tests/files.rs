@@ -8,7 +8,7 @@ use std::os::unix::fs::{symlink, PermissionsExt};
 use std::path::Path;
 use std::process::{Command, Stdio};
 
-use common::{altered, book, days, digest, table, temporary, Folder};
+use common::{altered, book, days, digest, table, Folder};
 use daybook::Layout;
 
 const PROGRAM: &str = env!("CARGO_BIN_EXE_daybook");
@@ -167,84 +167,29 @@ fn leavings_of_stopped_runs_are_removed() {
     let folder = sealed("leavings");
     let mut dead = Command::new("true").spawn().unwrap();
     dead.wait().unwrap();
-    let left = temporary(dead.id(), 0);
-    let live = temporary(std::process::id(), 0);
-    let held = temporary(dead.id(), 1);
-    let older = format!(".daybook-{}-0.tmp", dead.id());
+    let left = format!(".daybook-{}-0.tmp", dead.id());
+    let live = format!(".daybook-{}-0.tmp", std::process::id());
+    let held = format!(".daybook-{}-1.tmp", dead.id());
     let other = format!(".other-{}-0.tmp", dead.id());
-    for name in [&left, &live, &held, &older, &other] {
+    for name in [&left, &live, &held, &other] {
         fs::write(folder.file(name), "half a file").unwrap();
     }
     let lock = File::open(folder.file(&held)).unwrap();
     lock.lock().unwrap();
     fs::write(folder.file(&format!("in/{left}")), "a day like any other").unwrap();
     let check = "check --scheme 2 --n 4 --f 1 --d 4 --days in --book book --outcomes table";
-    let removed = format!("/{left}, which a stopped run left\n");
-    ends(&folder, check, 1, &removed);
-    let mut expected = vec![live, held, older, other];
+    run(&folder, check);
+    let mut expected = vec![live, held, other];
     expected.extend(["book", "in", "table"].map(String::from));
     expected.sort();
     assert_eq!(names(folder.path()), expected);
     assert!(folder.file(&format!("in/{left}")).exists());
-}
-
-/// A folder that open left is removed where it holds nothing but fresh files, and no run has its lock.
-#[test]
-fn folders_of_stopped_runs_are_removed() {
-    let folder = Folder::new("left-folders");
-    let open = "open s --scheme 1 --n 1 --f 1";
-    ends(&folder, open, 0, "s is open");
-    let mut dead = Command::new("true").spawn().unwrap();
-    dead.wait().unwrap();
-    let left = temporary(dead.id(), 0);
-    let put = |files: &[(&str, &str)]| {
-        let _ = fs::remove_dir_all(folder.file(&left));
-        fs::create_dir(folder.file(&left)).unwrap();
-        for (name, text) in files {
-            fs::write(folder.file(&format!("{left}/{name}")), text).unwrap();
-        }
-    };
-    let removed = format!("/{left}, which a stopped run left\n");
-    for files in [
-        &[][..],
-        &[("lock", "")],
-        &[("lock", ""), ("layout", "")],
-        &[("lock", ""), ("layout", "daybook st"), ("book", "")],
-        &[("layout", "daybook state 3\nscheme"), ("index", "")],
-        &[("lock", ""), ("record", "daybook rec")],
-        &[("record", "daybook record 3\n and more")],
-        // after a power cut
-        &[("layout", "\0\0\0"), ("record", "\0\0")],
-    ] {
-        put(files);
-        ends(&folder, open, 0, &removed);
-        assert!(!folder.file(&left).exists(), "{files:?}");
-    }
-    for files in [
-        &[("lock", "x")][..],
-        &[("book", "v")],
-        &[("lock", ""), ("index", "1,")],
-        &[("layout", "my own")],
-        &[("record", "daybook ledger")],
-        &[("lock", ""), ("day-1", "")],
-        &[("lock", ""), ("notes", "")],
-    ] {
-        put(files);
-        let before = names(&folder.file(&left));
-        ends(&folder, open, 0, "s is open already");
-        assert_eq!(names(&folder.file(&left)), before, "{files:?}");
-    }
-    put(&[("lock", "")]);
-    let lock = File::open(folder.file(&format!("{left}/lock"))).unwrap();
-    lock.lock().unwrap();
-    ends(&folder, open, 0, "s is open already");
-    assert!(folder.file(&format!("{left}/lock")).exists());
-    lock.unlock().unwrap();
-    fs::hard_link(folder.file(&format!("{left}/lock")), folder.file("other")).unwrap();
-    ends(&folder, open, 0, "s is open already");
-    assert!(folder.file(&format!("{left}/lock")).exists());
-    fs::remove_file(folder.file("other")).unwrap();
-    ends(&folder, open, 0, &removed);
+    // a folder that open left
+    drop(lock);
+    fs::create_dir(folder.file(&left)).unwrap();
+    fs::write(folder.file(&format!("{left}/lock")), "").unwrap();
+    ends(&folder, "open s --scheme 1 --n 1 --f 1", 0, "s is open");
+    assert!(!folder.file(&left).exists());
 }
 
 #[test]

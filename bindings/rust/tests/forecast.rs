@@ -120,7 +120,7 @@ fn the_longest_season() {
         &forecast,
         7,
         &[
-            "daybook: refusal 7 (scheme 3, N 1, F 1, D 65537, days found more than 65536): D is not from 1 \
+            "daybook: refusal 7 (scheme 3, N 1, F 1, D 65537, days found 65537): D is not from 1 \
              to 65,536 and a multiple of F times N",
             "daybook: 65537 days found; D is a multiple of 1: --d 65536 takes the first 65536",
         ],
@@ -308,7 +308,7 @@ fn missing_files() {
     fault(
         &folder,
         &line,
-        "in/sub cannot be read: it is not a plain file",
+        "in/sub cannot be read: a day must be a regular file",
     );
 }
 

@@ -12,15 +12,12 @@ use std::process::{Command, Stdio};
 
 use common::{altered, book, day, digest, hex, ledger, table, Folder};
 use daybook::Layout;
-use program::{command, damaged, done, ended, fault, run, said, Ran};
+use program::{command, done, ended, fault, run, said, Ran};
 
-/// Every day has bytes of its own, the first one more than a pipe holds.
+/// Every day has bytes of its own.
 fn days(d: u32) -> Vec<Vec<u8>> {
-    let length = |g| if g == 1 { LONG } else { 9 };
-    (1..=d).map(|g| day(g, length(g))).collect()
+    (1..=d).map(|g| day(g, 9)).collect()
 }
-
-const LONG: u32 = 70_000;
 
 /// The figure's days as a ledger with its ends, sealed; 19, 20 and 27 are altered then. Beside them the
 /// outcomes.
@@ -376,7 +373,7 @@ fn a_line_without_its_form() {
             "check --state s --days in --outcomes table",
             "read --state s --outcomes table",
         ] {
-            damaged(&folder, line, &what);
+            fault(&folder, line, &what);
         }
         assert_eq!(clean(&folder), Some(text));
     }
@@ -420,8 +417,7 @@ fn a_folder_that_cannot_be_written() {
     let folder = state("unwritable", 8);
     // in the way of the new file, for every user
     fs::create_dir(folder.file("s/clean.new")).unwrap();
-    let verify = "verify --state s --days in";
-    damaged(&folder, verify, "s/clean.new does not fit the state");
+    not_kept(&folder, "s/clean.new cannot be written");
     fs::remove_dir(folder.file("s/clean.new")).unwrap();
     let mode = |mode| {
         for name in ["s/lock", "s"] {
@@ -464,16 +460,19 @@ fn a_full_disk() {
 /// Verifies eight days of `s`, with something done after the book is read and before the days are.
 fn verified_while(folder: &Folder, between: impl Fn()) -> Ran {
     let bytes = write_ends(folder, &days(8));
-    let verify = "verify --state s --d 8 --ledger - --ends ends";
+    let pipe = folder.file("pipe");
+    let made = Command::new("mkfifo").arg(&pipe).status().unwrap();
+    assert!(made.success());
+    let verify = "verify --state s --d 8 --ledger pipe --ends ends";
     let mut command = command(folder, verify);
     let child = command.stdout(Stdio::piped()).stderr(Stdio::piped());
-    let mut child = child.stdin(Stdio::piped()).spawn().unwrap();
-    let mut days = child.stdin.take().unwrap();
-    // done when the program has begun to read it: a pipe does not hold so much
-    days.write_all(&bytes[..LONG as usize]).unwrap();
+    let child = child.spawn().unwrap();
+    // opened when the program opens it too
+    let mut days = File::options().write(true).open(&pipe).unwrap();
     between();
-    days.write_all(&bytes[LONG as usize..]).unwrap();
+    days.write_all(&bytes).unwrap();
     drop(days);
+    fs::remove_file(&pipe).unwrap();
     ended(child.wait_with_output().unwrap())
 }
 

@@ -72,20 +72,9 @@ const COMMANDS: [&str; 13] = [
 
 /// Each command ends with 3 and this message alone, and writes nothing.
 fn named(folder: &Folder, message: &str) {
-    stopped(folder, 3, message);
-}
-
-/// The same of files that do not fit one another, which is 6.
-fn damaged(folder: &Folder, message: &str) {
-    let remedy = "put the folder back from a copy, or make it anew with daybook rebuild \
-                  (docs/SERVICE.md, The way back)";
-    stopped(folder, 6, &format!("{message}. What to do: {remedy}"));
-}
-
-fn stopped(folder: &Folder, status: i32, message: &str) {
     let before = tree(folder.path());
     for line in COMMANDS {
-        let expected = (status, String::new(), format!("daybook: {message}\n"));
+        let expected = (3, String::new(), format!("daybook: {message}\n"));
         assert_eq!(run(folder, line), expected, "{line}");
         assert_eq!(tree(folder.path()), before, "{line}");
     }
@@ -196,9 +185,9 @@ fn a_layout_of_before_beside_another_record() {
         );
         record[15] = b'0' + version;
         fs::write(folder.file("s/record"), &record).unwrap();
-        damaged(&folder, &differ);
+        named(&folder, &differ);
         fs::write(folder.file("s/record"), &record[..100]).unwrap();
-        damaged(&folder, &differ);
+        named(&folder, &differ);
     }
 }
 
@@ -211,7 +200,7 @@ fn a_record_with_another_start() {
         for start in [[0; 32], [7; 32]] {
             let service = [&state.service()[..], &start, season].concat();
             fs::write(folder.file("s/record"), state.record(version, &service)).unwrap();
-            damaged(
+            named(
                 &folder,
                 "s/record does not fit the state: its chains do not start as those of scheme 2, \
                  N 2, F 1 do. Nothing is written",

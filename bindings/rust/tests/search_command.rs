@@ -4,12 +4,10 @@ mod common;
 #[path = "common/program.rs"]
 mod program;
 
-use std::fs;
+use std::fs::{self, File};
 use std::io::Write;
 use std::os::unix::process::ExitStatusExt;
-use std::process::{Child, ChildStdin, Command, Stdio};
-use std::thread;
-use std::time::Duration;
+use std::process::{Child, Command, Stdio};
 
 use common::{searched, table, tree_table, Folder};
 use daybook::Layout;
@@ -265,26 +263,26 @@ const DAYS: u32 = 4096;
 
 /// A search that waits for its outcomes, with the pipe that it reads them from. It is started by env with
 /// these options: they say which signals are blocked, and so wait for it, and which are ignored.
-fn waiting(folder: &Folder, options: &[&str]) -> (Child, ChildStdin) {
-    let line = format!("search --scheme 3 --n 1 --f 1 --d {DAYS} --outcomes -");
+fn waiting(folder: &Folder, options: &[&str]) -> (Child, File) {
+    let pipe = folder.file("pipe");
+    if !pipe.exists() {
+        let made = Command::new("mkfifo").arg(&pipe).status().unwrap();
+        assert!(made.success());
+    }
+    let line = format!("search --scheme 3 --n 1 --f 1 --d {DAYS} --outcomes pipe");
     // a shell ignores SIGINT for what it starts in the background, and so would the search
-    let mut child = Command::new("env")
+    let child = Command::new("env")
         .arg("--default-signal=INT,TERM")
         .args(options)
         .arg(env!("CARGO_BIN_EXE_daybook"))
         .args(line.split_whitespace())
         .current_dir(folder.path())
-        .stdin(Stdio::piped())
         .stdout(Stdio::piped())
         .stderr(Stdio::piped())
         .spawn()
         .unwrap();
-    // env has made way for the search, which cannot go on before it has outcomes
-    let name = format!("/proc/{}/comm", child.id());
-    while fs::read_to_string(&name).unwrap() != "daybook\n" {
-        thread::sleep(Duration::from_millis(1));
-    }
-    let pipe = child.stdin.take().unwrap();
+    // it is open when the search has begun to read it
+    let pipe = File::options().write(true).open(pipe).unwrap();
     (child, pipe)
 }
 

@@ -48,11 +48,6 @@ fn fault(folder: &Folder, line: &str, text: &str) {
     assert!(messages.contains(text), "{line}: {messages}");
 }
 
-fn damaged(folder: &Folder, line: &str, text: &str) {
-    let messages = unchanged(folder, line, 6, "");
-    assert!(messages.contains(text), "{line}: {messages}");
-}
-
 fn repeated(folder: &Folder, line: &str) {
     let messages = unchanged(folder, line, 0, "");
     assert!(messages.contains("already"), "{line}: {messages}");
@@ -554,7 +549,7 @@ fn files_of_past_seasons() {
         for wrong in [&bytes[1..], &[], &longer] {
             fs::write(folder.file(name), wrong).unwrap();
             for line in all {
-                damaged(
+                fault(
                     &folder,
                     line,
                     &format!("{name} does not fit the state: it has"),
@@ -563,20 +558,16 @@ fn files_of_past_seasons() {
         }
         fs::remove_file(folder.file(name)).unwrap();
         for line in all {
-            damaged(
-                &folder,
-                line,
-                &format!("{name} does not fit the state: it is missing"),
-            );
+            fault(&folder, line, &format!("{name} cannot be read"));
         }
         let mut other = bytes.clone();
         other[bytes.len() / 2] ^= 1;
         fs::write(folder.file(name), other).unwrap();
         let differs =
             format!("{name} does not fit the state: its bytes are not those that seasons says");
-        damaged(&folder, "status s", &differs);
+        fault(&folder, "status s", &differs);
         for line in of(season) {
-            damaged(&folder, &line, &differs);
+            fault(&folder, &line, &differs);
         }
         repeated(&folder, "close s --day 2 day");
         unchanged(&folder, "locate --state s --d 256 --position 0", 3, "");
@@ -600,15 +591,11 @@ fn the_file_seasons() {
     for other in wrong {
         fs::write(folder.file("s/seasons"), other).unwrap();
         for line in ["status s", "close s --day 3 a", "status s --season 2"] {
-            damaged(&folder, line, "s/seasons does not fit the state");
+            fault(&folder, line, "s/seasons does not fit the state");
         }
     }
     fs::remove_file(folder.file("s/seasons")).unwrap();
-    damaged(
-        &folder,
-        "status s",
-        "s/seasons does not fit the state: it is missing",
-    );
+    fault(&folder, "status s", "s/seasons cannot be read");
     // bytes past what the record says are of a stopped run, up to a line
     fs::write(
         folder.file("s/seasons"),
@@ -619,7 +606,7 @@ fn the_file_seasons() {
     repeated_after_leavings(&folder, "close s --day 2");
     assert_eq!(read(&folder, "s/seasons"), text);
     fs::write(folder.file("s/seasons"), [&text[..], &text[..]].concat()).unwrap();
-    damaged(
+    fault(
         &folder,
         "status s",
         "s/seasons does not fit the state: the record says",
@@ -634,19 +621,19 @@ fn the_file_seasons() {
         fs::write(folder.file("s/seasons"), lines).unwrap();
     };
     lined(&lines);
-    damaged(
+    fault(
         &folder,
         "status s",
         "s/seasons does not fit the state: line 2 is not the next season",
     );
     lined(&seasons[0].line());
-    damaged(
+    fault(
         &folder,
         "status s",
         "s/seasons does not fit the state: it has 1 lines, and the season is 2",
     );
     lined("");
-    damaged(
+    fault(
         &folder,
         "status s",
         "s/seasons does not fit the state: it has 0 lines, and the season is 2",
@@ -710,8 +697,8 @@ fn leavings_of_a_turn() {
     ] {
         write(&folder.file("s"), &state);
         leave(name, &bytes);
-        damaged(&folder, "status s", older);
-        damaged(&folder, "close s --day 1 a", older);
+        fault(&folder, "status s", older);
+        fault(&folder, "close s --day 1 a", older);
     }
     // and where the season is not full, there is no next one
     write(
@@ -719,7 +706,7 @@ fn leavings_of_a_turn() {
         &files(&[&Season::of(LAYOUT, 0, 300)], b""),
     );
     leave("s/book-1", b"");
-    damaged(
+    fault(
         &folder,
         "status s",
         "300 days closed, and there is book-1, of a later season",
@@ -740,7 +727,7 @@ fn a_record_from_before_the_turn() {
     assert!(tree(&folder.file("s")) == once);
     said(&folder, "close s --day 2 b", "");
     fs::write(folder.file("s/record"), &record).unwrap();
-    damaged(&folder, "close s --day 1 a", "it is an older record");
+    fault(&folder, "close s --day 1 a", "it is an older record");
 }
 
 /// A day that is kept while the season turns is kept in its own season.
@@ -836,12 +823,12 @@ fn folders_of_version_2() {
         let mut start = files(&[&season], open);
         start[1].1 = layout_text(2, layout).into_bytes();
         write(&folder.file("s"), &start);
-        damaged(
+        fault(
             &folder,
             "status s",
             "s/layout does not fit the state: its format version is 2",
         );
-        damaged(&folder, "close s --day 9", "and that of the record is 3");
+        fault(&folder, "close s --day 9", "and that of the record is 3");
     }
 }
 

@@ -12,7 +12,7 @@ use crate::common::digest;
 /// Every file with its bytes and every folder, by their paths below a root.
 pub type Tree = BTreeMap<String, Option<Vec<u8>>>;
 
-/// The tree below a folder. A link is not followed, and a pipe is not read.
+/// The tree below a folder.
 pub fn tree(root: &Path) -> Tree {
     tree_without(root, &[])
 }
@@ -26,18 +26,12 @@ pub fn tree_without(root: &Path, left_out: &[PathBuf]) -> Tree {
         if left_out.contains(&entry) {
             continue;
         }
-        let kind = fs::symlink_metadata(&entry).unwrap().file_type();
-        if kind.is_symlink() {
-            let text = format!("link to {}", fs::read_link(&entry).unwrap().display());
-            all.insert(name, Some(text.into_bytes()));
-        } else if kind.is_dir() {
+        if entry.is_dir() {
             let below = tree_without(&entry, left_out).into_iter();
             all.extend(below.map(|(below, bytes)| (format!("{name}/{below}"), bytes)));
             all.insert(name, None);
-        } else if kind.is_file() {
-            all.insert(name, Some(fs::read(&entry).unwrap()));
         } else {
-            all.insert(name, Some(format!("{kind:?}").into_bytes()));
+            all.insert(name, Some(fs::read(&entry).unwrap()));
         }
     }
     all

@@ -287,13 +287,6 @@ pub fn hex(bytes: &[u8]) -> String {
     bytes.iter().map(|byte| format!("{byte:02x}")).collect()
 }
 
-/// A name that the program gives to a file while it is written.
-pub fn temporary(process: u32, number: u32) -> String {
-    let own = format!("{process}-{number}");
-    let check = hex(&digest(format!("daybook temporary {own}").as_bytes()));
-    format!(".daybook-{own}-{}.tmp", &check[..16])
-}
-
 /// A folder that is removed at the end of the test.
 pub struct Folder(PathBuf);
 

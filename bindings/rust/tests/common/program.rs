@@ -44,18 +44,8 @@ pub fn done(folder: &Folder, line: &str, out: &str) {
 
 /// The line is a fault, whose message has this text.
 pub fn fault(folder: &Folder, line: &str, text: &str) {
-    stopped(folder, line, 3, text);
-}
-
-/// The line finds a file of a state folder damaged, and says this.
-pub fn damaged(folder: &Folder, line: &str, text: &str) {
-    stopped(folder, line, 6, text);
-}
-
-/// The line ends with this status and prints nothing; its message has this text.
-pub fn stopped(folder: &Folder, line: &str, with: i32, text: &str) {
     let (status, out, messages) = run(folder, line);
-    assert_eq!((status, out.as_str()), (with, ""), "{line}: {messages}");
+    assert_eq!((status, out.as_str()), (3, ""), "{line}: {messages}");
     assert!(messages.starts_with("daybook: "), "{line}: {messages}");
     assert!(messages.contains(text), "{line}: {messages}");
 }

@@ -13,8 +13,7 @@ use crate::model::{self, plain, Call, Disk};
 const TRACED: &str = "trace=open,openat,openat2,creat,write,writev,pwrite64,pwritev,pwritev2,\
     truncate,ftruncate,fallocate,copy_file_range,sendfile,splice,fsync,fdatasync,sync,syncfs,\
     sync_file_range,msync,rename,renameat,renameat2,link,linkat,symlink,symlinkat,unlink,unlinkat,\
-    mkdir,mkdirat,rmdir,mknod,mknodat,fchmod,chmod,fchmodat,fchown,chown,\
-    fchownat,io_uring_enter";
+    mkdir,mkdirat,rmdir,mknod,mknodat,fchmod,chmod,fchmodat,io_uring_enter";
 
 /// A run to be stopped, and a command that prints the state without changing it.
 pub struct Step {

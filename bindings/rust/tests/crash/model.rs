@@ -367,13 +367,13 @@ pub fn put(root: &Path, tree: &Tree) {
     }
 }
 
-/// A tree with the number of the process and the check left out of temporary names, for comparing.
+/// A tree with the number of the process left out of temporary names, for comparing.
 pub fn plain(tree: &Tree) -> Tree {
     let name = |path: &String| {
         let parts = path
             .split('/')
             .map(|part| match part.strip_prefix(".daybook-") {
-                Some(rest) => format!(".daybook-N-{}", rest.split('-').nth(1).unwrap()),
+                Some(rest) => format!(".daybook-N{}", rest.trim_start_matches(char::is_numeric)),
                 None => part.to_string(),
             });
         parts.collect::<Vec<_>>().join("/")

@@ -69,14 +69,8 @@ static const char *path_of(int fd, char path[PATH_MAX]) {
   return path;
 }
 
-/* The path of a name; one below an open folder, as /proc/self/fd/5/name, is below that folder's path. */
 static const char *full_path(int folder, const char *name, char path[PATH_MAX]) {
   char front[PATH_MAX];
-  int fd, length = 0;
-  if (sscanf(name, "/proc/self/fd/%d/%n", &fd, &length) == 1 && length) {
-    folder = fd;
-    name += length;
-  }
   if (name[0] == '/') front[0] = 0;
   else if (folder == AT_FDCWD) { if (!getcwd(front, sizeof front)) front[0] = 0; }
   else path_of(folder, front);
@@ -220,7 +214,6 @@ int mkdirat(int folder, const char *name, mode_t mode) {
   CALL(syscall(SYS_mkdirat, folder, name, mode), "folder %s", full_path(folder, name, path));
 }
 int fchmod(int fd, mode_t mode) { CALL(syscall(SYS_fchmod, fd, mode), "%s", "none"); }
-int fchown(int fd, uid_t user, gid_t group) { CALL(syscall(SYS_fchown, fd, user, group), "%s", "none"); }
 int mkdir(const char *name, mode_t mode) { return mkdirat(AT_FDCWD, name, mode); }
 
 /* Calls that the model of the disk has no place for: a program that uses one must be looked at. */
@@ -244,5 +237,3 @@ UNKNOWN(pwritev64)
 UNKNOWN(pwritev2)
 UNKNOWN(sync_file_range)
 UNKNOWN(chmod)
-UNKNOWN(chown)
-UNKNOWN(fchownat)

@@ -5,9 +5,8 @@ use std::ops::RangeInclusive;
 
 use daybook::{Layout, DAYS_LIMIT, VALUE};
 
-/// What a value of the book is.
 #[derive(Clone, Copy, Debug, PartialEq, Eq)]
-pub enum ValueKind {
+pub enum Kind {
     /// Black: all days so far.
     Black,
     /// The tile chain c(i).
@@ -27,36 +26,34 @@ pub fn scheme_name(scheme: u32) -> &'static str {
     }
 }
 
-/// The chain of a value of the book, by its name.
+/// A chain, by its name.
 #[derive(Clone, Copy, Debug, PartialEq, Eq)]
-pub struct ValueChain {
-    pub kind: ValueKind,
+pub struct Chain {
+    pub kind: Kind,
     /// The day at whose close its value goes into the book.
     pub day: u32,
     n: u32,
 }
 
-impl ValueChain {
+impl Chain {
     /// The chain of a book that the library gives by its four.
-    pub fn named(chain: daybook::Chain, n: u32) -> ValueChain {
+    pub fn named(chain: daybook::Chain, n: u32) -> Chain {
         let (kind, day) = match chain.kind {
-            daybook::Kind::Black => (ValueKind::Black, chain.last),
-            daybook::Kind::Tile => (ValueKind::Tile(chain.index), chain.first + n - 1),
-            daybook::Kind::Tree => (ValueKind::Tree(chain.index), chain.last),
+            daybook::Kind::Black => (Kind::Black, chain.last),
+            daybook::Kind::Tile => (Kind::Tile(chain.index), chain.first + n - 1),
+            daybook::Kind::Tree => (Kind::Tree(chain.index), chain.last),
         };
-        ValueChain { kind, day, n }
+        Chain { kind, day, n }
     }
 
     /// The days covered, as runs from one day to another, ascending.
     pub fn runs(&self) -> Vec<(u32, u32)> {
         let last = self.day;
         match self.kind {
-            ValueKind::Black => vec![(1, last)],
-            ValueKind::Tree(level) | ValueKind::Root(level) => {
-                vec![(last - (1 << level) + 1, last)]
-            }
-            ValueKind::Tile(0) => vec![(last - self.n + 1, last)],
-            ValueKind::Tile(i) => {
+            Kind::Black => vec![(1, last)],
+            Kind::Tree(level) | Kind::Root(level) => vec![(last - (1 << level) + 1, last)],
+            Kind::Tile(0) => vec![(last - self.n + 1, last)],
+            Kind::Tile(i) => {
                 let (first, weight) = (last - self.n + 1, self.n >> i);
                 let starts = (0..1 << (i - 1)).map(|run| first + 2 * weight * run);
                 starts.map(|start| (start, start + weight - 1)).collect()
@@ -65,13 +62,13 @@ impl ValueChain {
     }
 }
 
-impl fmt::Display for ValueChain {
+impl fmt::Display for Chain {
     fn fmt(&self, out: &mut fmt::Formatter<'_>) -> fmt::Result {
         match self.kind {
-            ValueKind::Black => write!(out, "black at day {}", self.day)?,
-            ValueKind::Tile(i) => write!(out, "tile chain c({i}) at day {}", self.day)?,
-            ValueKind::Tree(level) => write!(out, "tree level {level} at day {}", self.day)?,
-            ValueKind::Root(level) => {
+            Kind::Black => write!(out, "black at day {}", self.day)?,
+            Kind::Tile(i) => write!(out, "tile chain c({i}) at day {}", self.day)?,
+            Kind::Tree(level) => write!(out, "tree level {level} at day {}", self.day)?,
+            Kind::Root(level) => {
                 write!(out, "tree level {level}, also black, at day {}", self.day)?;
             }
         }
@@ -103,46 +100,38 @@ pub fn runs_listed(runs: &[(u32, u32)]) -> String {
 }
 
 /// All chains of `d` days in book order, for a layout that is allowed.
-pub fn chains(layout: Layout, d: u32) -> impl Iterator<Item = ValueChain> {
+pub fn chains(layout: Layout, d: u32) -> impl Iterator<Item = Chain> {
     (1..=d).flat_map(move |day| closing(layout, day))
 }
 
-/// The chain at a position of a season's book, in words; of a position beyond every book, its number.
-pub fn chain_text(layout: Layout, position: u32) -> String {
-    match chains(layout, DAYS_LIMIT).nth(position as usize) {
-        Some(chain) => chain.to_string(),
-        None => format!("position {position}"),
-    }
-}
-
 /// The chains that close at a day.
-fn closing(layout: Layout, day: u32) -> Vec<ValueChain> {
+fn closing(layout: Layout, day: u32) -> Vec<Chain> {
     let n = layout.n;
     let ends = day.is_multiple_of(n);
-    let kinds: Vec<ValueKind> = match layout.scheme {
+    let kinds: Vec<Kind> = match layout.scheme {
         Layout::TREE => {
             let top = day.trailing_zeros();
             let once = ends && day.is_power_of_two();
             let last = if once {
-                ValueKind::Root(top)
+                Kind::Root(top)
             } else {
-                ValueKind::Tree(top)
+                Kind::Tree(top)
             };
-            let black = (ends && !once).then_some(ValueKind::Black);
+            let black = (ends && !once).then_some(Kind::Black);
             (0..top)
-                .map(ValueKind::Tree)
+                .map(Kind::Tree)
                 .chain([last])
                 .chain(black)
                 .collect()
         }
         _ if !ends => vec![],
         Layout::TILE => {
-            let tiles = (0..=n.ilog2()).map(ValueKind::Tile);
-            tiles.chain([ValueKind::Black]).collect()
+            let tiles = (0..=n.ilog2()).map(Kind::Tile);
+            tiles.chain([Kind::Black]).collect()
         }
-        _ => vec![ValueKind::Black],
+        _ => vec![Kind::Black],
     };
-    let chain = |kind| ValueChain { kind, day, n };
+    let chain = |kind| Chain { kind, day, n };
     kinds.into_iter().map(chain).collect()
 }
 
@@ -198,7 +187,7 @@ mod tests {
     #[test]
     fn the_chains_are_those_of_the_request() {
         for layout in layouts() {
-            let days = |chain: ValueChain| -> Vec<u32> {
+            let days = |chain: Chain| -> Vec<u32> {
                 let runs = chain.runs().into_iter();
                 runs.flat_map(|(first, last)| first..=last).collect()
             };
@@ -213,7 +202,7 @@ mod tests {
         for layout in layouts() {
             for (place, chain) in chains(layout, 48).enumerate() {
                 let four = daybook::chain_at(layout, 48, place as u32).unwrap();
-                let named = ValueChain::named(four, layout.n);
+                let named = Chain::named(four, layout.n);
                 assert_eq!(named.runs(), chain.runs(), "{layout}, {place}");
                 assert_eq!(named.day, chain.day, "{layout}, {place}");
             }

@@ -1,7 +1,7 @@
 //! The days that a tile lists, by N and by k, as an SVG picture.
 
-use crate::commands::ambiguity::{Counted, ALTERED, SIZES};
-use crate::commands::forecast::grouped;
+use crate::ambiguity::{Counted, ALTERED, SIZES};
+use crate::forecast::grouped;
 use crate::svg::{short, Svg};
 
 const WIDTH: f64 = 800.0;

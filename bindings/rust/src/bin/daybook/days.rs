@@ -7,12 +7,9 @@ use std::path::{Path, PathBuf};
 
 use daybook::{Refusal, Service, DAYS_LIMIT, DAY_LIMIT};
 
-use crate::files::{front_given, is_input, read_still, reserved, unread, Reading};
-use crate::matching::Entry;
-use crate::names::shown;
-use crate::plain;
+use crate::arguments::Source;
+use crate::files::{open, read_front, reserved, unread};
 use crate::progress::Progress;
-use crate::state;
 use crate::stop::Stop;
 
 /// Bytes handed to the service at a time.
@@ -20,10 +17,12 @@ const PIECE: usize = 65_536;
 
 /// The days of a source, found but not yet read.
 pub enum Days {
-    /// A file for each day, in order; none for a day that is taken for empty.
-    Files(Vec<Option<PathBuf>>),
-    /// A file, or `-` for standard input, and where each day ends.
-    Ledger { ledger: PathBuf, ends: Vec<u32> },
+    /// A file for each day, in order.
+    Files(Vec<PathBuf>),
+    Ledger {
+        ledger: PathBuf,
+        ends: Vec<u32>,
+    },
 }
 
 /// The bytes of the days, and where each ends.
@@ -35,11 +34,14 @@ pub struct Ledger {
 }
 
 impl Days {
-    pub fn of_ledger(ledger: &Path, ends: &Path) -> Result<Days, Stop> {
-        Ok(Days::Ledger {
-            ledger: ledger.to_path_buf(),
-            ends: read_ends(ends)?,
-        })
+    pub fn find(source: &Source) -> Result<Days, Stop> {
+        match source {
+            Source::Folder(folder) => Ok(Days::Files(day_files(folder)?)),
+            Source::Ledger { ledger, ends } => Ok(Days::Ledger {
+                ledger: ledger.clone(),
+                ends: read_ends(ends)?,
+            }),
+        }
     }
 
     /// The number of days. Past the limit of days it may be less than the source has.
@@ -51,19 +53,22 @@ impl Days {
         u32::try_from(count).unwrap_or(u32::MAX)
     }
 
-    /// The same in words.
-    pub fn found_text(&self) -> String {
-        found_text(self.count() as usize, matches!(self, Days::Files(_)))
+    /// The names of the days, where each is a file.
+    pub fn names(&self) -> Option<Vec<OsString>> {
+        match self {
+            Days::Files(files) => Some(file_names(files)),
+            Days::Ledger { .. } => None,
+        }
     }
 
     /// The length of the whole ledger, of which this was read.
     pub fn length(&self, read: &Ledger) -> u64 {
         let read = read.bytes.len() as u64;
         match self {
-            Days::Ledger { ledger, .. } if !is_input(ledger) => fs::metadata(ledger)
+            Days::Files(_) => read,
+            Days::Ledger { ledger, .. } => fs::metadata(ledger)
                 .map_or(read, |file| file.len())
                 .max(read),
-            _ => read,
         }
     }
 
@@ -76,55 +81,33 @@ impl Days {
     }
 }
 
-/// The number of days found, in words. Of a list no more are read than tell that it has too many.
-pub fn found_text(count: usize, whole: bool) -> String {
-    match count > DAYS_LIMIT as usize && !whole {
-        true => format!("more than {DAYS_LIMIT}"),
-        false => count.to_string(),
-    }
-}
-
-/// The entries of a folder of days, in byte order of their names.
-pub fn entries(folder: &Path) -> Result<Vec<Entry>, Stop> {
-    if state::is_state(folder) {
-        return Err(Stop::Fault(format!(
-            "{} is a state folder, not a folder of days",
-            shown(folder)
-        )));
-    }
-    let mut entries = Vec::new();
+/// The files of a folder in byte order of their names. An entry that is no file is a fault.
+pub fn day_files(folder: &Path) -> Result<Vec<PathBuf>, Stop> {
+    let mut files = Vec::new();
     for entry in fs::read_dir(folder).map_err(|error| unread(folder, error))? {
-        let entry = entry.map_err(|error| unread(folder, error))?;
-        entries.push(Entry {
-            plain: fs::metadata(entry.path()).is_ok_and(|file| file.is_file()),
-            name: entry.file_name(),
-        });
+        let path = entry.map_err(|error| unread(folder, error))?.path();
+        let kind = fs::metadata(&path).map_err(|error| unread(&path, error))?;
+        if !kind.is_file() {
+            return Err(unread(&path, "a day must be a regular file"));
+        }
+        files.push(path);
     }
-    entries.sort_by(|a, b| a.name.as_encoded_bytes().cmp(b.name.as_encoded_bytes()));
-    Ok(entries)
+    files.sort_by(|a, b| name_bytes(a).cmp(name_bytes(b)));
+    Ok(files)
 }
 
-/// The names of a folder's files, in byte order. An entry that is no file is a fault.
-pub fn file_names(folder: &Path) -> Result<Vec<OsString>, Stop> {
-    let entries = entries(folder)?.into_iter();
-    let name = |entry: Entry| match entry.plain {
-        true => Ok(entry.name),
-        false => Err(unread(&folder.join(entry.name), plain::NOT_PLAIN)),
-    };
-    entries.map(name).collect()
+pub fn file_names(files: &[PathBuf]) -> Vec<OsString> {
+    let names = files.iter().filter_map(|path| path.file_name());
+    names.map(OsString::from).collect()
 }
 
-/// The bytes of a day. Of one over its limit one byte more is read: enough to be refused.
-pub fn read_day(path: &Path) -> Result<Vec<u8>, Stop> {
-    let mut bytes = Vec::new();
-    read_still(path, u64::from(DAY_LIMIT) + 1, &mut bytes)?;
-    Ok(bytes)
+fn name_bytes(path: &Path) -> &[u8] {
+    path.file_name().unwrap_or_default().as_encoded_bytes()
 }
 
 /// The ends in a file. One more than a book can have is enough to tell that there are too many.
 fn read_ends(path: &Path) -> Result<Vec<u32>, Stop> {
-    let mut bytes = Vec::new();
-    read_still(path, 4 * (u64::from(DAYS_LIMIT) + 1), &mut bytes)?;
+    let (bytes, _) = read_front(path, 4 * (u64::from(DAYS_LIMIT) + 1))?;
     if bytes.len() % 4 != 0 {
         return Err(unread(path, "its length is not a multiple of 4"));
     }
@@ -141,7 +124,7 @@ fn ends_of(bytes: &[u8]) -> Vec<u32> {
 /// Reads the ledger up to the last end needed: more of it has no part in any answer.
 fn load_ledger(path: &Path, ends: &[u32], d: u32) -> Result<Ledger, Stop> {
     let last = (d as usize).checked_sub(1).and_then(|at| ends.get(at));
-    let (bytes, more) = front_given(path, last.map_or(0, |end| u64::from(*end)))?;
+    let (bytes, more) = read_front(path, last.map_or(0, |end| u64::from(*end)))?;
     Ok(Ledger {
         bytes,
         ends: ends.to_vec(),
@@ -150,15 +133,14 @@ fn load_ledger(path: &Path, ends: &[u32], d: u32) -> Result<Ledger, Stop> {
 }
 
 /// Reads the files end to end. Of a day over its limit one byte more is read: enough to be refused.
-fn load_files(files: &[Option<PathBuf>]) -> Result<Ledger, Stop> {
+fn load_files(files: &[PathBuf]) -> Result<Ledger, Stop> {
     let most = u64::from(DAY_LIMIT) + 1;
     let mut bytes = reserved(total(files, most)?)?;
     let mut ends = Vec::with_capacity(files.len());
     let mut progress = Progress::new("reading", files.len());
     for path in files {
-        if let Some(path) = path {
-            read_still(path, most, &mut bytes)?;
-        }
+        let read = open(path)?.take(most).read_to_end(&mut bytes);
+        read.map_err(|error| unread(path, error))?;
         ends.push(u32::try_from(bytes.len()).map_err(|_| too_long())?);
         progress.done(ends.len());
     }
@@ -170,9 +152,9 @@ fn load_files(files: &[Option<PathBuf>]) -> Result<Ledger, Stop> {
 }
 
 /// The bytes of the files together, at most `most` of each.
-fn total(files: &[Option<PathBuf>], most: u64) -> Result<u64, Stop> {
+fn total(files: &[PathBuf], most: u64) -> Result<u64, Stop> {
     let mut total = 0;
-    for path in files.iter().flatten() {
+    for path in files {
         let length = fs::metadata(path).map_err(|error| unread(path, error))?;
         total += length.len().min(most);
     }
@@ -192,22 +174,12 @@ pub enum Halt {
     Stopped(Stop),
 }
 
-/// Adds the file to the open day, in pieces. A file that changes meanwhile is not refused: it is at
-/// fault.
+/// Adds the file to the open day, in pieces.
 pub fn add_file(service: &mut Service, path: &Path) -> Result<(), Halt> {
-    let mut reading = Reading::of(path).map_err(Halt::Stopped)?;
-    let added = add_pieces(service, path, &mut reading);
-    if let Err(Halt::Stopped(_)) = added {
-        return added;
-    }
-    reading.end().map_err(Halt::Stopped)?;
-    added
-}
-
-fn add_pieces(service: &mut Service, path: &Path, from: &mut impl Read) -> Result<(), Halt> {
+    let mut file = open(path).map_err(Halt::Stopped)?;
     let mut piece = [0; PIECE];
     loop {
-        match from.read(&mut piece) {
+        match file.read(&mut piece) {
             Ok(0) => return Ok(()),
             Ok(length) => {
                 service.add(&piece[..length]).map_err(Halt::Refused)?;

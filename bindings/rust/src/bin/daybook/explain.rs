@@ -2,7 +2,7 @@
 
 use daybook::{position_of, Kind, Layout, DAY_LIMIT, VALUE};
 
-use crate::chains::{chains, run_text, ValueChain};
+use crate::chains::{chains, run_text, Chain};
 
 /// Refusal 10: the first of `d` days whose end is wrong, and why. `length` is that of the ledger.
 pub fn bad_end(ends: &[u32], d: u32, length: u64, names: Option<&[String]>) -> Option<String> {
@@ -74,7 +74,7 @@ pub fn bad_outcome(layout: Layout, d: u32, outcomes: &[u8]) -> Option<String> {
 pub fn impossible_value(layout: Layout, d: u32, outcomes: &[u8]) -> Option<String> {
     let open = days_not_cleared(layout, d, outcomes);
     let before = |day: u32| open[day as usize];
-    let contradicted = |chain: &ValueChain| {
+    let contradicted = |chain: &Chain| {
         let runs = chain.runs();
         runs.iter()
             .all(|(first, last)| before(first - 1) == before(*last))
@@ -107,9 +107,8 @@ fn days_not_cleared(layout: Layout, d: u32, outcomes: &[u8]) -> Vec<u32> {
     open
 }
 
-/// A value by its position, counted from 0 as everywhere.
-fn value_name(place: usize, chain: &ValueChain) -> String {
-    format!("the value at position {place} of the book ({chain})")
+fn value_name(place: usize, chain: &Chain) -> String {
+    format!("value {} of the book ({chain})", place + 1)
 }
 
 /// Refusal 18: a position beyond the book's values.
@@ -223,18 +222,18 @@ mod tests {
         let said = |layout, d, table: &[u8]| impossible_value(layout, d, table);
         assert_eq!(
             said(Layout::tile(4, 1), 4, &[1, 1, 1, 0]).unwrap(),
-            "the value at position 3 of the book (black at day 4, over days 1 to 4) fails, \
+            "value 4 of the book (black at day 4, over days 1 to 4) fails, \
              though each day that it covers is in a value that passes"
         );
         assert_eq!(
             said(Layout::tree(1), 2, &[1, 1, 0]).unwrap(),
-            "the value at position 2 of the book (tree level 1, also black, at day 2, over days 1 to 2) fails, \
+            "value 3 of the book (tree level 1, also black, at day 2, over days 1 to 2) fails, \
              though each day that it covers is in a value that passes"
         );
         // day 2 fails alone, and a pass over both days clears it
-        assert!(said(Layout::tree(1), 2, &[1, 0, 1]).unwrap().starts_with(
-            "the value at position 1 of the book (tree level 0 at day 2, over day 2)"
-        ));
+        assert!(said(Layout::tree(1), 2, &[1, 0, 1])
+            .unwrap()
+            .starts_with("value 2 of the book (tree level 0 at day 2, over day 2)"));
         assert_eq!(said(Layout::tree(1), 2, &[1, 0, 0]), None);
     }
 
@@ -371,7 +370,7 @@ mod tests {
         );
         assert_eq!(
             bad_outcome(Layout::black(2, 1), 4, &[1, 7]).unwrap(),
-            "the value at position 1 of the book (black at day 4, over days 1 to 4) is 7"
+            "value 2 of the book (black at day 4, over days 1 to 4) is 7"
         );
         assert_eq!(bad_outcome(Layout::black(2, 1), 4, &[1, 0, 9]), None);
     }

@@ -4,7 +4,7 @@ use std::fmt::Write;
 
 use daybook::{Layout, Reading};
 
-use crate::chains::{chains, scheme_name, ValueChain, ValueKind};
+use crate::chains::{chains, scheme_name, Chain, Kind};
 use crate::summary::{runs_of, when};
 use crate::svg::{short, Svg};
 
@@ -40,7 +40,7 @@ pub struct Verified<'a> {
 /// A row of bars: chains that do not overlap, each with its outcome.
 struct Row {
     label: String,
-    bars: Vec<(ValueChain, u8)>,
+    bars: Vec<(Chain, u8)>,
 }
 
 impl Verified<'_> {
@@ -61,19 +61,19 @@ impl Verified<'_> {
 
     /// The rows from above: tree levels or tile chains, then black.
     fn rows(&self) -> Vec<Row> {
-        let values: Vec<(ValueChain, u8)> = chains(self.layout, self.d)
+        let values: Vec<(Chain, u8)> = chains(self.layout, self.d)
             .zip(self.outcomes.iter().copied())
             .collect();
         let mut rows: Vec<Row> = Vec::new();
         let mut blacks = Vec::new();
         for (chain, outcome) in values {
             let (place, label) = match chain.kind {
-                ValueKind::Black => {
+                Kind::Black => {
                     blacks.push((chain, outcome));
                     continue;
                 }
-                ValueKind::Tile(i) => (i as usize, format!("tile c({i})")),
-                ValueKind::Tree(level) | ValueKind::Root(level) => {
+                Kind::Tile(i) => (i as usize, format!("tile c({i})")),
+                Kind::Tree(level) | Kind::Root(level) => {
                     (level as usize, format!("tree level {level}"))
                 }
             };
@@ -157,8 +157,8 @@ impl Verified<'_> {
 }
 
 /// A row for each black value; of many the last that passes, the first that fails and the last.
-fn black_rows(blacks: &[(ValueChain, u8)]) -> Vec<Row> {
-    let row = |bar: &(ValueChain, u8)| Row {
+fn black_rows(blacks: &[(Chain, u8)]) -> Vec<Row> {
+    let row = |bar: &(Chain, u8)| Row {
         label: format!("black at {}", bar.0.day),
         bars: vec![*bar],
     };

@@ -1,159 +1,33 @@
 //! Files read to a length, and files replaced whole.
 
 use std::fmt::Display;
-use std::fs::{self, File, Metadata};
+use std::fs::{self, File};
 use std::io::{self, Read, Write};
-use std::os::unix::fs::MetadataExt;
 use std::path::{Path, PathBuf};
 
 use crate::leavings::{self, parent};
-use crate::names::shown;
-use crate::plain::{self, identity, For};
-use crate::renaming::rename_new;
 use crate::state;
 use crate::stop::Stop;
 
 /// Links in a row that the system follows.
 const MOST_LINKS: u32 = 40;
 
-/// The first `need` bytes of a file, or all where it has fewer, and whether it has more. A file in a
-/// state folder is opened as one.
+/// The first `need` bytes of a file, or all where it has fewer, and whether it has more.
 pub fn read_front(path: &Path, need: u64) -> Result<(Vec<u8>, bool), Stop> {
-    match state::is_state(path.parent().unwrap_or(path)) {
-        true => state::read_front(path, need),
-        false => front_of(path, open(path)?, need),
-    }
-}
-
-/// The same of a file that is open.
-pub fn front_of(path: &Path, file: File, need: u64) -> Result<(Vec<u8>, bool), Stop> {
+    let file = open(path)?;
     let length = file.metadata().map_err(|error| unread(path, error))?.len();
     let mut bytes = reserved(length.min(need + 1))?;
     let read = file.take(need + 1).read_to_end(&mut bytes);
     read.map_err(|error| unread(path, error))?;
-    Ok(cut_front(bytes, need))
-}
-
-/// The same of a file that must not change meanwhile, or of standard input.
-pub fn front_given(path: &Path, need: u64) -> Result<(Vec<u8>, bool), Stop> {
-    let length = fs::metadata(path).map_or(0, |file| file.len());
-    let mut bytes = reserved(length.min(need + 1))?;
-    read_given(path, need + 1, &mut bytes)?;
-    Ok(cut_front(bytes, need))
-}
-
-/// The bytes up to `need` of them, and whether there are more.
-fn cut_front(mut bytes: Vec<u8>, need: u64) -> (Vec<u8>, bool) {
     let more = bytes.len() as u64 > need;
     if more {
-        bytes.truncate(need as usize);
+        bytes.pop();
     }
-    (bytes, more)
+    Ok((bytes, more))
 }
 
 pub fn open(path: &Path) -> Result<File, Stop> {
-    plain::named(path, For::Reading).map_err(|unfit| unread(path, unfit))
-}
-
-/// The length of a file that the user names.
-pub fn length_of(path: &Path) -> Result<u64, Stop> {
-    let file = open(path)?.metadata();
-    file.map(|file| file.len())
-        .map_err(|error| unread(path, error))
-}
-
-/// Whether a name stands for standard input.
-pub fn is_input(path: &Path) -> bool {
-    path.as_os_str() == "-"
-}
-
-/// Reads at most `most` bytes of a file that the user names, or of standard input, behind the bytes.
-pub fn read_given(path: &Path, most: u64, bytes: &mut Vec<u8>) -> Result<(), Stop> {
-    if !is_input(path) {
-        return read_still(path, most, bytes);
-    }
-    match io::stdin().lock().take(most).read_to_end(bytes) {
-        Ok(_) => Ok(()),
-        Err(error) => Err(unread(path, error)),
-    }
-}
-
-/// The same of a file alone, which must not change meanwhile.
-pub fn read_still(path: &Path, most: u64, bytes: &mut Vec<u8>) -> Result<(), Stop> {
-    let mut reading = Reading::of(path)?;
-    let read = (&mut reading).take(most).read_to_end(bytes);
-    read.map_err(|error| unread(path, error))?;
-    reading.end()
-}
-
-/// A file that the user names, which must not change while it is read.
-pub struct Reading<'a> {
-    path: &'a Path,
-    file: File,
-    before: Stamp,
-    /// The bytes read so far.
-    read: u64,
-    /// Whether its end was met.
-    ended: bool,
-}
-
-/// What changes with a file.
-#[derive(PartialEq, Eq)]
-struct Stamp {
-    identity: (u64, u64),
-    length: u64,
-    modified: (i64, i64),
-    changed: (i64, i64),
-}
-
-impl Stamp {
-    fn of(file: &Metadata) -> Stamp {
-        Stamp {
-            identity: identity(file),
-            length: file.len(),
-            modified: (file.mtime(), file.mtime_nsec()),
-            changed: (file.ctime(), file.ctime_nsec()),
-        }
-    }
-}
-
-impl Reading<'_> {
-    pub fn of(path: &Path) -> Result<Reading<'_>, Stop> {
-        let file = open(path)?;
-        let before = file.metadata().map_err(|error| unread(path, error))?;
-        Ok(Reading {
-            path,
-            file,
-            before: Stamp::of(&before),
-            read: 0,
-            ended: false,
-        })
-    }
-
-    /// Ends the reading: the file is the one that was opened, as it was then.
-    pub fn end(self) -> Result<(), Stop> {
-        let path = self.path;
-        let after = self.file.metadata().map_err(|error| unread(path, error))?;
-        let same = Stamp::of(&after) == self.before;
-        let whole = !self.ended || self.read == self.before.length;
-        let there = fs::metadata(path).is_ok_and(|file| identity(&file) == self.before.identity);
-        match same && whole && there {
-            true => Ok(()),
-            false => Err(Stop::Fault(format!(
-                "{} changed while it was read: nothing is written",
-                shown(path)
-            ))),
-        }
-    }
-}
-
-impl Read for Reading<'_> {
-    fn read(&mut self, buffer: &mut [u8]) -> io::Result<usize> {
-        let length = self.file.read(buffer)?;
-        self.read += length as u64;
-        self.ended |= length == 0 && !buffer.is_empty();
-        Ok(length)
-    }
+    File::open(path).map_err(|error| unread(path, error))
 }
 
 /// An empty vector with room for so many bytes.
@@ -167,11 +41,11 @@ pub fn reserved(length: u64) -> Result<Vec<u8>, Stop> {
 }
 
 pub fn unread(path: &Path, error: impl Display) -> Stop {
-    Stop::Fault(format!("{} cannot be read: {error}", shown(path)))
+    Stop::Fault(format!("{} cannot be read: {error}", path.display()))
 }
 
 pub fn unwritten(path: &Path, error: impl Display) -> Stop {
-    Stop::Fault(format!("{} cannot be written: {error}", shown(path)))
+    Stop::Fault(format!("{} cannot be written: {error}", path.display()))
 }
 
 /// Where a file to be written stands: an existing regular file, or a new name in an existing folder.
@@ -251,7 +125,7 @@ impl Staged {
     }
 
     fn fill(&mut self, bytes: &[u8]) -> io::Result<()> {
-        if let Ok(old) = plain::known(&self.place) {
+        if let Ok(old) = fs::metadata(&self.place) {
             self.file.set_permissions(old.permissions())?;
         }
         self.file.write_all(bytes)?;
@@ -260,62 +134,38 @@ impl Staged {
 
     /// Takes the file's place, in one step.
     pub fn commit(mut self) -> Result<(), Stop> {
-        self.test_place()?;
-        if !plain::is_still(&self.temporary, &self.file) {
-            return Err(unwritten(&self.temporary, "another file took its name"));
-        }
         fs::rename(&self.temporary, &self.place).map_err(|error| unwritten(&self.place, error))?;
         self.moved = true;
-        self.flushed()
-    }
-
-    /// Makes sure that the file lasts in its place.
-    fn flushed(&self) -> Result<(), Stop> {
         self.flush_folder().map_err(|error| {
-            let place = shown(&self.place);
+            let place = self.place.display();
             Stop::Fault(format!(
                 "{place} is written, but its folder cannot be flushed: {error}"
             ))
         })
     }
 
-    /// Takes a place where no file is, in one step: one that another run has made meanwhile stays.
-    pub fn commit_new(mut self) -> Result<(), Stop> {
-        rename_new(&self.temporary, &self.place).map_err(|error| unwritten(&self.place, error))?;
-        self.moved = true;
-        self.flushed()
-    }
-
     /// Takes the file's place after another file took its own. In between there is none, so that the
     /// old one never stands beside the other new one.
     pub fn commit_after(self, other: Staged) -> Result<(), Stop> {
-        match plain::remove(&self.place) {
+        match fs::remove_file(&self.place) {
             Ok(()) => self
                 .flush_folder()
                 .map_err(|error| unwritten(&self.place, error))?,
-            Err(unfit) if unfit.is_missing() => {}
-            Err(unfit) => return Err(unwritten(&self.place, unfit)),
+            Err(error) if error.kind() == io::ErrorKind::NotFound => {}
+            Err(error) => return Err(unwritten(&self.place, error)),
         }
         other.commit()?;
         self.commit()
     }
 
-    /// What stands in the file's place is a plain file, or nothing.
-    fn test_place(&self) -> Result<(), Stop> {
-        match plain::replaceable(&self.place) {
-            Ok(_) => Ok(()),
-            Err(unfit) => Err(unwritten(&self.place, unfit)),
-        }
-    }
-
     fn flush_folder(&self) -> io::Result<()> {
-        plain::folder(parent(&self.place))?.sync_all()
+        File::open(parent(&self.place))?.sync_all()
     }
 }
 
 impl Drop for Staged {
     fn drop(&mut self) {
-        if !self.moved && plain::is_still(&self.temporary, &self.file) {
+        if !self.moved {
             let _ = fs::remove_file(&self.temporary);
         }
     }
@@ -333,12 +183,12 @@ pub fn test_written(
         if state::is_state(parent(&here)) {
             return Err(unwritten(
                 path,
-                "it stands in a state folder, which open, add, close and rebuild alone write",
+                "it stands in a state folder, which open, add and close alone write",
             ));
         }
         if let Some((folder, Some(full))) = &folder {
             if here.parent() == Some(full) {
-                let (path, folder) = (shown(path), shown(folder));
+                let (path, folder) = (path.display(), folder.display());
                 return Err(Stop::Fault(format!(
                     "{path} would be a day: it stands in the folder of days {folder}"
                 )));
@@ -346,56 +196,10 @@ pub fn test_written(
         }
         for other in written[..index].iter().chain(others) {
             if place(other).is_ok_and(|there| there == here) {
-                let (path, other) = (shown(path), shown(other));
+                let (path, other) = (path.display(), other.display());
                 return Err(Stop::Fault(format!("{path} and {other} are the same file")));
             }
         }
     }
     Ok(())
-}
-
-#[cfg(test)]
-mod tests {
-    use super::*;
-    use std::process;
-
-    /// Reads a file of two bytes, with something done after the first.
-    fn read_while(done: impl Fn(&Path)) -> Result<Vec<u8>, Stop> {
-        let folder = std::env::temp_dir().join(format!("daybook-reading-{}", process::id()));
-        fs::create_dir(&folder).unwrap();
-        let path = folder.join("day");
-        fs::write(&path, "12").unwrap();
-        let mut reading = Reading::of(&path).unwrap();
-        let mut bytes = vec![0];
-        reading.read_exact(&mut bytes).unwrap();
-        done(&path);
-        reading.read_to_end(&mut bytes).unwrap();
-        let ended = reading.end();
-        fs::remove_dir_all(&folder).unwrap();
-        ended.map(|()| bytes)
-    }
-
-    #[test]
-    fn files_that_change_while_they_are_read() {
-        assert_eq!(read_while(|_| {}), Ok(b"12".to_vec()));
-        let other = |path: &Path| path.with_file_name("other");
-        let changes: [&dyn Fn(&Path); 6] = [
-            &|path| fs::write(path, "123").unwrap(),
-            &|path| fs::write(path, "1").unwrap(),
-            &|path| fs::write(path, "34").unwrap(),
-            &|path| fs::remove_file(path).unwrap(),
-            &|path| fs::rename(path, other(path)).unwrap(),
-            &|path| {
-                fs::write(other(path), "12").unwrap();
-                fs::rename(other(path), path).unwrap();
-            },
-        ];
-        for change in changes {
-            let Err(Stop::Fault(message)) = read_while(change) else {
-                panic!("it is not seen")
-            };
-            let said = message.ends_with("/day changed while it was read: nothing is written");
-            assert!(said, "{message}");
-        }
-    }
 }

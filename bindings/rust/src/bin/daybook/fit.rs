@@ -1,13 +1,16 @@
 //! How the days found fit the book: D where it is not given, and which files are strange or missing.
 
+use std::collections::BTreeSet;
 use std::ffi::OsString;
 use std::ops::RangeInclusive;
 
 use daybook::{Layout, DAYS_LIMIT, VALUE};
 
 use crate::chains::book_days;
-use crate::days::found_text;
-use crate::names::{field, fields, Doubts, MOST};
+use crate::names::{field, fields, Doubts};
+
+/// Names said at once.
+const MOST: usize = 8;
 
 /// The days found, and the book that they are checked against.
 pub struct Fit<'a> {
@@ -36,8 +39,7 @@ impl Fit<'_> {
         }
     }
 
-    /// What D is a multiple of.
-    pub fn step(&self) -> u32 {
+    fn step(&self) -> u32 {
         self.layout.f * self.layout.n
     }
 
@@ -51,8 +53,7 @@ impl Fit<'_> {
         self.names.is_none_or(|names| Doubts::of(names).none())
     }
 
-    /// The numbers of days that the book can be of.
-    pub fn days(&self) -> Option<RangeInclusive<u32>> {
+    fn days(&self) -> Option<RangeInclusive<u32>> {
         book_days(self.layout, self.book?)
     }
 
@@ -79,30 +80,30 @@ impl Fit<'_> {
     pub fn misfit(&self) -> Vec<String> {
         let mut lines = vec![self.counts()];
         let doubts = self.names.map(Doubts::of).unwrap_or_default();
-        lines.extend(doubts.reasons());
+        if !doubts.strays.is_empty() {
+            let names = fields(doubts.strays.iter(), MOST);
+            lines.push(format!("not named as the others are: {names}"));
+        }
+        if !doubts.missing.is_empty() {
+            let names = fields(doubts.missing.iter(), MOST);
+            lines.push(format!("left out in the numbering: {names}"));
+        }
         if doubts.strays.is_empty() {
             lines.extend(self.beyond());
         }
         lines
     }
 
-    /// How many days there are, and how many there should be.
-    pub fn counts(&self) -> String {
+    fn counts(&self) -> String {
         let found = match self.names {
-            Some(names @ [_, ..]) => files_found(names),
-            _ => format!("{} days found", found_text(self.found as usize, false)),
+            Some([only]) => format!("1 file found ({})", field(only)),
+            Some([first, .., last]) => {
+                let (first, last) = (field(first), field(last));
+                format!("{} files found, from {first} to {last}", self.found)
+            }
+            _ => format!("{} days found", self.found),
         };
         format!("{found}; {}", self.wanted())
-    }
-
-    /// What is said where the first D of more files than the book has days are taken.
-    pub fn left_behind(&self, d: u32) -> String {
-        let behind = self.names.and_then(|names| names.get(d as usize..));
-        let names = fields(behind.unwrap_or_default().iter(), MOST);
-        format!(
-            "note: {}. Days 1 to {d} are taken, and left behind: {names}",
-            self.counts()
-        )
     }
 
     /// How many days there should be.
@@ -148,21 +149,42 @@ impl Fit<'_> {
     }
 }
 
-/// How many files there are, and the first and last of them.
-pub fn files_found(names: &[OsString]) -> String {
-    match names {
-        [] => "no file found".to_string(),
-        [only] => format!("1 file found ({})", field(only)),
-        [first, .., last] => {
-            let (first, last) = (field(first), field(last));
-            format!("{} files found, from {first} to {last}", names.len())
-        }
-    }
+/// The first day whose file here has another name than the one that it was sealed from, where one of
+/// the two stands at another day. Names are fields; of a source the last part of its path counts.
+pub fn moved(sealed: &[String], found: &[String]) -> Option<String> {
+    let last = |source: &'_ String| source.rsplit('/').next().unwrap_or_default().to_string();
+    let sources: BTreeSet<String> = sealed.iter().map(last).collect();
+    let files: BTreeSet<&String> = found.iter().collect();
+    let mut days = (1u32..).zip(sealed.iter().zip(found));
+    let (day, (source, here)) = days.find(|(_, (source, here))| {
+        let name = last(source);
+        name != **here && (files.contains(&name) || sources.contains(*here))
+    })?;
+    Some(format!(
+        "day {day} was sealed from {source}, and is the file {here} here"
+    ))
 }
 
 #[cfg(test)]
 mod tests {
     use super::*;
+
+    #[test]
+    fn files_that_moved() {
+        let own = |names: &[&str]| -> Vec<String> { names.iter().map(|n| n.to_string()).collect() };
+        let said = |sealed: &[&str], found: &[&str]| moved(&own(sealed), &own(found));
+        assert_eq!(said(&["in/1", "in/2"], &["1", "2"]), None);
+        assert_eq!(said(&["-", "a + b"], &["1", "2"]), None);
+        assert_eq!(said(&["in/1", "in/2"], &["1", "3"]), None);
+        assert_eq!(
+            said(&["in/1", "in/2"], &[".swp", "1", "2"]).unwrap(),
+            "day 1 was sealed from in/1, and is the file .swp here"
+        );
+        assert_eq!(
+            said(&["1", "2", "3"], &["1", "3"]).unwrap(),
+            "day 2 was sealed from 2, and is the file 3 here"
+        );
+    }
 
     #[test]
     fn files_of_a_state() {

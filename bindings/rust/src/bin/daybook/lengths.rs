@@ -7,17 +7,10 @@ use std::path::{Path, PathBuf};
 
 use daybook::DAYS_LIMIT;
 
-use crate::days::{file_names, found_text};
-use crate::files::{is_input, open, unread};
+use crate::arguments::Lengths;
+use crate::days::{day_files, file_names};
+use crate::files::{open, unread};
 use crate::stop::Stop;
-
-/// Where the lengths of the days are.
-#[derive(Debug, PartialEq, Eq)]
-pub enum Lengths {
-    Folder(PathBuf),
-    /// A text, or - for standard input.
-    Text(PathBuf),
-}
 
 /// The lengths of a source. One that does not fit 32 bits, and so no day, is the greatest that does.
 pub struct Found {
@@ -29,7 +22,7 @@ pub struct Found {
 impl Found {
     pub fn find(source: &Lengths) -> Result<Found, Stop> {
         match source {
-            Lengths::Folder(folder) => of_files(folder, file_names(folder)?),
+            Lengths::Folder(folder) => of_files(&day_files(folder)?),
             Lengths::Text(path) => Ok(Found {
                 lengths: read(path)?,
                 names: None,
@@ -41,29 +34,24 @@ impl Found {
     pub fn count(&self) -> u32 {
         u32::try_from(self.lengths.len()).unwrap_or(u32::MAX)
     }
-
-    /// The same in words.
-    pub fn found_text(&self) -> String {
-        found_text(self.lengths.len(), self.names.is_some())
-    }
 }
 
 /// The lengths of files that are not read.
-fn of_files(folder: &Path, names: Vec<OsString>) -> Result<Found, Stop> {
-    let length = |name: &OsString| match fs::metadata(folder.join(name)) {
+fn of_files(files: &[PathBuf]) -> Result<Found, Stop> {
+    let length = |path: &PathBuf| match fs::metadata(path) {
         Ok(file) => Ok(u32::try_from(file.len()).unwrap_or(u32::MAX)),
-        Err(error) => Err(unread(&folder.join(name), error)),
+        Err(error) => Err(unread(path, error)),
     };
     Ok(Found {
-        lengths: names.iter().map(length).collect::<Result<_, _>>()?,
-        names: Some(names),
+        lengths: files.iter().map(length).collect::<Result<_, _>>()?,
+        names: Some(file_names(files)),
     })
 }
 
 fn read(path: &Path) -> Result<Vec<u32>, Stop> {
-    match is_input(path) {
-        true => read_lines(path, io::stdin().lock()),
-        false => read_lines(path, open(path)?),
+    match path.as_os_str().as_encoded_bytes() {
+        b"-" => read_lines(path, io::stdin().lock()),
+        _ => read_lines(path, open(path)?),
     }
 }
 

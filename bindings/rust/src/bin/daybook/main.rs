@@ -2,44 +2,40 @@
 
 #![deny(unsafe_code)]
 
+mod ambiguity;
 mod arguments;
 mod chains;
 mod chart;
-mod command;
 mod commands;
 mod days;
+mod evidence;
 mod explain;
 mod figure;
 mod files;
 mod fit;
+mod forecast;
+mod help;
 mod leavings;
 mod lengths;
-mod line;
-mod matching;
+mod locate;
 mod names;
 mod older;
-mod options;
-mod plain;
 mod progress;
-#[allow(unsafe_code)]
-mod renaming;
-mod replacing;
+mod search;
 #[allow(unsafe_code)]
 mod signals;
 mod state;
 mod stop;
 mod summary;
 mod svg;
-mod table;
-mod work;
 
 use std::env;
 use std::io::{self, Write};
 use std::process::ExitCode;
 
-use command::{Answer, Done};
+use arguments::Request;
+use commands::{Answer, Done};
 use daybook::Refusal;
-use line::Request;
 use stop::Stop;
 
 const CLEAN: u8 = 0;
@@ -47,12 +43,14 @@ const CHANGED: u8 = 1;
 const REFUSED: u8 = 2;
 const FAULT: u8 = 3;
 const UNDECIDED: u8 = 4;
-const IN_USE: u8 = 5;
-const DAMAGED: u8 = 6;
 
 fn main() -> ExitCode {
-    let request = line::parse(env::args_os().skip(1));
-    ExitCode::from(end(request.and_then(Request::run)))
+    let status = match arguments::parse(env::args_os().skip(1)) {
+        Ok(Request::Help(text)) => print(text, CLEAN),
+        Ok(Request::Run(command)) => end(commands::run(&command)),
+        Err(stop) => end(Err(stop)),
+    };
+    ExitCode::from(status)
 }
 
 /// Prints what came of a command and gives the exit status.
@@ -73,8 +71,6 @@ fn end(result: Result<Done, Stop>) -> u8 {
         Stop::Refused(refusal, _) => refused(refusal, &[]),
         Stop::Explained(refusal, _, lines) => refused(refusal, &lines),
         Stop::Fault(_) => FAULT,
-        Stop::InUse(_) => IN_USE,
-        Stop::Damaged(_) => DAMAGED,
         Stop::Usage(_) => {
             let _ = writeln!(io::stderr(), "Try: daybook --help");
             FAULT

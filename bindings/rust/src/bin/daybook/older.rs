@@ -4,7 +4,6 @@
 use std::fmt::Display;
 use std::path::Path;
 
-use crate::names::shown;
 use crate::stop::Stop;
 
 /// Where it stands how the days of before are sealed again.
@@ -17,30 +16,30 @@ pub const FOLDER: &str =
 
 /// A file of a state folder that is of before.
 pub fn file(path: &Path, what: impl Display) -> Stop {
-    let path = shown(path);
+    let path = path.display();
     Stop::Fault(format!("{path}: {what} ({HOW}). Nothing is written"))
 }
 
 /// Where the book that was checked comes from.
 #[derive(Clone, Copy, Debug, PartialEq, Eq)]
-pub enum Origin {
+pub enum Book {
     /// A file, which has values and nothing else.
-    File,
+    Given,
     /// A state folder, whose record tells its layout and how its chains start.
-    State,
+    OfState,
 }
 
 /// What it may mean that no value of a book passes; nothing where one does.
-pub fn note(outcomes: &[u8], origin: Origin) -> Option<String> {
+pub fn note(outcomes: &[u8], book: Book) -> Option<String> {
     if outcomes.is_empty() || outcomes.contains(&1) {
         return None;
     }
-    let else_what = match origin {
-        Origin::File => format!(
+    let else_what = match book {
+        Book::Given => format!(
             "or the book may be of another season, of another layout (another scheme or N) or of \
              a delivery before 0.8.0, and then it says nothing of these days ({HOW})"
         ),
-        Origin::State => "or these may not be the days that were sealed in this season: by the \
+        Book::OfState => "or these may not be the days that were sealed in this season: by the \
              folder's record the book is of version 0.8.0 or later, and of this layout"
             .to_string(),
     };

@@ -1,5 +1,5 @@
 //! SIGINT and SIGTERM while a search goes on: they wait, and the search asks for them between its steps.
-//! All unsafe code of the program is here and in `renaming`.
+//! All unsafe code of the program is here.
 
 use std::ffi::c_void;
 use std::fs;

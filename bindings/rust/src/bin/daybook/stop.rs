@@ -12,10 +12,6 @@ pub enum Stop {
     Explained(Refusal, String, Vec<String>),
     /// A file could not be read or written, or does not have its form.
     Fault(String),
-    /// Another run holds the state folder.
-    InUse(String),
-    /// A file of the state folder is not what the others say; with what to do.
-    Damaged(String),
     /// The words of the command line are not a command.
     Usage(String),
 }
@@ -27,10 +23,7 @@ impl fmt::Display for Stop {
                 let number = refusal.number();
                 write!(out, "refusal {number} ({context}): {refusal}")
             }
-            Stop::Fault(message)
-            | Stop::InUse(message)
-            | Stop::Damaged(message)
-            | Stop::Usage(message) => out.write_str(message),
+            Stop::Fault(message) | Stop::Usage(message) => out.write_str(message),
         }
     }
 }

@@ -3,9 +3,10 @@
 
 use std::path::Path;
 
-use super::files::{at, misfit, read_front};
+use super::files::{at, misfit};
 use super::form::{layout_age, record_age, Age, RECORD_MOST};
 use super::{LAYOUT, RECORD};
+use crate::files::read_front;
 use crate::older;
 use crate::stop::Stop;
 

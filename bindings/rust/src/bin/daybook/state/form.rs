@@ -40,7 +40,7 @@ impl Extent {
 
 /// What the file `record` says: the service's record, and what the other files hold with it.
 #[derive(Clone, Debug, PartialEq, Eq)]
-pub struct RecordFile {
+pub struct Record {
     pub service: Service,
     pub book: Extent,
     pub index: Extent,
@@ -52,11 +52,11 @@ pub struct RecordFile {
     pub seasons: Extent,
 }
 
-impl RecordFile {
+impl Record {
     /// The record of a service that has just been opened.
-    pub fn fresh(service: Service) -> RecordFile {
+    pub fn fresh(service: Service) -> Record {
         let none = Extent::of(&[]);
-        RecordFile {
+        Record {
             service,
             book: none,
             index: none,
@@ -80,7 +80,7 @@ impl RecordFile {
         bytes
     }
 
-    pub fn from_bytes(bytes: &[u8]) -> Result<RecordFile, String> {
+    pub fn from_bytes(bytes: &[u8]) -> Result<Record, String> {
         let line = first_line(bytes);
         let version = known_version(line, RECORD_START)?;
         let (body, checksum) = bytes
@@ -133,7 +133,7 @@ pub fn record_age(bytes: &[u8]) -> Age {
     match version_of(line, RECORD_START) {
         Some(EARLIER_VERSION) => Age::Older(format!("format version {EARLIER_VERSION}: {words}")),
         Some(VERSION_WITHOUT_SEASON)
-            if RecordFile::from_bytes(bytes).is_err() && has_earlier_form(bytes) =>
+            if Record::from_bytes(bytes).is_err() && has_earlier_form(bytes) =>
         {
             Age::Older(words.to_string())
         }
@@ -190,29 +190,13 @@ pub fn record_version(bytes: &[u8]) -> Option<u32> {
     version_of(first_line(bytes), RECORD_START)
 }
 
-/// Whether bytes are those of a fresh `layout` or `record`, or the front of one. After a power cut there
-/// may be zeros in their place.
-pub fn is_front(bytes: &[u8], start: Start) -> bool {
-    let start = match start {
-        Start::Layout => LAYOUT_START.as_bytes(),
-        Start::Record => RECORD_START.as_bytes(),
-    };
-    bytes.starts_with(start) || start.starts_with(bytes) || bytes.iter().all(|byte| *byte == 0)
-}
-
-/// A file that begins with words of its own.
-pub enum Start {
-    Layout,
-    Record,
-}
-
 /// What is left to be taken apart.
 struct Fields<'a>(&'a [u8]);
 
 impl Fields<'_> {
     /// The fields of a record of this format version. One without a season is of season 0, and has
     /// no past one.
-    fn record(&mut self, version: u32) -> Option<RecordFile> {
+    fn record(&mut self, version: u32) -> Option<Record> {
         let numbered = version != VERSION_WITHOUT_SEASON;
         let service = match numbered {
             true => Service::from_bytes(*self.take::<RECORD>()?),
@@ -223,7 +207,7 @@ impl Fields<'_> {
             true => self.extent()?,
             false => Extent::of(&[]),
         };
-        Some(RecordFile {
+        Some(Record {
             service,
             book,
             index,
@@ -305,38 +289,28 @@ impl Line {
     }
 }
 
-/// A line of `clean`: a day that verified clean, and the digests of the fronts of book and index of so
-/// many days.
+/// A line of `clean`: a day that verified clean, and the digest of the book's front of so many days.
 #[derive(Clone, Copy, Debug, PartialEq, Eq)]
 pub struct CleanDay {
     pub day: u32,
-    pub book: Digest,
-    /// None in a line of version 0.9, which fits no index.
-    pub index: Option<Digest>,
+    pub digest: Digest,
 }
 
 /// Bytes that are enough for a line of each day.
-pub const CLEAN_MOST: u64 = DAYS_LIMIT as u64 * (5 + 2 * (1 + 2 * VALUE as u64) + 1);
+pub const CLEAN_MOST: u64 = DAYS_LIMIT as u64 * (5 + 1 + 2 * VALUE as u64 + 1);
 
 impl CleanDay {
     pub fn text(&self) -> String {
-        let index = self
-            .index
-            .map_or(String::new(), |index| format!(",{}", hex(&index)));
-        format!("{},{}{index}\n", self.day, hex(&self.book))
+        format!("{},{}\n", self.day, hex(&self.digest))
     }
 
     /// The line that a text is, with its line feed.
     pub fn parse(text: &[u8]) -> Option<CleanDay> {
         let text = std::str::from_utf8(text).ok()?;
-        let mut fields = text.strip_suffix('\n')?.split(',');
+        let (day, digest) = text.strip_suffix('\n')?.split_once(',')?;
         let line = CleanDay {
-            day: fields.next()?.parse().ok()?,
-            book: digest_of(fields.next()?)?,
-            index: match fields.next() {
-                Some(index) => Some(digest_of(index)?),
-                None => None,
-            },
+            day: day.parse().ok()?,
+            digest: digest_of(digest)?,
         };
         (line.day <= DAYS_LIMIT && line.text() == text).then_some(line)
     }
@@ -394,7 +368,7 @@ fn number_of<T: FromStr>(text: &str) -> Option<T> {
 }
 
 /// A digest in small hex digits.
-pub fn digest_of(text: &str) -> Option<Digest> {
+fn digest_of(text: &str) -> Option<Digest> {
     let mut digest = [0; VALUE];
     if text.len() != 2 * VALUE {
         return None;
@@ -435,10 +409,10 @@ const AND: &str = " + ";
 mod tests {
     use super::*;
 
-    fn record() -> RecordFile {
+    fn record() -> Record {
         let mut service = Service::open(Layout::tile(16, 2)).unwrap();
         service.add(b"rye").unwrap();
-        let mut record = RecordFile::fresh(service);
+        let mut record = Record::fresh(service);
         record.day = Extent::of(b"rye");
         record.names = "a.csv".to_string();
         record
@@ -447,7 +421,7 @@ mod tests {
     #[test]
     fn a_record_to_bytes_and_back() {
         let bytes = record().to_bytes();
-        assert_eq!(RecordFile::from_bytes(&bytes), Ok(record()));
+        assert_eq!(Record::from_bytes(&bytes), Ok(record()));
         assert_eq!(bytes.len(), 17 + 728 + 4 * 40 + 4 + 5 + 32);
     }
 
@@ -465,7 +439,7 @@ mod tests {
     fn a_record_of_version_2_is_of_season_0() {
         let bytes = without_season();
         assert_eq!(bytes.len(), 17 + 724 + 3 * 40 + 4 + 5 + 32);
-        assert_eq!(RecordFile::from_bytes(&bytes), Ok(record()));
+        assert_eq!(Record::from_bytes(&bytes), Ok(record()));
         assert_eq!(record_version(&bytes), Some(2));
         assert_eq!(record_version(&record().to_bytes()), Some(3));
         // neither has the other's form
@@ -473,7 +447,7 @@ mod tests {
             let mut bytes = from[..from.len() - VALUE].to_vec();
             bytes[15] = to;
             bytes.extend(digest(&bytes));
-            assert!(RecordFile::from_bytes(&bytes).is_err(), "{}", to as char);
+            assert!(Record::from_bytes(&bytes).is_err(), "{}", to as char);
         }
     }
 
@@ -517,18 +491,18 @@ mod tests {
         for at in 0..bytes.len() {
             let mut other = bytes.clone();
             other[at] ^= 1;
-            assert!(RecordFile::from_bytes(&other).is_err(), "byte {at}");
+            assert!(Record::from_bytes(&other).is_err(), "byte {at}");
             assert!(
-                RecordFile::from_bytes(&bytes[..at]).is_err(),
+                Record::from_bytes(&bytes[..at]).is_err(),
                 "the first {at} bytes"
             );
         }
-        assert!(RecordFile::from_bytes(&[&bytes[..], &[0]].concat()).is_err());
+        assert!(Record::from_bytes(&[&bytes[..], &[0]].concat()).is_err());
     }
 
     #[test]
     fn versions() {
-        let message = |bytes: &[u8]| RecordFile::from_bytes(bytes).unwrap_err();
+        let message = |bytes: &[u8]| Record::from_bytes(bytes).unwrap_err();
         assert!(message(b"").contains("does not begin with"));
         for version in ["1", "4", "22"] {
             let line = format!("daybook record {version}\n");
@@ -643,17 +617,10 @@ mod tests {
     fn lines_of_clean_days() {
         let line = CleanDay {
             day: 64,
-            book: digest(b"rye"),
-            index: Some(digest(b"oats")),
+            digest: digest(b"rye"),
         };
         let text = line.text();
         assert_eq!(CleanDay::parse(text.as_bytes()), Some(line));
-        let before = CleanDay {
-            index: None,
-            ..line
-        };
-        assert_eq!(before.text().len(), 2 + 1 + 64 + 1);
-        assert_eq!(CleanDay::parse(before.text().as_bytes()), Some(before));
         let no = |text: &str| assert_eq!(CleanDay::parse(text.as_bytes()), None, "{text}");
         no("");
         no("\n");

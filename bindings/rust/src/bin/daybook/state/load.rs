@@ -7,18 +7,14 @@ use daybook::RECORD_WITHOUT_SEASON;
 use daybook::{Layout, Refusal, Service, DAYS_LIMIT, DAY_LIMIT, EARLIER_RECORD, LAST_SEASON, PART};
 
 use super::age;
-use super::files::{append, at, commit, create, cut, day_name, day_of, front, misfit};
-use super::files::{is_clean, is_own, stray, sync_folder, test_past_length, Like};
-use super::files::{not_read, not_written, of_season, put, read_front, record_bytes, season_of};
-use super::form::{layout_text, record_version, test_layout, Extent, Line, PastSeason, RecordFile};
+use super::files::{append, at, commit, cut, day_name, day_of, front, misfit, put, record_bytes};
+use super::files::{of_season, season_of, sync_folder, test_past_length};
+use super::form::{layout_text, record_version, test_layout, Extent, Line, PastSeason, Record};
 use super::form::{LINE_MOST, PAST_MOST, VERSION};
 use super::lock::{self, Access};
 use super::season::Season;
-use super::{Folder, MARKS};
-use super::{BOOK, CLEAN_NEW, INDEX, LAYOUT, LAYOUT_NEW, REBUILDING, RECORD, RECORD_NEW, SEASONS};
-use crate::files::unread;
-use crate::names::shown;
-use crate::plain::{self, Unfit};
+use super::{BOOK, CLEAN_NEW, INDEX, LAYOUT, LAYOUT_NEW, RECORD, RECORD_NEW, SEASONS};
+use crate::files::{read_front, unread, unwritten};
 use crate::say;
 use crate::stop::Stop;
 
@@ -28,7 +24,7 @@ pub struct State {
     _lock: File,
     /// The format version of the file `layout`.
     version: u32,
-    pub record: RecordFile,
+    pub record: Record,
     /// The present season.
     pub season: Season,
     /// The past ones, from season 0 on.
@@ -51,16 +47,20 @@ enum Left {
 impl State {
     /// Reads and tests all files of a state folder. Of past seasons only the lengths are tested.
     /// Nothing is written.
-    pub fn load(folder: &Folder, access: Access) -> Result<State, Stop> {
-        test_folder(&folder.path)?;
-        age::test(&folder.path)?;
+    pub fn load(folder: &Path, access: Access) -> Result<State, Stop> {
+        if !folder.is_dir() {
+            return Err(unread(
+                folder,
+                "it is not a folder (daybook open makes a state folder)",
+            ));
+        }
+        age::test(folder)?;
         let lock = lock::take(folder, access)?;
-        let folder = &folder.path;
         let (record, version) = load_record(folder)?;
         let mut season = Season::fresh(folder, record.service.layout(), record.service.season());
         season.days = record.service.days();
         let mut state = State {
-            folder: folder.clone(),
+            folder: folder.to_path_buf(),
             _lock: lock,
             version,
             season,
@@ -111,7 +111,7 @@ impl State {
             Some(line) => Season::past(&self.folder, self.layout(), line),
             None => Err(Stop::Fault(format!(
                 "{}: there is no season {season} yet: the present one is {}",
-                shown(&self.folder),
+                self.folder.display(),
                 self.season.number
             ))),
         }
@@ -144,7 +144,7 @@ impl State {
     /// The bytes of the last closed day, whose line this is, where they were added and are still there.
     pub fn last_day(&self, line: &Line) -> Result<Option<Vec<u8>>, Stop> {
         let path = self.path(&day_name(line.day));
-        if plain::is_missing(&path) {
+        if !path.is_file() {
             return Ok(None);
         }
         let (bytes, _) = read_front(&path, line.bytes)?;
@@ -166,11 +166,11 @@ impl State {
             match left {
                 Left::Tail(path, length) => say(&format!(
                     "note: a stopped run left bytes in {} past the first {length}: not part of the state",
-                    shown(&path)
+                    path.display()
                 )),
                 Left::File(path) => say(&format!(
                     "note: a stopped run left {}: not part of the state",
-                    shown(&path)
+                    path.display()
                 )),
             }
         }
@@ -178,17 +178,14 @@ impl State {
 
     /// Makes sure that the record is on disk, and takes away what a stopped run left.
     pub fn settle(&mut self) -> Result<(), Stop> {
-        for left in &self.left {
-            if let Left::Tail(path, _) = left {
-                plain::test_in_place(path).map_err(not_written(path))?;
-            }
-        }
         sync_folder(&self.folder)?;
         self.say_left();
         for left in std::mem::take(&mut self.left) {
             match left {
                 Left::Tail(path, length) => cut(&path, length)?,
-                Left::File(path) => plain::remove(&path).map_err(not_written(&path))?,
+                Left::File(path) => {
+                    fs::remove_file(&path).map_err(|error| unwritten(&path, error))?
+                }
             }
         }
         Ok(())
@@ -213,16 +210,15 @@ impl State {
     }
 
     /// Writes a piece of the open day and commits the record that has it.
-    pub fn commit_add(&mut self, record: RecordFile, piece: &[u8]) -> Result<(), Stop> {
-        let path = self.path(&day_name(self.season.days + 1));
+    pub fn commit_add(&mut self, record: Record, piece: &[u8]) -> Result<(), Stop> {
+        self.prepare()?;
+        if self.begins {
+            append(&self.season.path(BOOK), 0, &[])?;
+            append(&self.season.path(INDEX), 0, &[])?;
+        }
         let begun = self.record.day.length == 0 && !piece.is_empty();
-        let goes_on = !begun && !piece.is_empty();
-        self.prepare(Vec::from_iter(goes_on.then(|| path.clone())))?;
-        self.write_season(&[], &[])?;
-        if begun {
-            let like = Like::file(&self.path(RECORD))?.private();
-            create(&path, piece, like)?;
-        } else if goes_on {
+        if !piece.is_empty() {
+            let path = self.path(&day_name(self.season.days + 1));
             append(&path, self.record.day.length, piece)?;
         }
         if begun || self.begins {
@@ -232,61 +228,29 @@ impl State {
     }
 
     /// Writes the values of a day and its line, and commits the record that has them.
-    pub fn commit_close(
-        mut self,
-        record: RecordFile,
-        values: &[u8],
-        line: &Line,
-    ) -> Result<(), Stop> {
-        let written = [(BOOK, !values.is_empty()), (INDEX, true)];
-        let written = written
-            .iter()
-            .filter(|(_, goes_on)| *goes_on && !self.begins);
-        self.prepare(written.map(|(name, _)| self.season.path(name)).collect())?;
+    pub fn commit_close(mut self, record: Record, values: &[u8], line: &Line) -> Result<(), Stop> {
+        self.prepare()?;
+        if self.begins || !values.is_empty() {
+            let path = self.season.path(BOOK);
+            append(&path, self.record.book.length, values)?;
+        }
         let text = line.text();
-        self.write_season(values, text.as_bytes())?;
+        let path = self.season.path(INDEX);
+        append(&path, self.record.index.length, text.as_bytes())?;
         if self.begins {
             sync_folder(&self.folder)?;
         }
         commit(&self.folder, &record)?;
         // the bytes of the day before the closed one; the next run finds them if this fails
         if let Some((_, day)) = self.last_closed() {
-            let _ = plain::remove(&self.path(&day_name(day)));
+            let _ = fs::remove_file(self.path(&day_name(day)));
         }
         Ok(())
     }
 
-    /// Writes values and a line behind those of the season. Where it begins, its files are made, as
-    /// those of the season before.
-    fn write_season(&self, values: &[u8], line: &[u8]) -> Result<(), Stop> {
-        let record = &self.record;
-        for (name, extent, bytes) in [(BOOK, record.book, values), (INDEX, record.index, line)] {
-            let path = self.season.path(name);
-            if self.begins {
-                create(&path, bytes, self.like_before(name)?)?;
-            } else if !bytes.is_empty() {
-                append(&path, extent.length, bytes)?;
-            }
-        }
-        Ok(())
-    }
-
-    /// As a file of the season before the one that begins.
-    fn like_before(&self, name: &str) -> Result<Like, Stop> {
-        let before = of_season(name, self.season.number.saturating_sub(1));
-        Ok(Like::file(&self.path(&before))?.writable())
-    }
-
-    /// Before anything else is written: the files that are written in place have no other name, which
-    /// would be written too, what a stopped run left is gone, the folder has this program's format
-    /// version, and a season that ends has its line.
-    fn prepare(&mut self, mut in_place: Vec<PathBuf>) -> Result<(), Stop> {
-        if self.begins && self.past.len() > 1 {
-            in_place.push(self.path(SEASONS));
-        }
-        for path in in_place {
-            plain::test_in_place(&path).map_err(not_written(&path))?;
-        }
+    /// Before anything else is written: what a stopped run left is gone, the folder has this program's
+    /// format version, and a season that ends has its line.
+    fn prepare(&mut self) -> Result<(), Stop> {
         self.settle()?;
         if self.version != VERSION {
             let text = layout_text(self.layout());
@@ -295,11 +259,9 @@ impl State {
             sync_folder(&self.folder)?;
         }
         if let (true, Some(past)) = (self.begins, self.past.last()) {
-            let (path, text) = (self.path(SEASONS), past.text());
-            match self.record.seasons.length - text.len() as u64 {
-                0 => create(&path, text.as_bytes(), self.like_before(INDEX)?)?,
-                length => append(&path, length, text.as_bytes())?,
-            }
+            let text = past.text();
+            let length = self.record.seasons.length - text.len() as u64;
+            append(&self.path(SEASONS), length, text.as_bytes())?;
         }
         Ok(())
     }
@@ -370,7 +332,7 @@ impl State {
     /// The past seasons. There need be no file where there are none.
     fn load_seasons(&mut self) -> Result<(), Stop> {
         let (path, extent) = (self.path(SEASONS), self.record.seasons);
-        if extent.length == 0 && plain::is_missing(&path) {
+        if extent.length == 0 && !path.exists() {
             return self.test_seasons(&path);
         }
         let front = front(&path, extent, PAST_MOST)?;
@@ -420,17 +382,8 @@ impl State {
             let name = entry.file_name();
             let name = name.to_str().unwrap_or_default();
             let unused = |day: u32| Some(day) != open && Some(day) != closed;
-            let new = [RECORD_NEW, LAYOUT_NEW, CLEAN_NEW, REBUILDING].contains(&name);
-            let unused = new || day_of(name).is_some_and(unused);
-            match plain::known(&entry.path()) {
-                Err(Unfit::Strange(what)) if unused => return Err(stray(&entry.path(), what)),
-                // a file of clean days stops nothing, whatever it is
-                Err(unfit) if is_own(name) && !is_clean(name) => {
-                    return Err(not_read(&entry.path())(unfit))
-                }
-                _ => {}
-            }
-            if unused || self.is_later(name)? {
+            let new = [RECORD_NEW, LAYOUT_NEW, CLEAN_NEW].contains(&name);
+            if new || day_of(name).is_some_and(unused) || self.is_later(name)? {
                 self.left.push(Left::File(entry.path()));
             }
         }
@@ -459,34 +412,19 @@ impl State {
     }
 }
 
-/// A state folder has at least one of the files that tell it.
-fn test_folder(folder: &Path) -> Result<(), Stop> {
-    if !folder.is_dir() {
-        return Err(unread(
-            folder,
-            "it is not a folder (daybook open makes a state folder)",
-        ));
-    }
-    let missing = |name: &str| plain::is_missing(&at(folder, name));
-    match MARKS.into_iter().all(missing) {
-        true => Err(Stop::Fault(format!(
-            "{} is not a state folder (daybook open makes one)",
-            shown(folder)
-        ))),
-        false => Ok(()),
-    }
-}
-
 /// The record, which is of the layout beside it and which the service can go on from, and the format
 /// version of that layout.
-fn load_record(folder: &Path) -> Result<(RecordFile, u32), Stop> {
+fn load_record(folder: &Path) -> Result<(Record, u32), Stop> {
     let layout_path = at(folder, LAYOUT);
     let (text, _) = read_front(&layout_path, 1024)?;
     let path = at(folder, RECORD);
     let bytes = record_bytes(&path)?;
-    let record = RecordFile::from_bytes(&bytes).map_err(|what| misfit(&path, what))?;
+    let record = Record::from_bytes(&bytes).map_err(|what| misfit(&path, what))?;
     if record.service.clone().add(&[]) == Err(Refusal::BadRecord) {
-        return Err(Stop::Refused(Refusal::BadRecord, shown(&path)));
+        return Err(Stop::Refused(
+            Refusal::BadRecord,
+            path.display().to_string(),
+        ));
     }
     let version =
         test_layout(&text, record.service.layout()).map_err(|what| misfit(&layout_path, what))?;

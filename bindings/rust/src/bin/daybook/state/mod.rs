@@ -1,4 +1,4 @@
-//! A service kept in a folder, day by day: what `open`, `add`, `close`, `status` and `rebuild` do.
+//! A service kept in a folder, day by day: the commands `open`, `add`, `close` and `status`.
 //!
 //! A run takes the lock, reads all files and tests them against the record, and writes only what goes
 //! beyond the record. Then it commits: a new record takes the place of the old one. A run that is
@@ -17,40 +17,19 @@ mod lock;
 mod sealed;
 mod season;
 
-use std::fs;
-use std::path::{Path, PathBuf};
-use std::time::Duration;
+use std::ffi::OsString;
+use std::path::Path;
 
 use daybook::Layout;
 
+use crate::commands::{Answer, Done};
 use crate::stop::Stop;
 use load::State;
 use lock::Access;
 
-pub use build::{is_fresh, open, rebuild, SealedAgain, FRESH_MOST, REBUILDING_TEXT};
-pub use clean::CleanDays;
-pub use day::{add, close, Expected};
-pub use digest::{digest, hex};
-pub use files::{is_own, read_front};
-pub use form::digest_of;
+pub use clean::Kept;
+pub use day::Day;
 pub use sealed::Sealed;
-
-/// A state folder, and how long a run waits for its lock.
-#[derive(Clone, Debug, PartialEq, Eq)]
-pub struct Folder {
-    pub path: PathBuf,
-    pub wait: Duration,
-}
-
-impl Folder {
-    /// Where another run has the lock, it is not waited for.
-    pub fn now(path: impl Into<PathBuf>) -> Folder {
-        Folder {
-            path: path.into(),
-            wait: Duration::ZERO,
-        }
-    }
-}
 
 /// The files of a state folder. Beside them stands a file for the bytes of the open day. Book, index
 /// and clean days are those of season 0; from season 1 on their names have its number.
@@ -65,21 +44,53 @@ const SEASONS: &str = "seasons";
 /// The days that verified clean; a folder that keeps none need not have it.
 const CLEAN: &str = "clean";
 const CLEAN_NEW: &str = "clean.new";
-pub const LOCK: &str = "lock";
-/// It is there while a folder is made anew.
-pub const REBUILDING: &str = "rebuilding";
+const LOCK: &str = "lock";
 
-/// The files that tell a state folder, whatever they are.
-const MARKS: [&str; 3] = [LOCK, LAYOUT, RECORD];
-
-/// Whether a folder is a state folder, whole or not: one of the files that tell it may be missing.
-pub fn is_state(folder: &Path) -> bool {
-    let there = |name: &&str| fs::symlink_metadata(folder.join(name)).is_ok();
-    MARKS.into_iter().filter(there).count() + 1 >= MARKS.len()
+/// A command on a state folder.
+#[derive(Debug, PartialEq, Eq)]
+pub enum Service {
+    Open {
+        layout: Layout,
+    },
+    /// Adds files to the open day, which had `at` bytes before.
+    Add {
+        day: Day,
+        at: u32,
+        files: Vec<OsString>,
+    },
+    /// Closes the open day, of the files where there are some.
+    Close {
+        day: Day,
+        files: Vec<OsString>,
+    },
+    /// Says where the service stands, or what one of its seasons has.
+    Status {
+        season: Option<u32>,
+    },
 }
 
-/// Where the service stands, or what one of its seasons has.
-pub fn status(folder: &Folder, season: Option<u32>) -> Result<String, Stop> {
+/// Whether a folder is a state folder, whole or not.
+pub fn is_state(folder: &Path) -> bool {
+    let has = |name: &str| folder.join(name).is_file();
+    has(LOCK) && (has(LAYOUT) || has(RECORD))
+}
+
+pub fn run(folder: &Path, service: &Service) -> Result<Done, Stop> {
+    let lines = match service {
+        Service::Open { layout } => build::open(folder, *layout).map(|()| String::new()),
+        Service::Add { day, at, files } => {
+            day::add(folder, *day, *at, files).map(|()| String::new())
+        }
+        Service::Close { day, files } => day::close(folder, *day, files).map(|()| String::new()),
+        Service::Status { season } => status(folder, *season),
+    };
+    Ok(Done {
+        lines: lines?,
+        answer: Answer::Clean,
+    })
+}
+
+fn status(folder: &Path, season: Option<u32>) -> Result<String, Stop> {
     let state = State::load(folder, Access::Look)?;
     if season.is_none() {
         state.test_past()?;
@@ -93,11 +104,9 @@ pub fn status(folder: &Folder, season: Option<u32>) -> Result<String, Stop> {
     };
     let season = state.into_season(season)?;
     let (number, days, values) = (season.number, season.days, season.values());
-    let serial = day::serial_of(number, days);
-    let checkable = season.checkable();
-    let clean = CleanDays::load(&season).last_below(&season, days + 1, |_| true);
+    let (checkable, clean) = (season.checkable(), clean::last_of(&season)?);
     Ok(format!(
-        "scheme {scheme}\nn {n}\nf {f}\nserial {serial}\nseason {number}\ndays {days}\nopen {open}\n\
+        "scheme {scheme}\nn {n}\nf {f}\nseason {number}\ndays {days}\nopen {open}\n\
          values {values}\ncheckable {checkable}\ninterrupted {interrupted}\nclean {clean}\n"
     ))
 }

@@ -79,29 +79,20 @@ impl Season {
             .ok_or_else(|| misfit(&self.path(INDEX), format!("it has no line of day {day}")))
     }
 
-    /// The lines of all closed days, in order.
-    pub fn lines(&self) -> Result<Vec<Line>, Stop> {
-        let texts = self.index.split(|byte| *byte == b'\n');
-        let lines = (1..).zip(texts).map_while(|(day, text)| {
-            let line = Line::parse(text)?;
-            (line.day == day).then_some(line)
-        });
-        let lines: Vec<Line> = lines.collect();
-        match lines.len() == self.days as usize {
-            true => Ok(lines),
+    /// The names of the closed days' sources, as fields.
+    pub fn names(&self) -> Result<Vec<String>, Stop> {
+        let lines = self
+            .index
+            .split(|byte| *byte == b'\n')
+            .filter_map(Line::parse);
+        let names: Vec<String> = lines.map(|line| line.names).collect();
+        match names.len() == self.days as usize {
+            true => Ok(names),
             false => Err(misfit(
                 &self.path(INDEX),
-                format!("it has no line of day {}", lines.len() + 1),
+                format!("it has {} lines of {} days", names.len(), self.days),
             )),
         }
-    }
-
-    /// The front of the index that the first `d` days have, where they are closed.
-    pub fn index_front(&self, d: u32) -> Option<&[u8]> {
-        let mut ends = self.index.iter().enumerate();
-        let mut ends = ends.by_ref().filter(|(_, byte)| **byte == b'\n');
-        let (end, _) = ends.nth((d as usize).checked_sub(1)?)?;
-        self.index.get(..=end)
     }
 
     /// The index has a line for each closed day.

@@ -1,32 +1,15 @@
-//! `daybook ambiguity`: how vague a tile is, for those who choose N.
+//! How vague a tile is, for those who choose N.
 
 use std::fmt::Write;
+use std::path::Path;
 
 use daybook::{tile_counts, Refusal, TileCounts};
 
-use super::forecast::grouped;
 use crate::chart::chart;
-use crate::command::{Command, Done};
+use crate::commands::{Answer, Done};
 use crate::files::{test_written, Staged};
-use crate::line::Given;
-use crate::options::{Use, FIGURE_OF_COUNTS, LINES_OF_COUNTS};
+use crate::forecast::grouped;
 use crate::stop::Stop;
-
-pub static COMMAND: Command = Command {
-    name: "ambiguity",
-    brief: "say how many days a tile of N days lists where 1, 2 or 3 of them were altered",
-    forms: &[&[Use::May(&LINES_OF_COUNTS), Use::May(&FIGURE_OF_COUNTS)]],
-    text: "\
-Says how vague a tile is, for those who choose N: one tile of N days by itself, under scheme 2 (tile),
-k of which were altered. For N 1, 2, 4 up to 64 and k 1, 2, 3 a table has
-  sets      the sets of k different days that the tile has; none where N is below k
-  listed    the days that read lists, added up over all these sets
-  a set     the days that it lists for one of them, on average
-No file is read.
-",
-    more: "",
-    run,
-};
 
 /// The N and the k that are counted.
 pub const SIZES: [u32; 7] = [1, 2, 4, 8, 16, 32, 64];
@@ -40,19 +23,20 @@ pub struct Counted {
     pub listed: u32,
 }
 
-fn run(given: &mut Given) -> Result<Done, Stop> {
-    let line = given.flag(&LINES_OF_COUNTS);
-    let figure = given.path(&FIGURE_OF_COUNTS);
-    given.end()?;
-    test_written(&Vec::from_iter(figure.as_deref()), &[], None)?;
+pub fn ambiguity(line: bool, figure: Option<&Path>) -> Result<Done, Stop> {
+    test_written(&Vec::from_iter(figure), &[], None)?;
     let counted = count()?;
     if let Some(path) = figure {
-        Staged::new(&path, chart(&counted).as_bytes())?.commit()?;
+        Staged::new(path, chart(&counted).as_bytes())?.commit()?;
     }
-    Ok(Done::clean(match line {
+    let lines = match line {
         true => counted.iter().map(Counted::line).collect(),
         false => table(&counted),
-    }))
+    };
+    Ok(Done {
+        lines,
+        answer: Answer::Clean,
+    })
 }
 
 /// Every N with every k, by N and then by k.

@@ -1,65 +1,21 @@
-//! `daybook forecast`: what sealing a season will take, before it is sealed.
+//! What sealing a season will take, before it is sealed.
 
 use daybook::{Layout, Refusal, Sizes, VALUE};
 
+use crate::arguments::Lengths;
 use crate::chains::scheme_name;
-use crate::command::{Command, Done};
+use crate::commands::{labels, warn_of_order, Answer, Done};
 use crate::explain::long_day;
 use crate::fit::Fit;
-use crate::lengths::{Found, Lengths};
-use crate::line::Given;
-use crate::names::labels;
-use crate::options::{Use, D, DAYS_FOR_LENGTHS, LAYOUT, LENGTHS, LINE_OF_SIZES};
+use crate::lengths::Found;
 use crate::stop::Stop;
-use crate::work::warn_of_order;
 
-pub static COMMAND: Command = Command {
-    name: "forecast",
-    brief: "say what sealing it will take, from the lengths of the days alone",
-    forms: &[
-        &[
-            Use::One(&LAYOUT),
-            Use::May(&D),
-            Use::Needs(&DAYS_FOR_LENGTHS),
-            Use::May(&LINE_OF_SIZES),
-        ],
-        &[
-            Use::One(&LAYOUT),
-            Use::May(&D),
-            Use::Needs(&LENGTHS),
-            Use::May(&LINE_OF_SIZES),
-        ],
-    ],
-    text: "\
-Says what sealing the days will take: the bytes of the book, the values that go to the notary, and the
-SHA-256 blocks to be hashed. Only the lengths of the days count: no day is read, nothing is hashed and
-no file is written.
-",
-    more: "\
-A day of b bytes takes (b + 9) / 64 blocks, rounded down, plus 1; each link of a chain takes 2. Fewer
-lengths than D is refusal 16; a day over 16,777,216 bytes, among the first D, is refusal 17.
-",
-    run,
-};
-
-fn run(given: &mut Given) -> Result<Done, Stop> {
-    let layout = given.layout()?;
-    let d = given.number(&D)?;
-    let source = source(given)?;
-    let line = given.flag(&LINE_OF_SIZES);
-    given.end()?;
-    forecast(layout, d, &source, line)
-}
-
-fn source(given: &mut Given) -> Result<Lengths, Stop> {
-    match (given.path(&DAYS_FOR_LENGTHS), given.path(&LENGTHS)) {
-        (Some(folder), None) => Ok(Lengths::Folder(folder)),
-        (None, Some(text)) => Ok(Lengths::Text(text)),
-        _ => Err(given.needs("either --days or --lengths")),
-    }
-}
-
-fn forecast(layout: Layout, d: Option<u32>, source: &Lengths, line: bool) -> Result<Done, Stop> {
+pub fn forecast(
+    layout: Layout,
+    d: Option<u32>,
+    source: &Lengths,
+    line: bool,
+) -> Result<Done, Stop> {
     test_layout(layout)?;
     let found = Found::find(source)?;
     warn_of_order(found.names.as_deref().unwrap_or_default());
@@ -70,10 +26,15 @@ fn forecast(layout: Layout, d: Option<u32>, source: &Lengths, line: bool) -> Res
         found,
     };
     let sizes = season.sizes()?;
-    Ok(Done::clean(match line {
-        true => line_of(layout.scheme, &sizes),
-        false => season.text(&sizes),
-    }))
+    let lines = if line {
+        line_of(layout.scheme, &sizes)
+    } else {
+        season.text(&sizes)
+    };
+    Ok(Done {
+        lines,
+        answer: Answer::Clean,
+    })
 }
 
 /// Tests 1 2 3, before the source is looked at: a season of no days comes to 7, the test behind them.
@@ -109,11 +70,7 @@ impl Season {
             }
             _ => vec![],
         };
-        let (layout, found) = (self.layout, self.found.found_text());
-        let d = match self.given {
-            true => self.d.to_string(),
-            false => found.clone(),
-        };
+        let (layout, d, found) = (self.layout, self.d, self.found.count());
         Stop::Explained(
             refusal,
             format!("{layout}, D {d}, days found {found}"),

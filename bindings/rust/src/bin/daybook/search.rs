@@ -1,4 +1,4 @@
-//! `daybook search`: a table searched up to a limit, or in steps that a signal stops.
+//! The search of a table: up to a limit, or in steps that a signal stops.
 
 use std::io::{self, IsTerminal, Write};
 use std::path::Path;
@@ -6,75 +6,18 @@ use std::path::Path;
 use daybook::{search_to_vec, Layout, Refusal};
 
 use crate::chains::{run_text, scheme_name};
-use crate::command::{Answer, Command, Done};
+use crate::commands::{day_lines, numbers, outcomes_of, unread_table, Answer, Done, View};
 use crate::explain::day_name;
-use crate::line::Given;
-use crate::options::{
-    Use, AS_IS, DAYS_FOR_NAMES, D_OF_BOOK, LAYOUT, LIMIT, NAMES, OF_STATE, OUTCOMES,
-};
 use crate::progress::Progress;
 use crate::say;
 use crate::signals::Held;
 use crate::stop::Stop;
 use crate::summary::strip_of_search;
-use crate::table::{day_lines, numbers, outcomes_of, unread_table, View};
-use crate::work::Named;
-
-pub static COMMAND: Command = Command {
-    name: "search",
-    brief: "the same chain by chain, under the tree layout: say how far it is at a limit",
-    forms: &[
-        &[
-            Use::One(&LAYOUT),
-            Use::Needs(&D_OF_BOOK),
-            Use::Needs(&OUTCOMES),
-            Use::May(&LIMIT),
-            Use::May(&DAYS_FOR_NAMES),
-            Use::May(&NAMES),
-            Use::May(&AS_IS),
-        ],
-        &[
-            Use::One(&OF_STATE),
-            Use::May(&D_OF_BOOK),
-            Use::Needs(&OUTCOMES),
-            Use::May(&LIMIT),
-            Use::May(&DAYS_FOR_NAMES),
-            Use::May(&NAMES),
-            Use::May(&AS_IS),
-        ],
-    ],
-    text: "\
-Searches the outcomes of D days under the tree layout and prints how far it is:
-  SEARCH,looked,found,undecided
-  DAY,g                 for each altered day found
-The largest chains are looked at from left to right; when one fails, its left half and then its right
-half are dealt with fully before whatever follows. Undecided days are the last ones up to D. The number
-of altered days lies between found and found + undecided; with none undecided the days are those that
-read lists. A table of scheme 1 or 2 is refusal 20.
-",
-    more: "\
-Without --limit the search is done in steps, with a limit that doubles. SIGINT (Ctrl-C) or SIGTERM ends
-it after the step that it is in, and the state so far is printed.
-
-Exit status: 1 days are found; 0 none, and none is undecided; 4 none is found so far, and days are
-undecided.
-",
-    run,
-};
-
-fn run(given: &mut Given) -> Result<Done, Stop> {
-    let limit = given.number(&LIMIT)?;
-    let named = Named::asked(given)?;
-    let outcomes = given.needed_path(&OUTCOMES)?;
-    given.end()?;
-    let subject = named.find()?;
-    search(subject.layout, subject.d, limit, &outcomes, &subject.view)
-}
 
 /// The first limit of a search in steps. Below it the tests of a call outweigh its looks by far.
 const FIRST: u32 = 1024;
 
-fn search(
+pub fn search(
     layout: Layout,
     d: u32,
     limit: Option<u32>,
