@@ -9,7 +9,7 @@ use native.Mathlib.{Decide.dec_lt, Omega.arith}
 use lib.{Dec.eqb, ListN.length, ListN.length-append, Pow.pow_pos, Pow.pow_mono, Count.ones, Count.ones_in, Count.ones_cat}
 use borrow.Author.Tests.{eqb-true, eqb-false}
 use Rattle.lists.proofs.Laws.{split}
-use Rattle.layouts.specs.Layouts.{lg, Name, tree}
+use Rattle.layouts.specs.Layouts.{lg, Name}
 use Rattle.layouts.proofs.Counts.{lg_bounds}
 use Rattle.reading.specs.Private.{Given}
 use Rattle.searching.specs.Searching.{maximal_below, maximal, passes_in, dealt_with, fully, walk}

@@ -1,6 +1,6 @@
 -- Looks at a table that a set gives: a chain passes exactly if the set has no day of it, and a look's day is the set's.
 use mathlib.Core.Path.{◌≡◌, refl, sym, ap, ◌∙◌}
-use mathlib.Core.Bool.{Bool, true, false, not, ◌&&◌, ◌||◌, cond, and_false, or-true}
+use mathlib.Core.Bool.{Bool, true, false, not, ◌&&◌, ◌||◌, cond, and-false, or-true}
 use mathlib.Core.Logic.{inl, inr}
 use mathlib.Core.List.Memᴰ
 use mathlib.Core.List.{List, [], ◌∷◌, ◌++◌, map, append-nil}
@@ -10,7 +10,7 @@ use lib.{Dec.eqb, ListN.length, Pow.pow_pos}
 use borrow.Author.Tests.{eqb-true, eq-eqb, not-true, not-false}
 use Rattle.lists.specs.Lists.{◌among◌, has, up_from, keep}
 use Rattle.lists.proofs.Laws.{split, true_or_false, and_both, has_mem, mem_has, mem_keep, some_there, keep_append, up_from-append}
-use Rattle.evidence.specs.Evidence.{days, meets, set_outcome, table_of, Gives, listing}
+use Rattle.evidence.specs.Evidence.{meets, set_outcome, table_of, Gives, listing}
 use Rattle.evidence.proofs.TableLaws.{meets_of, meets_day, accepted_gives}
 use Rattle.layouts.specs.Layouts.{Name, black, tile, tree, last_days, covered_days, names_through, chains}
 use Rattle.acceptance.specs.Private.{passes}
@@ -42,7 +42,7 @@ passing_by n l g S (x ∷ xs) = rw (passing_by n l g S xs) (elim (split (is_tree
 ])
   where
     flip : (m r : Bool) → eqb (cond m 0 1) 1 || (r && not m) ≡ not m
-    flip true r = and_false r
+    flip true r = and-false r
     flip false r = refl
 
 is_there_lem : (l g : ℕ) {xs : List Name} → tree l g among xs → is_there l g xs ≡ true
