@@ -18,6 +18,7 @@ fn allowed_scheme(scheme: u32) -> bool
     scheme <= 3
 }
 
+#[tactic(auto, using(crate::proofs::AllowedLaws::too_large, crate::proofs::AllowedLaws::one_bit_lem))]
 fn allowed_n(n: u32) -> bool
     ensures { result ≡ allowed_n n }
 {
