@@ -206,6 +206,7 @@ fn place_in_day(scheme: u32, n: u32, g: u32, kind: u32, index: u32) -> u32
 }
 
 // Whether a chain has these four numbers.
+#[tactic(auto, using(crate::proofs::StepLaws::kind_differs, crate::proofs::StepLaws::index_differs, crate::proofs::StepLaws::first_differs, crate::proofs::StepLaws::by_last))]
 fn has_numbers(chain: Chain, kind: u32, index: u32, first: u32, last: u32) -> bool
     ensures { result ≡ same (numbers_of chain) (kind ∷ index ∷ first ∷ last ∷ []) }
 {
