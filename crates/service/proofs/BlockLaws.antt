@@ -1,6 +1,6 @@
 -- The blocks that add and close compress, as their code counts them.
 use mathlib.Core.Path.{◌≡◌, ap, ◌∙◌}
-use mathlib.Core.List.{List, [], ◌∷◌, map}
+use mathlib.Core.List.{List, [], ◌∷◌}
 use Prim.Native.Nat.{ℕ, suc, ◌+◌, ◌*◌, ◌/◌, ◌%◌}
 use native.Mathlib.Numerals.{add-one}
 use native.Mathlib.Omega.{arith}
@@ -8,11 +8,10 @@ use lib.ListN.{length}
 use mir.Val.{Val}
 use denote.Shadow.{shadow}
 use denote.Array.{each}
-use borrow.Author.Rules.{length_unmapped}
 use Rattle.hasher.proofs.Laws.{absorbed_blocks_lem, finished_blocks_lem, finished_length}
 use Rattle.chains.specs.declared.Value.{Value}
 use Rattle.chains.specs.Step.{links_of}
-use Rattle.chains.specs.contracts.Value.{the_field}
+use Rattle.chains.specs.contracts.Value.{the_row}
 use Rattle.chains.proofs.BlockLaws.{Eights, links_blocks}
 use Rattle.service.specs.declared.Record.{Record}
 use Rattle.service.specs.Contract.{open_day, grown_blocks, digest_of, closed_blocks}
@@ -30,10 +29,10 @@ pub record Typed (r : Record) : Type 0 where
   pub eights : Eights r.running
 
 -- what owning the values of slots tells of them
-pub eights_of : (l : List Value) (us : List Val) → shadow (each the_field.row.Denot the_field.row.own_val (map the_field.into l) us) → Eights l
+pub eights_of : (l : List Value) (us : List Val) → shadow (each the_row.Denot the_row.own_val l us) → Eights l
 eights_of [] us s = tt
 eights_of (v ∷ vs) [] s = absurd s
-eights_of (v ∷ vs) (u ∷ us) s = (length_unmapped ℕ v.words 8 s.0.1.1.0.1.0.1, eights_of vs us s.1)
+eights_of (v ∷ vs) (u ∷ us) s = (s.0.1.1.0.1.0.1, eights_of vs us s.1)
 
 pub closed_blocks_lem : (r : Record) → Typed r → closed_blocks r ≡ ((r.bytes + 1) % 64 + 8) / 64 + 1 + 2 * links_of r.scheme r.n (suc r.days)
 unfolding closed_blocks

@@ -1,13 +1,13 @@
 -- The refusals of add and close by their tests, and what open, add and close give by the refusal found.
 use mathlib.Core.Path.{◌≡◌, refl, sym, ap, ap₂, ◌∙◌}
-use mathlib.Core.List.{List, [], ◌∷◌, ◌++◌}
+use mathlib.Core.List.{List}
 use Prim.Native.Nat.{ℕ, zero, suc, ◌+◌, ◌-◌, ◌*◌, ◌≤◌, ◌<◌}
 use native.Mathlib.Omega.{arith}
 use lib.Dec.{leb}
 use lib.ListN.{length, drop}
 use borrow.Author.Tests.{le-leb, lt-leb, leb-true}
 use Rattle.refusals.specs.declared.Answer.TheVariants.{Done, Refused}
-use Rattle.refusals.specs.Refusals.{day_limit, ◌or_refuse◌, number_of, answer_of, unless_refused}
+use Rattle.refusals.specs.Refusals.{day_limit, number_of, answer_of, unless_refused}
 use Rattle.refusals.proofs.TestLaws.{last_fails, last_passes, none_fails, refused_before, answer_refused, answer_done, old_stays, new_stands, front_stands}
 use Rattle.layouts.specs.Layouts.{setup_refusal, chains_of_day}
 use Rattle.service.specs.declared.Record.{Record}

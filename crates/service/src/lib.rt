@@ -16,7 +16,7 @@ use refusals::Answer;
 
 // 01's five numbers, the running hashes, of the open day (hash, block) and of the chains, the start of a chain, and the
 // season.
-#[derive(Drop)]
+#[derive(Clone, Copy)]
 pub struct Record {
     pub scheme: u32,
     pub n: u32,
