@@ -10,7 +10,8 @@ returns-then-not-block_rules c = rw (← c.block_rules.ensures, not-true c.block
 
 pub returns-then-scheme-ne3 : goal.returns-then-scheme-ne3
 unfolding rules
-returns-then-scheme-ne3 c = rw (← c.block_rules.ensures, not-false c.block_rules.result (ap not c.if-not-block_rules.false), ne_eqb _ 3 c.if-scheme-ne3.true)
+returns-then-scheme-ne3 c =
+    rw (← c.block_rules.ensures, not-false c.block_rules.result (ap not c.if-not-block_rules.false), ne_eqb _ 3 c.if-scheme-ne3.true)
 
 pub level_rules-requires : goal.level_rules-requires
 unfolding rules
@@ -18,4 +19,6 @@ level_rules-requires c = rw c.if-scheme-ne3.false at c.requires
 
 pub returns : goal.returns
 unfolding rules
-returns c = rw (← c.block_rules.ensures, not-false c.block_rules.result (ap not c.if-not-block_rules.false), eq-eqb _ 3 c.if-scheme-ne3.false) c.level_rules.ensures
+returns c =
+    rw (← c.block_rules.ensures, not-false c.block_rules.result (ap not c.if-not-block_rules.false), eq-eqb _ 3 c.if-scheme-ne3.false)
+    c.level_rules.ensures

@@ -37,7 +37,8 @@ pub overflow_add-b : goal.overflow_add-b
 overflow_add-b c = let pre = c.requires in omega (arith, low (goal.at.overflow_add-b c).In-loop-x, pre.2, pre.0.most)
 
 pub returns-then-not-alike : goal.returns-then-not-alike
-returns-then-not-alike c = up_stop c.requires.0 c.loop-x.invariant c.loop-x-test.true (turn (goal.at.returns-then-not-alike c).After-alike) (ap not c.if-not-alike.true)
+returns-then-not-alike c =
+    up_stop c.requires.0 c.loop-x.invariant c.loop-x-test.true (turn (goal.at.returns-then-not-alike c).After-alike) (ap not c.if-not-alike.true)
 
 pub overflow_mul-w : goal.overflow_mul-w
 overflow_mul-w c = omega (arith, low (goal.at.overflow_mul-w c).In-loop-x, c.requires.0.most)
@@ -46,7 +47,8 @@ pub loop-x-smaller : goal.loop-x-smaller
 loop-x-smaller c = omega (arith, low (goal.at.loop-x-smaller c).In-loop-x)
 
 pub loop-x-preserved : goal.loop-x-preserved
-loop-x-preserved c = up_next c.requires.0 c.loop-x.invariant c.loop-x-test.true (turn (goal.at.loop-x-preserved c).After-alike) (ap not c.if-not-alike.false)
+loop-x-preserved c =
+    up_next c.requires.0 c.loop-x.invariant c.loop-x-test.true (turn (goal.at.loop-x-preserved c).After-alike) (ap not c.if-not-alike.false)
 
 pub returns : goal.returns
 returns c = up_all c.requires.0 c.loop-x.invariant c.loop-x-test.false

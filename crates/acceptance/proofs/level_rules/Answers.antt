@@ -20,7 +20,12 @@ pub overflow_add-g : goal.overflow_add-g
 overflow_add-g c = omega (arith, (here (goal.at.overflow_add-g c).In-loop-g).most)
 
 pub tree_at-p-requires : goal.tree_at-p-requires
-tree_at-p-requires c = ((here (goal.at.tree_at-p-requires c).In-loop-g).n_ok, (here (goal.at.tree_at-p-requires c).In-loop-g).some, (here (goal.at.tree_at-p-requires c).In-loop-g).most, omega arith)
+tree_at-p-requires c = (
+  (here (goal.at.tree_at-p-requires c).In-loop-g).n_ok,
+  (here (goal.at.tree_at-p-requires c).In-loop-g).some,
+  (here (goal.at.tree_at-p-requires c).In-loop-g).most,
+  omega arith,
+)
 
 pub last_failed-s-requires : goal.last_failed-s-requires
 last_failed-s-requires c = (here (goal.at.last_failed-s-requires c).In-loop-g, c.tree_at-p.ensures, last_back _ _ c.loop-g.invariant.1)
@@ -29,7 +34,9 @@ pub day_rules-requires : goal.day_rules-requires
 day_rules-requires c = (here (goal.at.day_rules-requires c).In-loop-g, c.tree_at-p.ensures, c.last_failed-s.ensures.most)
 
 pub returns-then-not-day_rules : goal.returns-then-not-day_rules
-returns-then-not-day_rules c = levels_false _ _ _ c.requires.most (omega arith) (omega arith) c.last_failed-s.ensures c.day_rules.ensures (not-true _ (ap not c.if-not-day_rules.true))
+returns-then-not-day_rules c =
+    levels_false _ _ _ c.requires.most (omega arith) (omega arith) c.last_failed-s.ensures c.day_rules.ensures
+    (not-true _ (ap not c.if-not-day_rules.true))
 
 pub loop-g-smaller : goal.loop-g-smaller
 loop-g-smaller c = omega arith

@@ -45,13 +45,20 @@ mark-requires-in-loop-i c = let pre = c.requires in
     tile_inside pre.0 (omega (arith, c.lg-k.ensures)) (tile_place pre.0 pre.1 (c.loop-i.i + 1))
 
 pub returns-then-not-mark-2 : goal.returns-then-not-mark-2
-returns-then-not-mark-2 c = every_stop _ 1 (lg c.args.n) (c.loop-i.i + 1) (omega arith) (omega (arith, c.lg-k.ensures)) (turn (goal.at.returns-then-not-mark-2 c).After-mark-in-loop-i) (ap not c.if-not-mark-2.true)
+returns-then-not-mark-2 c =
+    every_stop _ 1 (lg c.args.n) (c.loop-i.i + 1) (omega arith) (omega (arith, c.lg-k.ensures))
+    (turn (goal.at.returns-then-not-mark-2 c).After-mark-in-loop-i) (ap not c.if-not-mark-2.true)
 
 pub loop-i-smaller : goal.loop-i-smaller
 loop-i-smaller c = omega arith
 
 pub loop-i-preserved : goal.loop-i-preserved
-loop-i-preserved c = let l = c.loop-i in (omega arith, every_next _ 1 l.i (l.i + 1) (omega arith) l.invariant.1 (turn (goal.at.loop-i-preserved c).After-mark-in-loop-i) (ap not c.if-not-mark-2.false))
+loop-i-preserved c =
+    let l = c.loop-i in (
+      omega arith,
+      every_next _ 1 l.i (l.i + 1) (omega arith) l.invariant.1 (turn (goal.at.loop-i-preserved c).After-mark-in-loop-i)
+          (ap not c.if-not-mark-2.false),
+    )
 
 pub returns : goal.returns
 returns c = let e = c.lg-k.ensures in let l = c.loop-i in every_done _ 1 l.i (lg c.args.n)

@@ -38,8 +38,12 @@ pub loop-i-smaller : goal.loop-i-smaller
 loop-i-smaller c = omega arith
 
 pub loop-i-preserved : goal.loop-i-preserved
-loop-i-preserved c = let l = c.loop-i in
-    (omega arith, omega arith, again_next _ _ _ _ _ _ _ l.invariant.0 c.loop-i-test.true c.requires.1 l.invariant.2 c.wrapping_add_u32-next.ensures.value)
+loop-i-preserved c = let l = c.loop-i in (
+  omega arith,
+  omega arith,
+  again_next _ _ _ _ _ _ _ l.invariant.0 c.loop-i-test.true c.requires.1 l.invariant.2
+      c.wrapping_add_u32-next.ensures.value,
+)
 
 pub shape_of-list : goal.shape_of-list
 shape_of-list c = let l = c.loop-i in let pre = c.requires in (again_end _ _ _ _ _ _ _ pre.0 pre.1 l.invariant.1 c.loop-i-test.false l.invariant.2).0

@@ -31,7 +31,12 @@ black_passes-requires c = interval_of _ c.requires (omega arith) (omega arith)
 pub returns-then-not-black_passes : goal.returns-then-not-black_passes
 unfolding black_passes
 returns-then-not-black_passes c = let l = c.loop-k in
-    record { few = l.invariant.0; pass = l.invariant.1; fails = λ h. sym c.black_passes.ensures ∙ not-true c.black_passes.result (ap not c.if-not-black_passes.true) }
+    record {
+      few = l.invariant.0;
+      pass = l.invariant.1;
+      fails = λ h. sym c.black_passes.ensures ∙ not-true c.black_passes.result
+          (ap not c.if-not-black_passes.true);
+    }
 
 pub overflow_add-k-in-loop-k : goal.overflow_add-k-in-loop-k
 unfolding black_passes
@@ -43,7 +48,9 @@ loop-k-smaller c = omega arith
 
 pub loop-k-preserved : goal.loop-k-preserved
 unfolding black_passes
-loop-k-preserved c = let l = c.loop-k in (omega arith, every_next _ 1 l.k (l.k + 1) (omega arith) l.invariant.1 c.black_passes.ensures (ap not c.if-not-black_passes.false))
+loop-k-preserved c =
+    let l = c.loop-k in
+    (omega arith, every_next _ 1 l.k (l.k + 1) (omega arith) l.invariant.1 c.black_passes.ensures (ap not c.if-not-black_passes.false))
 
 pub returns : goal.returns
 unfolding black_passes

@@ -12,13 +12,20 @@ pub loop-day-init : goal.loop-day-init
 loop-day-init c = (omega arith, c.requires.0, run_start c.args.first c.args.at c.args.list.now)
 
 pub offset_bounds-list-p : goal.offset_bounds-list-p
-offset_bounds-list-p c = omega (arith, (place (goal.at.offset_bounds-list-p c).In-loop-day).0, (place (goal.at.offset_bounds-list-p c).In-loop-day).1, c.well_formed.1.1.0.1)
+offset_bounds-list-p c =
+    omega (
+      arith,
+      (place (goal.at.offset_bounds-list-p c).In-loop-day).0,
+      (place (goal.at.offset_bounds-list-p c).In-loop-day).1,
+      c.well_formed.1.1.0.1,
+    )
 
 pub bounds-list-p : goal.bounds-list-p
 bounds-list-p c = (place (goal.at.bounds-list-p c).In-loop-day).0
 
 pub overflow_add-p : goal.overflow_add-p
-overflow_add-p c = omega (arith, (place (goal.at.overflow_add-p c).In-loop-day).0, (place (goal.at.overflow_add-p c).In-loop-day).1, c.well_formed.1.1.0.1)
+overflow_add-p c =
+    omega (arith, (place (goal.at.overflow_add-p c).In-loop-day).0, (place (goal.at.overflow_add-p c).In-loop-day).1, c.well_formed.1.1.0.1)
 
 pub loop-day-smaller : goal.loop-day-smaller
 loop-day-smaller c = omega arith

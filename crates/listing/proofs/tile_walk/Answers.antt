@@ -29,7 +29,8 @@ pub again-end-requires : goal.again-end-requires
 again-end-requires c = doubled_place c.requires.0 (room (goal.at.again-end-requires c).At-loop-l) c.loop-l.invariant c.loop-l-test.true
 
 pub overflow_mul-w : goal.overflow_mul-w
-overflow_mul-w c = record { fits = omega (arith, doubled_weight c.requires.0 (room (goal.at.overflow_mul-w c).At-loop-l) c.loop-l.invariant c.loop-l-test.true) }
+overflow_mul-w c =
+    record { fits = omega (arith, doubled_weight c.requires.0 (room (goal.at.overflow_mul-w c).At-loop-l) c.loop-l.invariant c.loop-l-test.true) }
 
 pub overflow_add-l : goal.overflow_add-l
 overflow_add-l c = omega arith
@@ -41,7 +42,8 @@ pub loop-l-preserved : goal.loop-l-preserved
 loop-l-preserved c =
     let h = room (goal.at.loop-l-preserved c).At-loop-l in
     elim c.if-rest-eq0.branch [
-      | then-rest-eq0 w ↦ rw (w.end-is, w.list-is) (doubled_zero c.requires.0 h c.loop-l.invariant c.loop-l-test.true w.if-rest-eq0.true w.again-end.ensures)
+      | then-rest-eq0 w ↦ rw (w.end-is, w.list-is) (doubled_zero c.requires.0 h c.loop-l.invariant c.loop-l-test.true w.if-rest-eq0.true
+          w.again-end.ensures)
       | else-rest-eq0 w ↦ rw (w.end-is, w.list-is) (doubled_one c.requires.0 h c.loop-l.invariant c.loop-l-test.true w.if-rest-eq0.false)
     ]
 

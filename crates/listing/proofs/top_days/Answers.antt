@@ -17,10 +17,12 @@ overflow_mul-g c = record {
 }
 
 pub tree_at-requires : goal.tree_at-requires
-tree_at-requires c = chain_has (top_walk _ _ _ _ _ _ c.args.list.now c.requires.0 c.requires.2 c.size-w.ensures c.if-k-eq0.false c.requires.1 c.requires.3).0
+tree_at-requires c =
+    chain_has (top_walk _ _ _ _ _ _ c.args.list.now c.requires.0 c.requires.2 c.size-w.ensures c.if-k-eq0.false c.requires.1 c.requires.3).0
 
 pub walk-requires : goal.walk-requires
-walk-requires c = let w = top_walk _ _ _ _ _ _ c.args.list.now c.requires.0 c.requires.2 c.size-w.ensures c.if-k-eq0.false c.requires.1 c.requires.3 in
+walk-requires c = let w = top_walk _ _ _ _ _ _ c.args.list.now c.requires.0 c.requires.2 c.size-w.ensures c.if-k-eq0.false c.requires.1
+    c.requires.3 in
     (w.0, c.tree_at.ensures, w.1)
 
 pub returns : goal.returns

@@ -11,7 +11,8 @@ pub allowed_passed-requires : goal.allowed_passed-requires
 allowed_passed-requires c = (allowed_n_is _ (layout_facts _ _ _ _ c.layout_refusal-r.ensures c.if-r-ne0.false).n_ok).some
 
 pub returns-then-not-allowed_passed : goal.returns-then-not-allowed_passed
-returns-then-not-allowed_passed c = passed_19 _ _ _ _ _ c.layout_refusal-r.ensures c.if-r-ne0.false c.allowed_passed.ensures (ap not c.if-not-allowed_passed.true)
+returns-then-not-allowed_passed c =
+    passed_19 _ _ _ _ _ c.layout_refusal-r.ensures c.if-r-ne0.false c.allowed_passed.ensures (ap not c.if-not-allowed_passed.true)
 
 pub returns : goal.returns
 returns c = passed_0 _ _ _ _ _ c.layout_refusal-r.ensures c.if-r-ne0.false c.allowed_passed.ensures (ap not c.if-not-allowed_passed.false)

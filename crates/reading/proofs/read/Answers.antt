@@ -21,6 +21,7 @@ read_table-requires c = values_given _ _ _ _ _ _ c.args.list.now c.refusal-r.ens
 pub returns : goal.returns
 returns c = let l = c.args.list.now in
     let r = c.read_table in record {
-      result_value = report_read _ _ _ _ _ _ l c.refusal-r.ensures c.if-r-ne0.false c.values_through.ensures c.wide-values.ensures r.result r.ensures.result_value;
+      result_value = report_read _ _ _ _ _ _ l c.refusal-r.ensures c.if-r-ne0.false c.values_through.ensures c.wide-values.ensures r.result
+          r.ensures.result_value;
       list_after = list_after _ _ _ _ _ _ l c.refusal-r.ensures c.if-r-ne0.false c.values_through.ensures c.wide-values.ensures r.ensures.list_after;
     }

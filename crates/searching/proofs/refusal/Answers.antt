@@ -13,7 +13,8 @@ pub returns-then-x-ne0 : goal.returns-then-x-ne0
 returns-then-x-ne0 c = search_table _ _ _ _ _ _ c.layout_refusal-r.ensures c.if-r-ne0.false c.table_refusal-x.ensures c.if-x-ne0.true
 
 pub returns-then-scheme-ne3 : goal.returns-then-scheme-ne3
-returns-then-scheme-ne3 c = search_20 _ _ _ _ _ _ c.layout_refusal-r.ensures c.if-r-ne0.false c.table_refusal-x.ensures c.if-x-ne0.false c.if-scheme-ne3.true
+returns-then-scheme-ne3 c =
+    search_20 _ _ _ _ _ _ c.layout_refusal-r.ensures c.if-r-ne0.false c.table_refusal-x.ensures c.if-x-ne0.false c.if-scheme-ne3.true
 
 pub returns : goal.returns
 returns c = search_0 _ _ _ _ _ _ c.layout_refusal-r.ensures c.if-r-ne0.false c.table_refusal-x.ensures c.if-x-ne0.false c.if-scheme-ne3.false

@@ -7,7 +7,8 @@ use Prim.Native.Nat.{◌-◌, ◌≤◌}
 use Rattle.number_text.proofs.decimal.put_numbers.Given as goal
 
 abbrev pub invariant-loop-i : goal.invariant-loop-i
-invariant-loop-i l = (l.i ≤ length l.numbers) × (length l.out ≡ length l.initial.out) × Wrote l.at (comma_numbers (take l.i l.numbers)) l.initial.out l.next l.out
+invariant-loop-i l =
+    (l.i ≤ length l.numbers) × (length l.out ≡ length l.initial.out) × Wrote l.at (comma_numbers (take l.i l.numbers)) l.initial.out l.next l.out
 
 abbrev pub decreases-loop-i : goal.decreases-loop-i
 decreases-loop-i l = length l.numbers - l.i
