@@ -1,8 +1,10 @@
 // Writes to standard output the lines `N,k,sets,listed` for N 1, 2, 4 up to 64 and k 1 to 3.
 #![tactic(auto)]
 
-fn main() {
+use std::io;
+
+fn main(rt: HostRuntime) -> io::Result<()> {
     let mut out = [0u8; 1024];
     let k = ambiguity::lines(&mut out);
-    io::write_all(1, &out[..k]);
+    rt.write_all(&out[..k])
 }

@@ -2,10 +2,10 @@
 // a text may have is read, so that a longer one is seen to be too long.
 #![tactic(auto)]
 
-fn main() {
+fn main(rt: HostRuntime) -> std::io::Result<()> {
     let mut input = [0u8; 1025];
     let n = io::read_full(0, &mut input);
     let mut out = [0u8; 2048];
     let k = table_text::text(&input[..n], &mut out);
-    io::write_all(1, &out[..k]);
+    rt.write_all(&out[..k])
 }

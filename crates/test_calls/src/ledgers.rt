@@ -5,144 +5,166 @@
 ghost use Rattle.std.specs.Prelude.{◌≤◌, length};
 
 use crate::lines;
+use std::io;
 use test_samples::{days, lent, print};
 
-fn values() {
+fn values(rt: &HostRuntime) -> io::Result<()> {
     let mut values = 99u32;
     lines::head(
+        rt,
         b"values",
         daybook_c::daybook_values(2, 8, 3, 24, &mut values),
-    );
-    lines::numbers(&[values]);
-    lines::end();
+    )?;
+    lines::numbers(rt, &[values])?;
+    lines::end(rt)
 }
 
-fn print_size(x: u64) {
-    print::byte(b' ');
-    io::print_decimal(1, x);
+fn print_size(rt: &HostRuntime, x: u64) -> io::Result<()> {
+    print::byte(rt, b' ')?;
+    print!(rt; "{x}")
 }
 
-fn forecast() {
+fn forecast(rt: &HostRuntime) -> io::Result<()> {
     let lengths = [130u32; 30];
     let mut sizes = [96u64; 3];
     lines::head(
+        rt,
         b"forecast",
         daybook_c::daybook_forecast(2, 8, 3, 24, &lengths, &mut sizes),
-    );
-    print_size(sizes[0]);
-    print_size(sizes[1]);
-    print_size(sizes[2]);
-    lines::end();
+    )?;
+    print_size(rt, sizes[0])?;
+    print_size(rt, sizes[1])?;
+    print_size(rt, sizes[2])?;
+    lines::end(rt)
 }
 
-fn chain_at() {
+fn chain_at(rt: &HostRuntime) -> io::Result<()> {
     let mut chain = [95u32; 4];
     lines::head(
+        rt,
         b"chain_at",
         daybook_c::daybook_chain_at(2, 8, 3, 24, 7, &mut chain),
-    );
-    lines::numbers(&[chain[0], chain[1], chain[2], chain[3]]);
-    lines::end();
+    )?;
+    lines::numbers(rt, &[chain[0], chain[1], chain[2], chain[3]])?;
+    lines::end(rt)
 }
 
-fn position_of() {
+fn position_of(rt: &HostRuntime) -> io::Result<()> {
     let chain = [2u32, 3, 17, 23];
     let mut position = 99u32;
     lines::head(
+        rt,
         b"position_of",
         daybook_c::daybook_position_of(2, 8, 3, 24, &chain, &mut position),
-    );
-    lines::numbers(&[position]);
-    lines::end();
+    )?;
+    lines::numbers(rt, &[position])?;
+    lines::end(rt)
 }
 
-fn seal(ledger: &[u8], ends: &[u32], book: &mut [u8])
+fn seal(rt: &HostRuntime, ledger: &[u8], ends: &[u32], book: &mut [u8]) -> io::Result<()>
     requires { 32 ≤ length book.old }
 {
     lines::head(
+        rt,
         b"seal",
         daybook_c::daybook_seal(2, 8, 3, 24, ledger, ends, book),
-    );
-    lines::bytes(&book[0..32]);
-    lines::end();
+    )?;
+    lines::bytes(rt, &book[0..32])?;
+    lines::end(rt)
 }
 
-fn check(ledger: &[u8], ends: &[u32], book: &[u8], outcomes: &mut [u8]) {
+fn check(
+    rt: &HostRuntime,
+    ledger: &[u8],
+    ends: &[u32],
+    book: &[u8],
+    outcomes: &mut [u8],
+) -> io::Result<()> {
     let mut work = [170u8; 800];
     let returned = daybook_c::daybook_check(2, 8, 3, 24, ledger, ends, book, &mut work, outcomes);
-    lines::head(b"check", returned);
-    lines::bytes(&work[0..32]);
-    lines::bytes(outcomes);
-    lines::end();
+    lines::head(rt, b"check", returned)?;
+    lines::bytes(rt, &work[0..32])?;
+    lines::bytes(rt, outcomes)?;
+    lines::end(rt)
 }
 
-fn read(passed: u32, outcomes: &[u8]) {
+fn read(rt: &HostRuntime, passed: u32, outcomes: &[u8]) -> io::Result<()> {
     let mut list = [99u32; 30];
     let mut numbers = [98u32; 5];
     lines::head(
+        rt,
         b"read",
         daybook_c::daybook_read(2, 8, 3, 24, passed, outcomes, &mut list, &mut numbers),
-    );
-    lines::numbers(&[numbers[0], numbers[1], numbers[2], numbers[3], numbers[4]]);
-    lines::numbers(&list);
-    lines::end();
+    )?;
+    lines::numbers(
+        rt,
+        &[numbers[0], numbers[1], numbers[2], numbers[3], numbers[4]],
+    )?;
+    lines::numbers(rt, &list)?;
+    lines::end(rt)
 }
 
-fn print_search(returned: u32, progress: [u32; 3], list: &[u32]) {
-    lines::head(b"search", returned);
-    lines::numbers(&[progress[0], progress[1], progress[2]]);
-    lines::numbers(list);
-    lines::end();
+fn print_search(
+    rt: &HostRuntime,
+    returned: u32,
+    progress: [u32; 3],
+    list: &[u32],
+) -> io::Result<()> {
+    lines::head(rt, b"search", returned)?;
+    lines::numbers(rt, &[progress[0], progress[1], progress[2]])?;
+    lines::numbers(rt, list)?;
+    lines::end(rt)
 }
 
-fn search(outcomes: &[u8]) {
+fn search(rt: &HostRuntime, outcomes: &[u8]) -> io::Result<()> {
     let mut list = [99u32; 30];
     let mut progress = [94u32; 3];
     let returned = daybook_c::daybook_search(2, 8, 3, 24, outcomes, 7, &mut list, &mut progress);
-    print_search(returned, progress, &list);
+    print_search(rt, returned, progress, &list)
 }
 
-fn search_tree() {
+fn search_tree(rt: &HostRuntime) -> io::Result<()> {
     let outcomes = [1u8, 0, 0, 1, 1, 1, 0, 1, 0, 0, 0, 170, 170, 170, 170];
     let mut list = [99u32; 9];
     let mut progress = [94u32; 3];
     let returned = daybook_c::daybook_search(3, 2, 1, 6, &outcomes, 5, &mut list, &mut progress);
-    print_search(returned, progress, &list);
+    print_search(rt, returned, progress, &list)
 }
 
-fn tile_counts(n: u32, k: u32) {
+fn tile_counts(rt: &HostRuntime, n: u32, k: u32) -> io::Result<()> {
     let mut counts = [93u32; 2];
     lines::head(
+        rt,
         b"tile_counts",
         daybook_c::daybook_tile_counts(n, k, &mut counts),
-    );
-    lines::numbers(&[counts[0], counts[1]]);
-    lines::end();
+    )?;
+    lines::numbers(rt, &[counts[0], counts[1]])?;
+    lines::end(rt)
 }
 
 // The book has room for more than its 15 values, the outcomes for more than 15.
-fn seal_check_read(ledger: &mut [u8], ends: &[u32]) {
+fn seal_check_read(rt: &HostRuntime, ledger: &mut [u8], ends: &[u32]) -> io::Result<()> {
     let mut book = [170u8; 500];
     let mut outcomes = [170u8; 20];
-    seal(ledger, ends, &mut book);
+    seal(rt, ledger, ends, &mut book)?;
     lent::flip(ledger, days::start(ends, 10));
-    check(ledger, ends, &book, &mut outcomes);
-    read(0, &outcomes);
-    read(16, &outcomes);
-    read(12, &outcomes);
-    search(&outcomes);
+    check(rt, ledger, ends, &book, &mut outcomes)?;
+    read(rt, 0, &outcomes)?;
+    read(rt, 16, &outcomes)?;
+    read(rt, 12, &outcomes)?;
+    search(rt, &outcomes)
 }
 
-pub fn run() {
+pub fn run(rt: &HostRuntime) -> io::Result<()> {
     let mut ledger = [0u8; 1400];
     let mut ends = [0u32; 24];
     days::put_all(&mut ledger, &mut ends);
-    values();
-    forecast();
-    chain_at();
-    position_of();
-    seal_check_read(&mut ledger, &ends);
-    search_tree();
-    tile_counts(4, 2);
-    tile_counts(2, 4);
+    values(rt)?;
+    forecast(rt)?;
+    chain_at(rt)?;
+    position_of(rt)?;
+    seal_check_read(rt, &mut ledger, &ends)?;
+    search_tree(rt)?;
+    tile_counts(rt, 4, 2)?;
+    tile_counts(rt, 2, 4)
 }

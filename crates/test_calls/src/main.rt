@@ -8,9 +8,11 @@ mod ledgers;
 mod lines;
 mod records;
 
-fn main() {
-    records::run();
-    ledgers::run();
-    lines::head(b"version", daybook_c::daybook_version());
-    lines::end();
+use std::io;
+
+fn main(rt: HostRuntime) -> io::Result<()> {
+    records::run(&rt)?;
+    ledgers::run(&rt)?;
+    lines::head(&rt, b"version", daybook_c::daybook_version())?;
+    lines::end(&rt)
 }

@@ -5,30 +5,53 @@
 ghost use Rattle.std.specs.Prelude.{◌<◌};
 
 use crate::{lines, sixteen};
+use std::io;
 use test_samples::lent;
 
 // The byte at at is altered.
-fn byte_altered(name: &[u8], scheme: u32, book: &[u8], at: usize) {
+fn byte_altered(
+    rt: &HostRuntime,
+    name: &[u8],
+    scheme: u32,
+    book: &[u8],
+    at: usize,
+) -> io::Result<()> {
     let mut ledger = [0u8; 1280];
     let mut ends = [0u32; 16];
     sixteen::build(sixteen::sample(), &mut ledger, &mut ends);
     lent::flip(&mut ledger, at);
-    sixteen::check(name, scheme, &ledger, &ends, book);
+    sixteen::check(rt, name, scheme, &ledger, &ends, book)
 }
 
 // The end of the day at index i is moved.
-fn end_moved(name: &[u8], scheme: u32, book: &[u8], i: usize, to: u32)
+fn end_moved(
+    rt: &HostRuntime,
+    name: &[u8],
+    scheme: u32,
+    book: &[u8],
+    i: usize,
+    to: u32,
+) -> io::Result<()>
     requires { i < 16 }
 {
     let mut ledger = [0u8; 1280];
     let mut ends = [0u32; 16];
     sixteen::build(sixteen::sample(), &mut ledger, &mut ends);
     ends[i] = to;
-    sixteen::check(name, scheme, &ledger, &ends, book);
+    sixteen::check(rt, name, scheme, &ledger, &ends, book)
 }
 
 // The days at indices i and j are a and b.
-fn replaced(name: &[u8], scheme: u32, book: &[u8], i: usize, a: usize, j: usize, b: usize)
+fn replaced(
+    rt: &HostRuntime,
+    name: &[u8],
+    scheme: u32,
+    book: &[u8],
+    i: usize,
+    a: usize,
+    j: usize,
+    b: usize,
+) -> io::Result<()>
     requires { (i < 16) × (j < 16) }
 {
     let mut ledger = [0u8; 1280];
@@ -37,71 +60,77 @@ fn replaced(name: &[u8], scheme: u32, book: &[u8], i: usize, a: usize, j: usize,
     sample[i] = a;
     sample[j] = b;
     sixteen::build(sample, &mut ledger, &mut ends);
-    sixteen::check(name, scheme, &ledger, &ends, book);
+    sixteen::check(rt, name, scheme, &ledger, &ends, book)
 }
 
 // The book's byte at at is altered.
-fn book_altered(name: &[u8], scheme: u32, book: [u8; 1024], at: usize) {
+fn book_altered(
+    rt: &HostRuntime,
+    name: &[u8],
+    scheme: u32,
+    book: [u8; 1024],
+    at: usize,
+) -> io::Result<()> {
     let mut altered = book;
     lent::flip(&mut altered, at);
-    byte_altered(name, scheme, &altered, 1280);
+    byte_altered(rt, name, scheme, &altered, 1280)
 }
 
 // Day 1 has the ledger's first byte, day 8 the bytes 355 to 419, day 16 the bytes 1158 and 1159.
-fn bytes_altered(scheme: u32, book: &[u8]) {
-    byte_altered(b"unaltered", scheme, book, 1280);
-    byte_altered(b"first-day", scheme, book, 0);
-    byte_altered(b"middle-day", scheme, book, 400);
-    byte_altered(b"last-day", scheme, book, 1159);
-    byte_altered(b"after-last-day", scheme, book, 1160);
+fn bytes_altered(rt: &HostRuntime, scheme: u32, book: &[u8]) -> io::Result<()> {
+    byte_altered(rt, b"unaltered", scheme, book, 1280)?;
+    byte_altered(rt, b"first-day", scheme, book, 0)?;
+    byte_altered(rt, b"middle-day", scheme, book, 400)?;
+    byte_altered(rt, b"last-day", scheme, book, 1159)?;
+    byte_altered(rt, b"after-last-day", scheme, book, 1160)
 }
 
-fn ends_moved(scheme: u32, book: &[u8]) {
-    end_moved(b"day-7-shorter-day-8-longer", scheme, book, 6, 354);
-    end_moved(b"day-7-longer-day-8-shorter", scheme, book, 6, 356);
-    end_moved(b"day-7-empty", scheme, book, 6, 291);
-    end_moved(b"last-day-longer", scheme, book, 15, 1161);
-    end_moved(b"last-day-empty", scheme, book, 15, 1158);
+fn ends_moved(rt: &HostRuntime, scheme: u32, book: &[u8]) -> io::Result<()> {
+    end_moved(rt, b"day-7-shorter-day-8-longer", scheme, book, 6, 354)?;
+    end_moved(rt, b"day-7-longer-day-8-shorter", scheme, book, 6, 356)?;
+    end_moved(rt, b"day-7-empty", scheme, book, 6, 291)?;
+    end_moved(rt, b"last-day-longer", scheme, book, 15, 1161)?;
+    end_moved(rt, b"last-day-empty", scheme, book, 15, 1158)
 }
 
-fn days_replaced(scheme: u32, book: &[u8]) {
-    replaced(b"day-1-emptied", scheme, book, 0, 1000, 0, 1000);
-    replaced(b"day-9-filled", scheme, book, 8, 9001, 8, 9001);
-    replaced(b"day-10-shorter", scheme, book, 9, 10117, 9, 10117);
-    replaced(b"days-2-3-exchanged", scheme, book, 1, 3055, 2, 2054);
-    replaced(b"days-1-16-exchanged", scheme, book, 0, 16002, 15, 1001);
+fn days_replaced(rt: &HostRuntime, scheme: u32, book: &[u8]) -> io::Result<()> {
+    replaced(rt, b"day-1-emptied", scheme, book, 0, 1000, 0, 1000)?;
+    replaced(rt, b"day-9-filled", scheme, book, 8, 9001, 8, 9001)?;
+    replaced(rt, b"day-10-shorter", scheme, book, 9, 10117, 9, 10117)?;
+    replaced(rt, b"days-2-3-exchanged", scheme, book, 1, 3055, 2, 2054)?;
+    replaced(rt, b"days-1-16-exchanged", scheme, book, 0, 16002, 15, 1001)
 }
 
 // The first value, at its first and its last byte; the middle value; the last one; a book of zeros.
-fn books_altered(scheme: u32, book: [u8; 1024]) {
+fn books_altered(rt: &HostRuntime, scheme: u32, book: [u8; 1024]) -> io::Result<()> {
     let k = sixteen::values(scheme);
-    book_altered(b"first-byte-of-book", scheme, book, 0);
-    book_altered(b"byte-32-of-book", scheme, book, 31);
-    book_altered(b"byte-33-of-book", scheme, book, 32);
-    book_altered(b"middle-value", scheme, book, 16 * k + 16);
-    book_altered(b"last-byte-of-book", scheme, book, 32 * k - 1);
-    book_altered(b"zeros", scheme, [0u8; 1024], 1024);
+    book_altered(rt, b"first-byte-of-book", scheme, book, 0)?;
+    book_altered(rt, b"byte-32-of-book", scheme, book, 31)?;
+    book_altered(rt, b"byte-33-of-book", scheme, book, 32)?;
+    book_altered(rt, b"middle-value", scheme, book, 16 * k + 16)?;
+    book_altered(rt, b"last-byte-of-book", scheme, book, 32 * k - 1)?;
+    book_altered(rt, b"zeros", scheme, [0u8; 1024], 1024)
 }
 
-fn checks(scheme: u32, book: [u8; 1024]) {
-    bytes_altered(scheme, &book);
-    ends_moved(scheme, &book);
-    days_replaced(scheme, &book);
-    books_altered(scheme, book);
+fn checks(rt: &HostRuntime, scheme: u32, book: [u8; 1024]) -> io::Result<()> {
+    bytes_altered(rt, scheme, &book)?;
+    ends_moved(rt, scheme, &book)?;
+    days_replaced(rt, scheme, &book)?;
+    books_altered(rt, scheme, book)
 }
 
-fn layout(scheme: u32) {
+fn layout(rt: &HostRuntime, scheme: u32) -> io::Result<()> {
     let mut ledger = [0u8; 1280];
     let mut ends = [0u32; 16];
     let mut book = [0u8; 1024];
     sixteen::build(sixteen::sample(), &mut ledger, &mut ends);
     let k = sixteen::values(scheme);
-    lines::sealed(sixteen::setup(scheme), &ledger, &ends, &mut book, k);
-    checks(scheme, book);
+    lines::sealed(rt, sixteen::setup(scheme), &ledger, &ends, &mut book, k)?;
+    checks(rt, scheme, book)
 }
 
-pub fn run() {
-    layout(1);
-    layout(2);
-    layout(3);
+pub fn run(rt: &HostRuntime) -> io::Result<()> {
+    layout(rt, 1)?;
+    layout(rt, 2)?;
+    layout(rt, 3)
 }

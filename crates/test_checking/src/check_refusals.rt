@@ -2,6 +2,8 @@
 // scheme, N, F, D; the ends lent, an index and the end put there; the lengths of ledger, book, work and outcomes. The
 // line is written again with, for each call, its name, its answer's number, 0 for done, and the place from which on
 // each buffer that it may write is as it was. reference/check_refusals.py writes both.
+use std::io;
+use std::io::Read;
 use test_samples::calls::Setup;
 use test_samples::input::at_most;
 use test_samples::{as_u32, calls, input, lent, print};
@@ -21,81 +23,90 @@ fn setup(c: [u32; 11]) -> Setup {
 }
 
 // Writes the place from which on the buffer is as it was.
-fn print_kept(s: &[u8]) {
-    print::byte(b' ');
-    print::number(as_u32(lent::kept(s)));
+fn print_kept(rt: &HostRuntime, s: &[u8]) -> io::Result<()> {
+    print::byte(rt, b' ')?;
+    print::number(rt, as_u32(lent::kept(s)))
 }
 
-fn print_seal(s: Setup, ledger: &[u8], ends: &[u32], book: &mut [u8]) {
-    print::number(calls::seal(s, ledger, ends, book));
-    print_kept(book);
+fn print_seal(
+    rt: &HostRuntime,
+    s: Setup,
+    ledger: &[u8],
+    ends: &[u32],
+    book: &mut [u8],
+) -> io::Result<()> {
+    print::number(rt, calls::seal(s, ledger, ends, book))?;
+    print_kept(rt, book)
 }
 
-fn seal(c: [u32; 11], ledger: &[u8], ends: &[u32]) {
+fn seal(rt: &HostRuntime, c: [u32; 11], ledger: &[u8], ends: &[u32]) -> io::Result<()> {
     let mut book = [170u8; 1100];
     let room = at_most(c[8], 1100);
-    io::write_all(1, b": seal ");
-    print_seal(setup(c), ledger, ends, &mut book[0..room]);
+    print::bytes(rt, b": seal ")?;
+    print_seal(rt, setup(c), ledger, ends, &mut book[0..room])
 }
 
 fn print_check(
+    rt: &HostRuntime,
     s: Setup,
     ledger: &[u8],
     ends: &[u32],
     book: &[u8],
     work: &mut [u8],
     outcomes: &mut [u8],
-) {
-    print::number(calls::check(s, ledger, ends, book, work, outcomes));
-    print_kept(work);
-    print_kept(outcomes);
+) -> io::Result<()> {
+    print::number(rt, calls::check(s, ledger, ends, book, work, outcomes))?;
+    print_kept(rt, work)?;
+    print_kept(rt, outcomes)
 }
 
-fn check(c: [u32; 11], ledger: &[u8], ends: &[u32]) {
+fn check(rt: &HostRuntime, c: [u32; 11], ledger: &[u8], ends: &[u32]) -> io::Result<()> {
     let book = [170u8; 1100];
     let mut work = [170u8; 600];
     let mut outcomes = [170u8; 40];
     let room = at_most(c[8], 1100);
     let length = at_most(c[9], 600);
     let places = at_most(c[10], 40);
-    io::write_all(1, b" check ");
+    print::bytes(rt, b" check ")?;
     print_check(
+        rt,
         setup(c),
         ledger,
         ends,
         &book[0..room],
         &mut work[0..length],
         &mut outcomes[0..places],
-    );
+    )
 }
 
-fn seal_and_check(c: [u32; 11], ledger: &[u8], ends: &[u32]) {
-    seal(c, ledger, ends);
-    check(c, ledger, ends);
-    print::byte(b'\n');
+fn seal_and_check(rt: &HostRuntime, c: [u32; 11], ledger: &[u8], ends: &[u32]) -> io::Result<()> {
+    seal(rt, c, ledger, ends)?;
+    check(rt, c, ledger, ends)?;
+    print::byte(rt, b'\n')
 }
 
-fn case(line: &[u8]) {
-    io::write_all(1, line);
+fn case(rt: &HostRuntime, line: &[u8]) -> io::Result<()> {
+    print::bytes(rt, line)?;
     let c = input::numbers(line);
     let ledger = [98u8; 80];
     let ends = ends(c);
     let count = at_most(c[4], 20);
     let size = at_most(c[7], 80);
-    seal_and_check(c, &ledger[0..size], &ends[0..count]);
+    seal_and_check(rt, c, &ledger[0..size], &ends[0..count])
 }
 
-fn cases(s: &[u8]) {
+fn cases(rt: &HostRuntime, s: &[u8]) -> io::Result<()> {
     let mut at = 0usize;
     while at < s.len() {
-        let e = bytes::scan::find(s, at, s.len(), b'\n');
-        case(&s[at..e]);
+        let e = input::line_end(s, at);
+        case(rt, &s[at..e])?;
         at = input::after(e, s.len());
     }
+    Ok(())
 }
 
-pub fn run() {
-    let mut buffer = io::large_buffer();
-    let n = io::read_full(0, &mut buffer);
-    cases(&buffer[..n]);
+pub fn run(rt: &HostRuntime) -> io::Result<()> {
+    let mut s = Vec::new(rt.alloc());
+    rt.reader().read_to_end(&mut s)?;
+    cases(rt, &s)
 }

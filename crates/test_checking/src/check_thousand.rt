@@ -5,6 +5,7 @@
 ghost use Rattle.std.specs.Prelude.{◌≤◌};
 
 use crate::lines;
+use std::io;
 use test_samples::calls::Setup;
 use test_samples::{as_u32, calls, days, lent, print};
 
@@ -42,50 +43,86 @@ fn failing(outcomes: &[u8]) -> usize {
     n
 }
 
-fn print_line(scheme: u32, day: u32, number: u32, outcomes: &[u8]) {
+fn print_line(
+    rt: &HostRuntime,
+    scheme: u32,
+    day: u32,
+    number: u32,
+    outcomes: &[u8],
+) -> io::Result<()> {
     let numbers = [scheme, day, number, as_u32(failing(outcomes))];
-    print::numbers(&numbers, b' ');
-    print::byte(b' ');
-    print::digest_line(outcomes);
+    print::numbers(rt, &numbers, b' ')?;
+    print::byte(rt, b' ')?;
+    print::digest_line(rt, outcomes)
 }
 
-fn line(s: Setup, day: u32, ledger: &[u8], ends: &[u32], book: &[u8]) {
+fn line(
+    rt: &HostRuntime,
+    s: Setup,
+    day: u32,
+    ledger: &[u8],
+    ends: &[u32],
+    book: &[u8],
+) -> io::Result<()> {
     let mut outcomes = [9u8; 2112];
     let number = calls::check_days(s, ledger, ends, book, &mut outcomes);
     let k = values(s.scheme);
-    print_line(s.scheme, day, number, &outcomes[0..k]);
+    print_line(rt, s.scheme, day, number, &outcomes[0..k])
 }
 
 // One bit of the byte at at altered.
-fn altered(s: Setup, day: u32, ledger: &mut [u8], ends: &[u32], book: &[u8], at: usize) {
+fn altered(
+    rt: &HostRuntime,
+    s: Setup,
+    day: u32,
+    ledger: &mut [u8],
+    ends: &[u32],
+    book: &[u8],
+    at: usize,
+) -> io::Result<()> {
     lent::flip(ledger, at);
-    line(s, day, ledger, ends, book);
+    line(rt, s, day, ledger, ends, book)?;
     lent::flip(ledger, at);
+    Ok(())
 }
 
 // The first byte of day 1, the first of day 500 and the last of day 1000, which has 57 bytes.
-fn checks(s: Setup, ledger: &mut [u8], ends: &[u32], book: &[u8]) {
-    line(s, 0, ledger, ends, book);
-    altered(s, 1, ledger, ends, book, 0);
-    altered(s, 500, ledger, ends, book, days::start(ends, 500));
-    altered(s, 1000, ledger, ends, book, days::start(ends, 1000) + 56);
+fn checks(
+    rt: &HostRuntime,
+    s: Setup,
+    ledger: &mut [u8],
+    ends: &[u32],
+    book: &[u8],
+) -> io::Result<()> {
+    line(rt, s, 0, ledger, ends, book)?;
+    altered(rt, s, 1, ledger, ends, book, 0)?;
+    altered(rt, s, 500, ledger, ends, book, days::start(ends, 500))?;
+    altered(
+        rt,
+        s,
+        1000,
+        ledger,
+        ends,
+        book,
+        days::start(ends, 1000) + 56,
+    )
 }
 
-fn seal_and_check(s: Setup, ledger: &mut [u8], ends: &[u32]) {
+fn seal_and_check(rt: &HostRuntime, s: Setup, ledger: &mut [u8], ends: &[u32]) -> io::Result<()> {
     let mut book = [0u8; 67584];
-    lines::sealed(s, ledger, ends, &mut book, values(s.scheme));
-    checks(s, ledger, ends, &book);
+    lines::sealed(rt, s, ledger, ends, &mut book, values(s.scheme))?;
+    checks(rt, s, ledger, ends, &book)
 }
 
-fn layout(scheme: u32, f: u32) {
+fn layout(rt: &HostRuntime, scheme: u32, f: u32) -> io::Result<()> {
     let mut ledger = [0u8; 66000];
     let mut ends = [0u32; 1000];
     days::put_all(&mut ledger, &mut ends);
-    seal_and_check(Setup::new(scheme, 8, f, 1000), &mut ledger, &ends);
+    seal_and_check(rt, Setup::new(scheme, 8, f, 1000), &mut ledger, &ends)
 }
 
-pub fn run() {
-    layout(1, 25);
-    layout(2, 25);
-    layout(3, 1);
+pub fn run(rt: &HostRuntime) -> io::Result<()> {
+    layout(rt, 1, 25)?;
+    layout(rt, 2, 25)?;
+    layout(rt, 3, 1)
 }

@@ -1,23 +1,31 @@
 // Lines of the checks: the scheme, the case and the answer's number, then what was found.
 ghost use Rattle.std.specs.Prelude.{◌*◌, ◌≤◌, length};
 
+use std::io;
 use test_samples::calls::Setup;
 use test_samples::{calls, print};
 
-pub fn head(scheme: u32, name: &[u8], number: u32) {
-    print::number(scheme);
-    print::byte(b' ');
-    io::write_all(1, name);
-    print::byte(b' ');
-    print::number(number);
-    print::byte(b' ');
+pub fn head(rt: &HostRuntime, scheme: u32, name: &[u8], number: u32) -> io::Result<()> {
+    print::number(rt, scheme)?;
+    print::byte(rt, b' ')?;
+    print::bytes(rt, name)?;
+    print::byte(rt, b' ')?;
+    print::number(rt, number)?;
+    print::byte(rt, b' ')
 }
 
 // Seals a book of k values, and writes its line, with the SHA-256 of the book.
-pub fn sealed(s: Setup, ledger: &[u8], ends: &[u32], book: &mut [u8], k: usize)
+pub fn sealed(
+    rt: &HostRuntime,
+    s: Setup,
+    ledger: &[u8],
+    ends: &[u32],
+    book: &mut [u8],
+    k: usize,
+) -> io::Result<()>
     requires { 32 * k ≤ length book.old }
 {
-    head(s.scheme, b"sealed", calls::seal(s, ledger, ends, book));
+    head(rt, s.scheme, b"sealed", calls::seal(s, ledger, ends, book))?;
     let n = 32 * k;
-    print::digest_line(&book[0..n]);
+    print::digest_line(rt, &book[0..n])
 }

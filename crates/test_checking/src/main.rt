@@ -9,9 +9,11 @@ mod lines;
 mod round_trip;
 mod sixteen;
 
-fn main() {
-    round_trip::run();
-    check_cases::run();
-    check_refusals::run();
-    check_thousand::run();
+use std::io;
+
+fn main(rt: HostRuntime) -> io::Result<()> {
+    round_trip::run(&rt)?;
+    check_cases::run(&rt)?;
+    check_refusals::run(&rt)?;
+    check_thousand::run(&rt)
 }

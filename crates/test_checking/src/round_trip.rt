@@ -2,96 +2,115 @@
 // with one change and with three. A line has the form of readtable's reference line, the next the listed days.
 // reference/round_trip.py writes what the lines must be.
 use reading::Reading;
+use std::io;
 use test_samples::calls::Setup;
 use test_samples::{calls, days, lent, print};
 
 // Alters the first byte of each of the days.
 fn alter(ledger: &mut [u8], ends: &[u32], changed: &[u32]) {
-    let mut i = 0usize;
-    while i < changed.len() {
-        let at = days::start(ends, changed[i]);
-        lent::flip(ledger, at);
-        i += 1;
+    for &g in changed {
+        lent::flip(ledger, days::start(ends, g));
     }
 }
 
-fn print_reference(numbers: [u32; 6]) {
-    io::write_all(1, b"REF,");
-    print::numbers(&numbers, b',');
-    print::byte(b'\n');
+fn print_reference(rt: &HostRuntime, numbers: [u32; 6]) -> io::Result<()> {
+    print::bytes(rt, b"REF,")?;
+    print::numbers(rt, &numbers, b',')?;
+    print::byte(rt, b'\n')
 }
 
 // The first days of a list, at most as many as it has.
-fn print_first(list: &[u32], count: u32) {
+fn print_first(rt: &HostRuntime, list: &[u32], count: u32) -> io::Result<()> {
     let n = count as usize;
     if n <= list.len() {
-        print::numbers(&list[0..n], b' ');
-        io::write_all(1, b" \n");
+        print::numbers(rt, &list[0..n], b' ')?;
+        print::bytes(rt, b" \n")?;
     }
+    Ok(())
 }
 
-fn print_answer(scheme: u32, d: u32, answer: Reading, list: &[u32]) {
+fn print_answer(
+    rt: &HostRuntime,
+    scheme: u32,
+    d: u32,
+    answer: Reading,
+    list: &[u32],
+) -> io::Result<()> {
     match answer {
-        Reading::Clean => print_reference([scheme, 0, 0, 0, 0, d]),
+        Reading::Clean => print_reference(rt, [scheme, 0, 0, 0, 0, d]),
         Reading::Changed(m) => {
-            print_reference([scheme, m.listed, m.first, m.low, m.high, m.last_good]);
-            print_first(list, m.listed);
+            print_reference(rt, [scheme, m.listed, m.first, m.low, m.high, m.last_good])?;
+            print_first(rt, list, m.listed)
         }
         Reading::Refused(x) => {
-            io::write_all(1, b"NO,");
-            print::number_line(x);
+            print::bytes(rt, b"NO,")?;
+            print::number_line(rt, x)
         }
     }
 }
 
-fn read(s: Setup, passed: u32, outcomes: &[u8]) {
+fn read(rt: &HostRuntime, s: Setup, passed: u32, outcomes: &[u8]) -> io::Result<()> {
     let mut list = [0u32; 1000];
     let answer = reading::read(s.scheme, s.n, s.f, s.d, passed, outcomes, &mut list);
-    print_answer(s.scheme, s.d, answer, &list);
+    print_answer(rt, s.scheme, s.d, answer, &list)
 }
 
-fn check(s: Setup, passed: u32, ledger: &[u8], ends: &[u32], book: &[u8]) {
+fn check(
+    rt: &HostRuntime,
+    s: Setup,
+    passed: u32,
+    ledger: &[u8],
+    ends: &[u32],
+    book: &[u8],
+) -> io::Result<()> {
     let mut outcomes = [9u8; 2112];
-    print::number(calls::check_days(s, ledger, ends, book, &mut outcomes));
-    print::byte(b' ');
-    read(s, passed, &outcomes);
+    print::number(rt, calls::check_days(s, ledger, ends, book, &mut outcomes))?;
+    print::byte(rt, b' ')?;
+    read(rt, s, passed, &outcomes)
 }
 
 // Seals, alters the days, checks and reads, with the validation before as P.
-fn seal_and_check(s: Setup, passed: u32, changed: &[u32], ledger: &mut [u8], ends: &[u32]) {
+fn seal_and_check(
+    rt: &HostRuntime,
+    s: Setup,
+    passed: u32,
+    changed: &[u32],
+    ledger: &mut [u8],
+    ends: &[u32],
+) -> io::Result<()> {
     let mut book = [0u8; 67584];
-    print::number(calls::seal(s, ledger, ends, &mut book));
+    print::number(rt, calls::seal(s, ledger, ends, &mut book))?;
     alter(ledger, ends, changed);
-    check(s, passed, ledger, ends, &book);
+    check(rt, s, passed, ledger, ends, &book)
 }
 
-fn trip(s: Setup, passed: u32, changed: &[u32]) {
+fn trip(rt: &HostRuntime, s: Setup, passed: u32, changed: &[u32]) -> io::Result<()> {
     let mut ledger = [0u8; 66000];
     let mut ends = [0u32; 1000];
     days::put_all(&mut ledger, &mut ends);
-    seal_and_check(s, passed, changed, &mut ledger, &ends);
+    seal_and_check(rt, s, passed, changed, &mut ledger, &ends)
 }
 
 // A thousand days: none altered, one, and three.
-fn thousand(scheme: u32, f: u32, passed: u32) {
+fn thousand(rt: &HostRuntime, scheme: u32, f: u32, passed: u32) -> io::Result<()> {
     let s = Setup::new(scheme, 8, f, 1000);
     let none = [0u32; 0];
-    trip(s, passed, &none);
+    trip(rt, s, passed, &none)?;
     let one = [500u32];
-    trip(s, passed, &one);
+    trip(rt, s, passed, &one)?;
     let three = [3u32, 777u32, 1000u32];
-    trip(s, passed, &three);
+    trip(rt, s, passed, &three)
 }
 
-pub fn run() {
+pub fn run(rt: &HostRuntime) -> io::Result<()> {
     let tile = [19u32, 20u32, 27u32];
-    trip(Setup::new(2, 16, 2, 64), 32, &tile);
+    trip(rt, Setup::new(2, 16, 2, 64), 32, &tile)?;
     let tree = [4u32, 7u32, 10u32];
-    trip(Setup::new(3, 2, 1, 16), 14, &tree);
-    trip(Setup::new(3, 2, 1, 14), 12, &tree);
+    trip(rt, Setup::new(3, 2, 1, 16), 14, &tree)?;
+    trip(rt, Setup::new(3, 2, 1, 14), 12, &tree)?;
     let black = [16u32];
-    trip(Setup::new(1, 2, 3, 24), 18, &black);
-    thousand(1, 25, 800);
-    thousand(2, 25, 800);
-    thousand(3, 1, 992);
+    trip(rt, Setup::new(1, 2, 3, 24), 18, &black)?;
+    thousand(rt, 1, 25, 800)?;
+    thousand(rt, 2, 25, 800)?;
+    thousand(rt, 3, 1, 992)
 }

@@ -2,6 +2,7 @@
 ghost use Rattle.std.specs.Prelude.{◌≡◌, ◌≤◌, length};
 
 use crate::lines;
+use std::io;
 use test_samples::calls::Setup;
 use test_samples::{as_u32, calls, days, print};
 
@@ -44,21 +45,28 @@ pub fn build(sample: [usize; 16], ledger: &mut [u8], ends: &mut [u32])
     }
 }
 
-fn print_found(scheme: u32, work: &[u8], outcomes: &[u8])
+fn print_found(rt: &HostRuntime, scheme: u32, work: &[u8], outcomes: &[u8]) -> io::Result<()>
     requires { 32 ≤ length outcomes.now }
 {
     let k = values(scheme);
-    print::hex(&outcomes[0..k], 1);
-    print::byte(b' ');
-    print::digest_line(work);
+    print::hex(rt, &outcomes[0..k], 1)?;
+    print::byte(rt, b' ')?;
+    print::digest_line(rt, work)
 }
 
 // Checks a ledger against a book, and writes the line.
-pub fn check(name: &[u8], scheme: u32, ledger: &[u8], ends: &[u32], book: &[u8]) {
+pub fn check(
+    rt: &HostRuntime,
+    name: &[u8],
+    scheme: u32,
+    ledger: &[u8],
+    ends: &[u32],
+    book: &[u8],
+) -> io::Result<()> {
     let mut work = [0u8; 512];
     let mut outcomes = [9u8; 32];
     let s = setup(scheme);
     let number = calls::check(s, ledger, ends, book, &mut work, &mut outcomes);
-    lines::head(scheme, name, number);
-    print_found(scheme, &work, &outcomes);
+    lines::head(rt, scheme, name, number)?;
+    print_found(rt, scheme, &work, &outcomes)
 }

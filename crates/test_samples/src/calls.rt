@@ -1,5 +1,5 @@
 // Sealing and checking answered by number: 0, or the number of the refusal.
-#[derive(Drop)]
+#[derive(Clone, Copy)]
 pub struct Setup {
     pub scheme: u32,
     pub n: u32,

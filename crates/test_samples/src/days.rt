@@ -10,10 +10,8 @@ fn byte(g: usize, i: usize) -> u8 {
 
 // Fills the part with the first bytes of day g.
 fn fill(g: usize, part: &mut [u8]) {
-    let mut i = 0;
-    while i < part.len() {
-        part[i] = byte(g, i);
-        i += 1;
+    for (i, b) in part.iter_mut().enumerate() {
+        *b = byte(g, i);
     }
 }
 

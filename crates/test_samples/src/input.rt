@@ -1,5 +1,5 @@
 // Cases from standard input: a line each, of numbers with ',' between them.
-ghost use Rattle.std.specs.Prelude.{◌≡◌, ◌+◌, ◌≤◌, min};
+ghost use Rattle.std.specs.Prelude.{◌≡◌, ◌+◌, ◌≤◌, min, length};
 
 // The number with one more digit; another byte adds nothing.
 fn appended(x: u32, b: u8) -> u32 {
@@ -30,13 +30,22 @@ fn next(k: usize, b: u8) -> usize
 pub fn numbers(line: &[u8]) -> [u32; 11] {
     let mut r = [0u32; 11];
     let mut k = 0usize;
-    let mut i = 0usize;
-    while i < line.len() {
-        r[k] = appended(r[k], line[i]);
-        k = next(k, line[i]);
-        i += 1;
+    for &b in line {
+        r[k] = appended(r[k], b);
+        k = next(k, b);
     }
     r
+}
+
+// Where the line at at ends, before its line feed or at the end.
+pub fn line_end(s: &[u8], at: usize) -> usize
+    requires { at ≤ length s.now }
+    ensures { (at ≤ result) × (result ≤ length s.now) }
+{
+    match memchr::memchr(b'\n', &s[at..]) {
+        Some(i) => at + i,
+        None => s.len(),
+    }
 }
 
 // The place after the line end at at.

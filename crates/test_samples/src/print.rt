@@ -1,57 +1,54 @@
 // What the test programs print.
-
-fn wide(b: u8) -> u64 {
-    b as u64
-}
+use std::io;
 
 // The bytes in hexadecimal, with width digits or more each.
-pub fn hex(s: &[u8], width: usize) {
-    let mut i = 0;
-    while i < s.len() {
-        io::print_hex(1, wide(s[i]), width);
-        i += 1;
+pub fn hex(rt: &HostRuntime, s: &[u8], width: usize) -> io::Result<()> {
+    for b in s {
+        print!(rt; "{b:0width$x}")?;
     }
+    Ok(())
 }
 
-pub fn number(x: u32) {
-    io::print_decimal(1, x as u64);
+pub fn bytes(rt: &HostRuntime, s: &[u8]) -> io::Result<()> {
+    rt.write_all(s)
 }
 
-pub fn byte(b: u8) {
-    let s = [b];
-    io::write_all(1, &s);
+pub fn number(rt: &HostRuntime, x: u32) -> io::Result<()> {
+    print!(rt; "{x}")
+}
+
+pub fn byte(rt: &HostRuntime, b: u8) -> io::Result<()> {
+    rt.write_all(&[b])
 }
 
 // The numbers, with a byte between them.
-pub fn numbers(s: &[u32], between: u8) {
-    let mut i = 0;
-    while i < s.len() {
+pub fn numbers(rt: &HostRuntime, s: &[u32], between: u8) -> io::Result<()> {
+    for (i, &x) in s.iter().enumerate() {
         if 0 < i {
-            byte(between);
+            byte(rt, between)?;
         }
-        number(s[i]);
-        i += 1;
+        number(rt, x)?;
     }
+    Ok(())
 }
 
 // The SHA-256 of the bytes.
-pub fn digest(s: &[u8]) {
+pub fn digest(rt: &HostRuntime, s: &[u8]) -> io::Result<()> {
     let st = hasher::absorb(hasher::empty(), 0, s);
     let h = sha256_words::bytes(hasher::finish(st, s.len() as u64));
-    hex(&h, 2);
+    hex(rt, &h, 2)
 }
 
-pub fn hex_line(s: &[u8]) {
-    hex(s, 2);
-    byte(b'\n');
+pub fn hex_line(rt: &HostRuntime, s: &[u8]) -> io::Result<()> {
+    hex(rt, s, 2)?;
+    byte(rt, b'\n')
 }
 
-pub fn number_line(x: u32) {
-    number(x);
-    byte(b'\n');
+pub fn number_line(rt: &HostRuntime, x: u32) -> io::Result<()> {
+    println!(rt; "{x}")
 }
 
-pub fn digest_line(s: &[u8]) {
-    digest(s);
-    byte(b'\n');
+pub fn digest_line(rt: &HostRuntime, s: &[u8]) -> io::Result<()> {
+    digest(rt, s)?;
+    byte(rt, b'\n')
 }

@@ -5,7 +5,7 @@ use service::{Closed, Record};
 use test_samples::{answers, days};
 
 // A thousand days, or sixteen whose lengths meet the block bounds.
-#[derive(Drop)]
+#[derive(Clone, Copy)]
 pub enum Ledger {
     Thousand,
     Short,

@@ -10,7 +10,7 @@ fn same_part(a: Record, b: Record, from: usize, to: usize) -> bool
 {
     let x = record_bytes::encode(a);
     let y = record_bytes::encode(b);
-    check::same(&x[from..to], &y[from..to])
+    x[from..to] == y[from..to]
 }
 
 pub fn same(a: Record, b: Record) -> bool {
@@ -32,8 +32,7 @@ fn same_day(a: Record, b: Record) -> bool {
 // Whether it is the record of zeros that a refused open gives.
 pub fn zeros(a: Record) -> bool {
     let x = record_bytes::encode(a);
-    let z = [0u8; 728];
-    check::same(&x, &z)
+    x == [0u8; 728]
 }
 
 // Whether next has len bytes more in its open day than the record that the call is made on, and the chains, the start

@@ -3,59 +3,59 @@
 // answer of one more add, which opens the next season but in the last; then the same two lines of one more close.
 // reference/last_day.py writes what they must be.
 use service::{Record, Writing};
+use std::io;
 use test_samples::{answers, print, records};
 
 // Writes what the close answered, and the SHA-256 of its values at the front of the part.
-fn print_close(answer: Writing, part: &[u8]) {
+fn print_close(rt: &HostRuntime, answer: Writing, part: &[u8]) -> io::Result<()> {
     let x = service::writing_number(answer);
     if x != 0 {
-        io::write_all(1, b"NO,");
-        print::number_line(x);
-        return;
+        print::bytes(rt, b"NO,")?;
+        return print::number_line(rt, x);
     }
     let k = service::count_of(answer);
-    print::number_line(k);
+    print::number_line(rt, k)?;
     let n = answers::past(0, k, part.len());
-    print::digest_line(&part[0..n]);
+    print::digest_line(rt, &part[0..n])
 }
 
 // Writes the answer of one more add, and what one more close answered.
-fn print_next(state: Record, part: &mut [u8]) {
+fn print_next(rt: &HostRuntime, state: Record, part: &mut [u8]) -> io::Result<()> {
     let added = service::add(state, b"abc");
     let answer = added.answer;
-    print::number_line(refusals::number_of(answer));
+    print::number_line(rt, refusals::number_of(answer))?;
     let next = added.state;
     let closed = service::close(next, part);
     let writing = closed.answer;
-    print_close(writing, part);
+    print_close(rt, writing, part)
 }
 
-fn lines(scheme: u32, n: u32, season: u32) {
+fn lines(rt: &HostRuntime, scheme: u32, n: u32, season: u32) -> io::Result<()> {
     let mut part = [0u8; 576];
     let state = records::made_up(scheme, n, 1, season, 65535, 0);
     let added = service::add(state, b"abc");
     let open = added.state;
     let closed = service::close(open, &mut part);
     let answer = closed.answer;
-    print_close(answer, &part);
+    print_close(rt, answer, &part)?;
     let last = closed.state;
-    print_next(last, &mut part);
+    print_next(rt, last, &mut part)
 }
 
-fn season_lines(scheme: u32, n: u32) {
-    lines(scheme, n, 0);
-    lines(scheme, n, 65534);
-    lines(scheme, n, 65535);
+fn season_lines(rt: &HostRuntime, scheme: u32, n: u32) -> io::Result<()> {
+    lines(rt, scheme, n, 0)?;
+    lines(rt, scheme, n, 65534)?;
+    lines(rt, scheme, n, 65535)
 }
 
-fn scheme_lines(scheme: u32) {
-    season_lines(scheme, 1);
-    season_lines(scheme, 8);
-    season_lines(scheme, 256);
+fn scheme_lines(rt: &HostRuntime, scheme: u32) -> io::Result<()> {
+    season_lines(rt, scheme, 1)?;
+    season_lines(rt, scheme, 8)?;
+    season_lines(rt, scheme, 256)
 }
 
-pub fn run() {
-    scheme_lines(1);
-    scheme_lines(2);
-    scheme_lines(3);
+pub fn run(rt: &HostRuntime) -> io::Result<()> {
+    scheme_lines(rt, 1)?;
+    scheme_lines(rt, 2)?;
+    scheme_lines(rt, 3)
 }

@@ -8,9 +8,11 @@ mod service_refusals;
 mod short_ledgers;
 mod thousand;
 
-fn main() {
-    thousand::run();
-    short_ledgers::run();
-    last_day::run();
-    service_refusals::run();
+use std::io;
+
+fn main(rt: HostRuntime) -> io::Result<()> {
+    thousand::run(&rt)?;
+    short_ledgers::run(&rt)?;
+    last_day::run(&rt)?;
+    service_refusals::run(&rt)
 }

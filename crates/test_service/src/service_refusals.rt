@@ -5,38 +5,42 @@
 // reference/service_refusals.py writes both.
 use crate::compare;
 use service::Record;
+use std::io;
+use std::io::Read;
 use test_samples::{answers, input, lent, print, records};
 
-fn print_answer(number: u32, due: bool) {
-    io::write_all(1, b": ");
+fn print_answer(rt: &HostRuntime, number: u32, due: bool) -> io::Result<()> {
+    print::bytes(rt, b": ")?;
     if !due {
-        io::write_all(1, b"changed ");
+        print::bytes(rt, b"changed ")?;
     }
-    print::number_line(number);
+    print::number_line(rt, number)
 }
 
-fn open(c: [u32; 11]) {
+fn open(rt: &HostRuntime, c: [u32; 11]) -> io::Result<()> {
     let opened = service::open(c[0], c[1], c[2]);
     let answer = opened.answer;
     let state = opened.state;
     let x = refusals::number_of(answer);
     if x != 0 {
-        print_answer(x, compare::zeros(state));
-        return;
+        return print_answer(rt, x, compare::zeros(state));
     }
-    print_answer(0, compare::same(state, records::fresh(c[0], c[1], c[2])));
+    print_answer(
+        rt,
+        0,
+        compare::same(state, records::fresh(c[0], c[1], c[2])),
+    )
 }
 
-fn add_piece(state: Record, piece: &[u8]) {
+fn add_piece(rt: &HostRuntime, state: Record, piece: &[u8]) -> io::Result<()> {
     let added = service::add(state, piece);
     let answer = added.answer;
     let next = added.state;
     let x = refusals::number_of(answer);
     if x != 0 {
-        print_answer(x, compare::same(next, state));
-        return;
+        return print_answer(rt, x, compare::same(next, state));
     }
-    print_answer(0, compare::grown(state, next, piece.len()));
+    print_answer(rt, 0, compare::grown(state, next, piece.len()))
 }
 
 // Whether what comes back of a close is due: the record and the part as they were, or the next day's record and the
@@ -49,54 +53,55 @@ fn due(number: u32, k: u32, state: Record, next: Record, part: &[u8]) -> bool {
     kept <= answers::past(0, k, part.len()) && compare::next_day(state, next)
 }
 
-fn close_part(state: Record, part: &mut [u8]) {
+fn close_part(rt: &HostRuntime, state: Record, part: &mut [u8]) -> io::Result<()> {
     let closed = service::close(state, part);
     let answer = closed.answer;
     let next = closed.state;
     let x = service::writing_number(answer);
-    print_answer(x, due(x, service::count_of(answer), state, next, part));
+    print_answer(rt, x, due(x, service::count_of(answer), state, next, part))
 }
 
 fn record(c: [u32; 11]) -> Record {
     records::made_up(c[0], c[1], c[2], c[3], c[4], c[5])
 }
 
-fn add(c: [u32; 11]) {
+fn add(rt: &HostRuntime, c: [u32; 11]) -> io::Result<()> {
     let piece = [97u8; 4];
     let n = input::at_most(c[6], 4);
-    add_piece(record(c), &piece[0..n]);
+    add_piece(rt, record(c), &piece[0..n])
 }
 
-fn close(c: [u32; 11]) {
+fn close(rt: &HostRuntime, c: [u32; 11]) -> io::Result<()> {
     let mut part = [170u8; 576];
     let n = input::at_most(c[6], 576);
-    close_part(record(c), &mut part[0..n]);
+    close_part(rt, record(c), &mut part[0..n])
 }
 
-fn case(line: &[u8]) {
+fn case(rt: &HostRuntime, line: &[u8]) -> io::Result<()> {
     if line.len() == 0 {
-        return;
+        return Ok(());
     }
-    io::write_all(1, line);
+    print::bytes(rt, line)?;
     let c = input::numbers(line);
     match line[0] {
-        b'o' => open(c),
-        b'a' => add(c),
-        _ => close(c),
+        b'o' => open(rt, c),
+        b'a' => add(rt, c),
+        _ => close(rt, c),
     }
 }
 
-fn cases(s: &[u8]) {
+fn cases(rt: &HostRuntime, s: &[u8]) -> io::Result<()> {
     let mut at = 0usize;
     while at < s.len() {
-        let e = bytes::scan::find(s, at, s.len(), b'\n');
-        case(&s[at..e]);
+        let e = input::line_end(s, at);
+        case(rt, &s[at..e])?;
         at = input::after(e, s.len());
     }
+    Ok(())
 }
 
-pub fn run() {
-    let mut buffer = io::large_buffer();
-    let n = io::read_full(0, &mut buffer);
-    cases(&buffer[..n]);
+pub fn run(rt: &HostRuntime) -> io::Result<()> {
+    let mut s = Vec::new(rt.alloc());
+    rt.reader().read_to_end(&mut s)?;
+    cases(rt, &s)
 }

@@ -6,35 +6,37 @@ ghost use Rattle.std.specs.Prelude.{◌<◌};
 
 use crate::books;
 use crate::books::Ledger;
+use std::io;
 use test_samples::{as_u32, print};
 
 // Seals in another cutting, and compares.
-fn compare(book: &[u8], scheme: u32, piece: usize, gap: bool)
+fn compare(rt: &HostRuntime, book: &[u8], scheme: u32, piece: usize, gap: bool) -> io::Result<()>
     requires { 0 < piece }
 {
     let mut other = [0u8; 1024];
     let n = books::seal(scheme, 4, 1, Ledger::Short, piece, gap, &mut other);
-    if !check::same(book, &other[0..n]) {
-        io::write_all(1, b"differs\n");
+    if book != &other[0..n] {
+        print::bytes(rt, b"differs\n")?;
     }
+    Ok(())
 }
 
-fn print_book(book: &[u8], scheme: u32) {
-    print::number_line(as_u32(book.len() / 32));
-    print::digest_line(book);
-    compare(book, scheme, 1, false);
-    compare(book, scheme, 7, false);
-    compare(book, scheme, 64, true);
+fn print_book(rt: &HostRuntime, book: &[u8], scheme: u32) -> io::Result<()> {
+    print::number_line(rt, as_u32(book.len() / 32))?;
+    print::digest_line(rt, book)?;
+    compare(rt, book, scheme, 1, false)?;
+    compare(rt, book, scheme, 7, false)?;
+    compare(rt, book, scheme, 64, true)
 }
 
-fn lines(scheme: u32) {
+fn lines(rt: &HostRuntime, scheme: u32) -> io::Result<()> {
     let mut book = [0u8; 1024];
     let n = books::seal(scheme, 4, 1, Ledger::Short, 131, false, &mut book);
-    print_book(&book[0..n], scheme);
+    print_book(rt, &book[0..n], scheme)
 }
 
-pub fn run() {
-    lines(1);
-    lines(2);
-    lines(3);
+pub fn run(rt: &HostRuntime) -> io::Result<()> {
+    lines(rt, 1)?;
+    lines(rt, 2)?;
+    lines(rt, 3)
 }

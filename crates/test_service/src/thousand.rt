@@ -4,37 +4,38 @@ ghost use Rattle.std.specs.Prelude.{◌+◌, ◌*◌, ◌≤◌, length};
 
 use crate::books;
 use crate::books::Ledger;
+use std::io;
 use test_samples::{as_u32, print};
 
 // Writes value k of the book.
-fn print_value(book: &[u8], k: usize)
+fn print_value(rt: &HostRuntime, book: &[u8], k: usize) -> io::Result<()>
     requires { 32 * k + 32 ≤ length book.now }
 {
     let a = 32 * k;
     let e = a + 32;
-    print::hex_line(&book[a..e]);
+    print::hex_line(rt, &book[a..e])
 }
 
-fn print_book(book: &[u8]) {
+fn print_book(rt: &HostRuntime, book: &[u8]) -> io::Result<()> {
     let k = book.len() / 32;
-    print::number_line(as_u32(k));
-    print::digest_line(book);
+    print::number_line(rt, as_u32(k))?;
+    print::digest_line(rt, book)?;
     if k == 0 {
-        return;
+        return Ok(());
     }
-    print_value(book, 0);
-    print_value(book, k / 2);
-    print_value(book, k - 1);
+    print_value(rt, book, 0)?;
+    print_value(rt, book, k / 2)?;
+    print_value(rt, book, k - 1)
 }
 
-fn lines(scheme: u32, f: u32) {
+fn lines(rt: &HostRuntime, scheme: u32, f: u32) -> io::Result<()> {
     let mut book = [0u8; 67584];
     let n = books::seal(scheme, 8, f, Ledger::Thousand, 131, false, &mut book);
-    print_book(&book[0..n]);
+    print_book(rt, &book[0..n])
 }
 
-pub fn run() {
-    lines(1, 25);
-    lines(2, 25);
-    lines(3, 1);
+pub fn run(rt: &HostRuntime) -> io::Result<()> {
+    lines(rt, 1, 25)?;
+    lines(rt, 2, 25)?;
+    lines(rt, 3, 1)
 }

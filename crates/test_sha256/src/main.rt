@@ -5,18 +5,14 @@
 
 ghost use Rattle.std.specs.Prelude.{◌≤◌, ◌<◌};
 
-fn wide(x: u32) -> u64 {
-    x as u64
-}
+use std::io;
 
 // Writes the words as hexadecimal digits, and a line end.
-fn print(d: [u32; 8]) {
-    let mut i = 0;
-    while i < 8 {
-        io::print_hex(1, wide(d[i]), 8);
-        i += 1;
+fn print(rt: &HostRuntime, d: [u32; 8]) -> io::Result<()> {
+    for x in d {
+        print!(rt; "{x:08x}")?;
     }
-    io::write_all(1, b"\n");
+    println!(rt)
 }
 
 // The digest of s, which comes in pieces of size bytes, then the rest.
@@ -68,25 +64,24 @@ fn message(len: usize) -> [u8; 200]
 }
 
 // The message m: in pieces of 7 bytes, in pieces of 100, and after the byte first.
-fn lines(m: &[u8], first: u8) {
-    print(fed(m, 7));
-    print(fed(m, 100));
-    print(hasher::digest(first, m));
+fn lines(rt: &HostRuntime, m: &[u8], first: u8) -> io::Result<()> {
+    print(rt, fed(m, 7))?;
+    print(rt, fed(m, 100))?;
+    print(rt, hasher::digest(first, m))
 }
 
-fn line(len: usize)
+fn line(rt: &HostRuntime, len: usize) -> io::Result<()>
     requires { len ≤ 200 }
 {
     let m = message(len);
-    lines(&m[0..len], len as u8);
+    lines(rt, &m[0..len], len as u8)
 }
 
-fn lengths() {
-    let mut len = 0;
-    while len <= 200 {
-        line(len);
-        len += 1;
+fn lengths(rt: &HostRuntime) -> io::Result<()> {
+    for len in 0..=200 {
+        line(rt, len)?;
     }
+    Ok(())
 }
 
 // Word i of the words k is (i + 1) * 2654435761 + k * 1013904223, modulo 2 ^ 32.
@@ -108,12 +103,11 @@ fn words(k: usize) -> [u32; 8]
     w
 }
 
-fn links() {
-    let mut k = 0;
-    while k < 16 {
-        print(links::link_words(words(2 * k), words(2 * k + 1)));
-        k += 1;
+fn links(rt: &HostRuntime) -> io::Result<()> {
+    for k in 0..16 {
+        print(rt, links::link_words(words(2 * k), words(2 * k + 1)))?;
     }
+    Ok(())
 }
 
 // The example message of 896 bits.
@@ -122,18 +116,18 @@ fn longest() -> [u8; 112] {
 }
 
 // The standard's example messages.
-fn examples() {
-    print(fed(b"", 7));
-    print(fed(b"abc", 7));
+fn examples(rt: &HostRuntime) -> io::Result<()> {
+    print(rt, fed(b"", 7))?;
+    print(rt, fed(b"abc", 7))?;
     let m = b"abcdbcdecdefdefgefghfghighijhijkijkljklmklmnlmnomnopnopq";
-    print(fed(m, 7));
+    print(rt, fed(m, 7))?;
     let n = longest();
-    print(fed(&n, 7));
-    print(million());
+    print(rt, fed(&n, 7))?;
+    print(rt, million())
 }
 
-fn main() {
-    examples();
-    lengths();
-    links();
+fn main(rt: HostRuntime) -> io::Result<()> {
+    examples(&rt)?;
+    lengths(&rt)?;
+    links(&rt)
 }

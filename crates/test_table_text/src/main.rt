@@ -4,12 +4,15 @@
 
 ghost use Rattle.std.specs.Prelude.{◌≡◌, ◌+◌, ◌≤◌, min, length};
 
-fn show(name: &[u8], input: &[u8]) {
+use std::io;
+use std::io::Read;
+
+fn show(rt: &HostRuntime, name: &[u8], input: &[u8]) -> io::Result<()> {
     let mut out = [0u8; 2048];
     let n = table_text::text(input, &mut out);
-    io::write_all(1, name);
-    io::write_all(1, b"\n");
-    io::write_all(1, &out[..n]);
+    rt.write_all(name)?;
+    rt.write_all(b"\n")?;
+    rt.write_all(&out[..n])
 }
 
 // Where the next '#' stands, or the end.
@@ -17,7 +20,10 @@ fn end(s: &[u8], at: usize) -> usize
     requires { at ≤ length s.now }
     ensures { (at ≤ result) × (result ≤ length s.now) }
 {
-    bytes::scan::find(s, at, s.len(), b'#')
+    match memchr::memchr(b'#', &s[at..]) {
+        Some(i) => at + i,
+        None => s.len(),
+    }
 }
 
 // The place after it.
@@ -31,19 +37,20 @@ fn past(at: usize, size: usize) -> usize
     size
 }
 
-fn cases(s: &[u8]) {
+fn cases(rt: &HostRuntime, s: &[u8]) -> io::Result<()> {
     let mut at = 0usize;
     while at < s.len() {
         let a = end(s, at);
         let from = past(a, s.len());
         let b = end(s, from);
-        show(&s[at..a], &s[from..b]);
+        show(rt, &s[at..a], &s[from..b])?;
         at = past(b, s.len());
     }
+    Ok(())
 }
 
-fn main() {
-    let mut buffer = io::large_buffer();
-    let n = io::read_full(0, &mut buffer);
-    cases(&buffer[..n]);
+fn main(rt: HostRuntime) -> io::Result<()> {
+    let mut input = Vec::new(rt.alloc());
+    rt.reader().read_to_end(&mut input)?;
+    cases(&rt, &input)
 }
