@@ -239,10 +239,10 @@ pub record From (s n f : ℕ) (d : Seasons) (r : Record) (cs : List Call) : Type
   pub state : InSeason s n f (seasons_after s n d (map argument_of cs)) (state_after r cs)
 
 pub all_calls : {s n f : ℕ} {d : Seasons} {r : Record} → InSeason s n f d r → (cs : List Call) → From s n f d r cs
-all_calls {s} {n} {d = d} k [] =
+all_calls {s} {n} {f} {d} {r} k [] =
     record { refused = refl; book = λ t. append-nil (book_of s n (entries_of d t)); whole = append-nil (books s n d); state = k }
-all_calls {s} {n} {d = d} {r = r} k (c ∷ cs) =
-    let later = all_calls (in_called k c) cs in
+all_calls {s} {n} {f} {d} {r} k (c ∷ cs) =
+    let later = all_calls {s = s} {n = n} {f = f} {d = kept_in s n d (argument_of c)} {r = (called r c).state} (in_called k c) cs in
     let made = called_all (called r c).state cs in
     record {
       refused = ap₂ (λ (x : ℕ) (l : List ℕ). x ∷ l) (number_in k c) later.refused;
