@@ -16,9 +16,11 @@ returns-then-k-eq0 c =
     let step = c.step-step in
     let size : length bytes.result ≡ 32 = search rules in
     record {
-      stepped = rw (← digest.ensures) (day_quiet a.scheme a.n a.g a.start a.black a.slots digest.result step.result step.ensures c.if-k-eq0.true c.requires.some);
+      stepped = rw (← digest.ensures)
+          (day_quiet a.scheme a.n a.g a.start a.black a.slots digest.result step.result step.ensures c.if-k-eq0.true c.requires.some);
       work_after = rw (← digest.ensures, ← bytes.ensures) (wrote_front 32 c.put.ensures size);
-      outcomes_after = rw (← digest.ensures) (quiet_compared a.scheme a.n a.g a.black a.slots digest.result step.result step.ensures a.book.now a.outcomes.now c.if-k-eq0.true);
+      outcomes_after = rw (← digest.ensures)
+          (quiet_compared a.scheme a.n a.g a.black a.slots digest.result step.result step.ensures a.book.now a.outcomes.now c.if-k-eq0.true);
     }
 
 pub day_values-values-requires : goal.day_values-values-requires
@@ -40,8 +42,10 @@ returns c =
     let step = c.step-step in
     let size : length bytes.result ≡ 32 = search rules in
     record {
-      stepped = rw (← digest.ensures) (day_ended a.scheme a.n a.g a.start a.black a.slots digest.result step.result step.ensures c.restart_slots.ensures);
+      stepped = rw (← digest.ensures)
+          (day_ended a.scheme a.n a.g a.start a.black a.slots digest.result step.result step.ensures c.restart_slots.ensures);
       work_after = rw (← digest.ensures, ← bytes.ensures) (wrote_front 32 c.put.ensures size);
-      outcomes_after = rw (← digest.ensures) (day_compared a.scheme a.n a.g a.black a.slots digest.result step.result step.ensures a.book.now
+      outcomes_after = rw (← digest.ensures)
+          (day_compared a.scheme a.n a.g a.black a.slots digest.result step.result step.ensures a.book.now
           a.outcomes.now c.day_values-values.result c.day_values-values.ensures c.all.ensures);
     }

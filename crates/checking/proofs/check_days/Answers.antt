@@ -54,7 +54,8 @@ pub overflow_mul-from : goal.overflow_mul-from
 overflow_mul-from c = omega (arith, (begin (goal.at.overflow_mul-from c).In-loop-i).0)
 
 pub overflow_mul-done : goal.overflow_mul-done
-overflow_mul-done c = omega (arith, (begin (goal.at.overflow_mul-done c).In-loop-i).1, turn (goal.at.overflow_mul-done c).In-loop-i, c.requires.days_most)
+overflow_mul-done c =
+    omega (arith, (begin (goal.at.overflow_mul-done c).In-loop-i).1, turn (goal.at.overflow_mul-done c).In-loop-i, c.requires.days_most)
 
 pub day_number-requires : goal.day_number-requires
 day_number-requires c = omega (arith, turn (goal.at.day_number-requires c).In-loop-i, c.requires.days_most)

@@ -7,7 +7,8 @@ use Rattle.checking.proofs.check_days.Given as goal
 
 abbrev pub invariant-loop-i : goal.invariant-loop-i
 invariant-loop-i l =
-    (l.i ≤ l.d) × (l.days ≡ l.d) × (l.start ≡ start_value l.scheme l.n) × Through l.scheme l.n l.ledger l.ends l.book l.initial.work l.initial.outcomes l.i l.at l.black l.slots l.work l.outcomes
+    (l.i ≤ l.d) × (l.days ≡ l.d) × (l.start ≡ start_value l.scheme l.n) ×
+    Through l.scheme l.n l.ledger l.ends l.book l.initial.work l.initial.outcomes l.i l.at l.black l.slots l.work l.outcomes
 
 abbrev pub decreases-loop-i : goal.decreases-loop-i
 decreases-loop-i l =

@@ -102,7 +102,8 @@ pub overflow_add-at : goal.overflow_add-at
 overflow_add-at c =
     let after = c.day-after in
     let a = c.args in
-    let q = outcomes_fit c.requires c.loop-i.invariant.2 (turn (goal.at.overflow_add-at c).In-loop-i) (is_day (goal.at.overflow_add-at c).After-wide-at) c.day_number.ensures refl
+    let q = outcomes_fit c.requires c.loop-i.invariant.2 (turn (goal.at.overflow_add-at c).In-loop-i) (is_day (goal.at.overflow_add-at c).After-wide-at)
+    c.day_number.ensures refl
     (black_stepped a.n _ _ _ _ _ after.ensures.black_value.0 after.ensures.black_value.1) after.ensures.work_after
     (black_compared a.n _ _ _ _ _ _ _ _ after.ensures.black_value.0 after.ensures.black_value.1 after.ensures.outcomes_after) in
     omega (arith, q, c.wide-at.ensures)
@@ -114,7 +115,8 @@ loop-i-preserved c = (
   let after = c.day-after in
       let a = c.args in
       rw c.wide-at.ensures
-      (through_next c.requires c.loop-i.invariant.2 (turn (goal.at.loop-i-preserved c).In-loop-i) (is_day (goal.at.loop-i-preserved c).After-wide-at) c.day_number.ensures refl
+      (through_next c.requires c.loop-i.invariant.2 (turn (goal.at.loop-i-preserved c).In-loop-i) (is_day (goal.at.loop-i-preserved c).After-wide-at)
+      c.day_number.ensures refl
       (black_stepped a.n _ _ _ _ _ after.ensures.black_value.0 after.ensures.black_value.1) after.ensures.work_after
       (black_compared a.n _ _ _ _ _ _ _ _ after.ensures.black_value.0 after.ensures.black_value.1 after.ensures.outcomes_after)),
 )

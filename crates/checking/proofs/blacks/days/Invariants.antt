@@ -8,7 +8,8 @@ use Rattle.checking.proofs.blacks.days.Given as goal
 
 abbrev pub invariant-loop-i : goal.invariant-loop-i
 invariant-loop-i l =
-    (l.i ≤ l.d) × (l.count ≡ l.d) × Through 1 l.n l.ledger l.ends l.book l.initial.work l.initial.outcomes l.i l.at l.black (replicate 17 (start_value 1 l.n)) l.work l.outcomes
+    (l.i ≤ l.d) × (l.count ≡ l.d) ×
+    Through 1 l.n l.ledger l.ends l.book l.initial.work l.initial.outcomes l.i l.at l.black (replicate 17 (start_value 1 l.n)) l.work l.outcomes
 
 abbrev pub decreases-loop-i : goal.decreases-loop-i
 decreases-loop-i l = l.d - l.i
