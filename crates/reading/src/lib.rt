@@ -16,7 +16,7 @@ ghost use Rattle.reading.specs.Private.{Layout, given_tests, Given, numbers_of};
 ghost use Rattle.reading.specs.Private as private;
 
 // 01's numbers of a changed table.
-#[derive(Drop)]
+#[derive(Clone, Copy)]
 pub struct Numbers {
     pub listed: u32,
     pub first: u32,
@@ -25,7 +25,7 @@ pub struct Numbers {
     pub last_good: u32,
 }
 
-#[derive(Drop)]
+#[derive(Clone, Copy)]
 pub enum Reading {
     Clean,
     Changed(Numbers),
