@@ -32,7 +32,7 @@ pub struct Record {
 }
 
 // The number of values written, by a close or so far; or the refusal.
-#[derive(Drop)]
+#[derive(Clone, Copy)]
 pub enum Writing {
     Wrote(u32),
     Refused(u32),
