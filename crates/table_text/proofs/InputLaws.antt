@@ -1,6 +1,6 @@
 -- Laws of the two lines: where they end, their numbers, their outcomes.
 use mathlib.Core.Path.{◌≡◌, refl, sym, ap, ap₂, ◌∙◌}
-use mathlib.Core.Bool.{Bool, true, false, ◌&&◌, and-true, and_false, cond}
+use mathlib.Core.Bool.{Bool, true, false, ◌&&◌, and-true, and-false, cond}
 use mathlib.Core.List.{List, [], ◌∷◌, ◌++◌, map, append_assoc, map-append}
 use Prim.Native.Nat.{ℕ, suc, ◌+◌, ◌-◌, ◌≤◌, ◌<◌}
 use native.Mathlib.{Numerals.add-one, Omega.arith}
@@ -20,7 +20,7 @@ end_not s at h = go (drop at s) (λ e. h (sym (length-drop at s) ∙ e))
     go : (xs : List ℕ) → (length xs ≡ 1 → ⊥) → false ≡ same xs (10 ∷ [])
     go [] n = refl
     go (x ∷ []) n = absurd (n refl)
-    go (x ∷ y ∷ xs) n = sym (and_false (eqb x 10))
+    go (x ∷ y ∷ xs) n = sym (and-false (eqb x 10))
 
 pub end_one : (s : List ℕ) (at : ℕ) → length s - at ≡ 1 → eqb (get_or s at 0) 10 ≡ same (drop at s) (10 ∷ [])
 end_one s at h = sym (rw (drop-cons s at 0 (omega arith), drop_of_length-le s {i = suc at} (omega arith)) (and-true (eqb (get_or s at 0) 10)))
