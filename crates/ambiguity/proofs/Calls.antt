@@ -1,6 +1,6 @@
 -- From the code to the figures: refusals, powers, sums over sets; a tile read by any call.
 use mathlib.Core.{Path.◌≡◌, Path.refl, Path.sym, Path.ap, Path.◌∙◌, Logic.inl, Logic.inr}
-use mathlib.Core.Bool.{true, false, ◌&&◌, cond, and_false}
+use mathlib.Core.Bool.{true, false, ◌&&◌, cond, and-false}
 use Prim.Native.Nat.{ℕ, zero, suc, ◌+◌, ◌-◌, ◌*◌, ◌/◌, ◌^◌, ◌≤◌, ◌<◌}
 use native.Mathlib.{Nat.pow-zero, Nat.pow-succ', Nat.pow-le-pow_left, Nat.pow-le-pow_right, Nat.mul-le-mul, Decide.dec_le, Numerals.add-one, Omega.arith}
 use lib.{Dec.leb, Pow.pow-lt}
@@ -44,10 +44,10 @@ module _ (n k : ℕ) where
     large_refused l = not_counted (rw (lt-leb n 64 l))
 
     pub none_refused : k ≡ 0 → 21 ≡ count_refusal n k
-    none_refused q = not_counted (rw q (and_false (leb n 64)))
+    none_refused q = not_counted (rw q (and-false (leb n 64)))
 
     pub many_refused : 3 < k → 21 ≡ count_refusal n k
-    many_refused l = not_counted (rw (lt-leb k 3 l, and_false (leb 1 k)) (and_false (leb n 64)))
+    many_refused l = not_counted (rw (lt-leb k 3 l, and-false (leb 1 k)) (and-false (leb n 64)))
 
     pub not_refused : n ≤ 64 → (k ≡ 0 → ⊥) → k ≤ 3 → 0 ≡ count_refusal n k
     unfolding count_refusal

@@ -1,12 +1,12 @@
 -- The two numbers in closed form, for every N.
 use mathlib.Core.{Path.◌≡◌, Path.refl, Path.sym, Path.ap, Path.◌∙◌}
-use mathlib.Core.Bool.{true, not}
+use mathlib.Core.Bool.{true}
 use mathlib.Core.List.Memᴰ
 use mathlib.Core.List.{List, [], ◌∷◌}
-use Prim.Native.Nat.{ℕ, suc, ◌+◌, ◌-◌, ◌*◌, ◌^◌}
+use Prim.Native.Nat.{ℕ, suc, ◌+◌, ◌*◌, ◌^◌}
 use native.Mathlib.{Nat.mul-one, Nat.mul_assoc, Omega.arith}
 use lib.{ListN.length}
-use Rattle.lists.specs.Lists.{◌among◌, every, up_from}
+use Rattle.lists.specs.Lists.{◌among◌, up_from}
 use Rattle.lists.proofs.Laws.{bool_ext, has_mem, mem_has, every_at, every_of, up_from_bounds, length-up_from}
 use Rattle.layouts.specs.Layouts.{allowed_n, lg}
 use Rattle.layouts.proofs.AllowedLaws.{allowed_n_is}

@@ -13,7 +13,7 @@ use Rattle.lists.proofs.Laws.{mem_has, and_of, mem_keep, is_in, length-up_from}
 use Rattle.evidence.specs.Evidence.{days, Within, meets, set_outcome, table_of, listing}
 use Rattle.evidence.proofs.TableLaws.{meets_of, listing_within}
 use Rattle.refusals.proofs.TestLaws.{all_pass}
-use Rattle.layouts.specs.Layouts.{divides, allowed_n, lg, tile, last_days, offset, covered_days, chains, layout_tests, layout_refusal}
+use Rattle.layouts.specs.Layouts.{divides, allowed_n, lg, tile, last_days, covered_days, chains, layout_tests, layout_refusal}
 use Rattle.layouts.proofs.{AllowedLaws.allowed_n_is, Coverage.weight_is}
 use Rattle.acceptance.proofs.Runs.{keep_all, last_days_mem}
 use Rattle.listing.specs.Private.{bit_of}
