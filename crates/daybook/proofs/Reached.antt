@@ -12,7 +12,7 @@ use Rattle.refusals.specs.Refusals.{book_limit, last_season}
 use Rattle.refusals.proofs.TestLaws.{all_pass}
 use Rattle.layouts.specs.Layouts.{chains_of_day}
 use Rattle.journal.specs.Journal.{closes, tests_of}
-use Rattle.journal.specs.Seasons.{Seasons, first, next, current, refusal_in, kept_in, seasons_after}
+use Rattle.journal.specs.Seasons.{Seasons, first, current, refusal_in, kept_in, seasons_after}
 use Rattle.journal.specs.Run.{Call, close, argument_of, seasons_of}
 use Rattle.journal.proofs.SeasonLaws.{current_next, current_stays, kept_taken, entries_present, seasons_append}
 use Rattle.daybook.specs.Claim.{SeasonsReached}

@@ -225,7 +225,7 @@ length_at (e ∷ E) day more = length_at E day more
 
 none_taken : (made : List Called) → blocks_to made 0 ≡ 0
 none_taken [] = refl
-none_taken (c ∷ made) = refl
+none_taken (c ∷ rest) = refl
 
 module _ (s n : ℕ) where
   -- what is forecast for the first i days of a season that ends with the entries F
@@ -281,7 +281,7 @@ taken {s} {n} {d = d} {r = r} k h t (c ∷ cs) =
     let F = entries_of (seasons_after s n next (map argument_of cs)) t in
     let w = whole_in d t in
     let v = whole_in next t in
-    let later = taken (in_called k c) (chained_called r c h) t cs in
+    let later = taken {d = next} {r = (called r c).state} (in_called k c) (chained_called r c h) t cs in
     elim (moved k t h c) [
       | inl p ↦ rw p.0 (elim p.1 [
         | inl m ↦ stays s n E N F w v (called r c) made later m
