@@ -13,8 +13,18 @@ returns-then-not-allowed_n c = rw (sym c.allowed_scheme.ensures ∙ c.if-not-all
 
 pub returns-then-not-allowed_f : goal.returns-then-not-allowed_f
 unfolding setup_refusal
-returns-then-not-allowed_f c = rw (sym c.allowed_scheme.ensures ∙ c.if-not-allowed_scheme.false, sym c.allowed_n.ensures ∙ c.if-not-allowed_n.false, sym c.allowed_f.ensures ∙ c.if-not-allowed_f.true)
+returns-then-not-allowed_f c = rw (
+  sym c.allowed_scheme.ensures ∙ c.if-not-allowed_scheme.false,
+  sym c.allowed_n.ensures ∙
+      c.if-not-allowed_n.false,
+  sym c.allowed_f.ensures ∙ c.if-not-allowed_f.true,
+)
 
 pub returns : goal.returns
 unfolding setup_refusal
-returns c = rw (sym c.allowed_scheme.ensures ∙ c.if-not-allowed_scheme.false, sym c.allowed_n.ensures ∙ c.if-not-allowed_n.false, sym c.allowed_f.ensures ∙ c.if-not-allowed_f.false)
+returns c = rw (
+  sym c.allowed_scheme.ensures ∙ c.if-not-allowed_scheme.false,
+  sym c.allowed_n.ensures ∙ c.if-not-allowed_n.false,
+  sym
+      c.allowed_f.ensures ∙ c.if-not-allowed_f.false,
+)

@@ -9,7 +9,8 @@ pub returns-then-ends-days : goal.returns-then-ends-days
 returns-then-ends-days c = sym (refusal_9 _ _ _ (omega arith))
 
 pub returns-then-not-good_end : goal.returns-then-not-good_end
-returns-then-not-good_end c = sym (test_bad _ _ _ _ _ _ c.start_of.ensures c.end_of.ensures c.good_end.ensures c.if-not-good_end.true _ (omega arith) (omega arith))
+returns-then-not-good_end c = sym (test_bad _ _ _ _ _ _ c.start_of.ensures c.end_of.ensures c.good_end.ensures c.if-not-good_end.true _
+    (omega arith) (omega arith))
 
 pub loop-i-preserved : goal.loop-i-preserved
 loop-i-preserved c = let l = c.loop-i in

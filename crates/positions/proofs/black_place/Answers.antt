@@ -16,10 +16,12 @@ pub overflow_add-result-in_default : goal.overflow_add-result-in_default
 overflow_add-result-in_default c = record { fits = omega (arith, ones_small (c.args.g - 1)) }
 
 pub overflow_sub-result-in_default : goal.overflow_sub-result-in_default
-overflow_sub-result-in_default c = let a = c.args in (levels_by a.scheme a.n a.g c.requires.0 (λ e. absurd (omega arith)) (λ e. absurd (omega arith)) c.requires.2).0
+overflow_sub-result-in_default c = let a = c.args in (levels_by a.scheme a.n a.g c.requires.0 (λ e. absurd (omega arith))
+    (λ e. absurd (omega arith)) c.requires.2).0
 
 pub returns-in-2 : goal.returns-in-2
 returns-in-2 c = tiles_by _ _ _ _ c.in-2.is c.lg.ensures
 
 pub returns-in_default : goal.returns-in_default
-returns-in_default c = let a = c.args in (levels_by a.scheme a.n a.g c.requires.0 (λ e. absurd (omega arith)) (λ e. absurd (omega arith)) c.requires.2).1
+returns-in_default c = let a = c.args in (levels_by a.scheme a.n a.g c.requires.0 (λ e. absurd (omega arith)) (λ e. absurd (omega arith))
+    c.requires.2).1

@@ -12,7 +12,8 @@ pub values_through-requires : goal.values_through-requires
 values_through-requires c = let a = c.args in layout_asks a.scheme a.n a.f a.d c.layout_refusal-x.ensures c.if-x-ne0.false
 
 pub returns-then-values_through-position : goal.returns-then-values_through-position
-returns-then-values_through-position c = located_beyond _ _ _ _ c.layout_refusal-x.ensures _ c.if-x-ne0.false c.values_through.ensures c.if-values_through-position.true
+returns-then-values_through-position c = located_beyond _ _ _ _ c.layout_refusal-x.ensures _ c.if-x-ne0.false c.values_through.ensures
+    c.if-values_through-position.true
 
 pub day_of-g-requires : goal.day_of-g-requires
 day_of-g-requires c =

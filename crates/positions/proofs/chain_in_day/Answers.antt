@@ -33,7 +33,11 @@ pub returns-in_default-e : goal.returns-in_default-e
 returns-in_default-e c =
     let a = c.args in
     black_2 a.scheme a.n a.g a.i c.requires c.black_place.ensures c.in-2.is
-    (elim c.in_default-e.branch [ in_default-e-via-then-e-lt1 w ↦ inr (omega arith) | in_default-e-via-else-e-lt1+else-e-lt10 w ↦ inl (omega arith) ]) c.black_chain-in_default-e.ensures
+    (elim c.in_default-e.branch [
+      | in_default-e-via-then-e-lt1 w ↦ inr (omega arith)
+      | in_default-e-via-else-e-lt1+else-e-lt10 w ↦ inl
+          (omega arith)
+    ]) c.black_chain-in_default-e.ensures
 
 pub returns-in-1-to-17 : goal.returns-in-1-to-17
 returns-in-1-to-17 c =
@@ -45,4 +49,8 @@ pub returns-in_default-e-2 : goal.returns-in_default-e-2
 returns-in_default-e-2 c =
     let a = c.args in
     black_3 a.scheme a.n a.g a.i c.requires c.black_place.ensures (λ e. absurd (omega arith)) (λ e. absurd (omega arith))
-    (elim c.in_default-e-2.branch [ in_default-e-2-via-then-e-lt1-2 w ↦ inr (omega arith) | in_default-e-2-via-else-e-lt1-2+else-e-lt18 w ↦ inl (omega arith) ]) c.black_chain-in_default-e-2.ensures
+    (elim c.in_default-e-2.branch [
+      | in_default-e-2-via-then-e-lt1-2 w ↦ inr (omega arith)
+      | in_default-e-2-via-else-e-lt1-2+else-e-lt18 w ↦
+          inl (omega arith)
+    ]) c.black_chain-in_default-e-2.ensures

@@ -5,7 +5,13 @@ use Rattle.positions.proofs.StepLaws.{no_values, some_day, day_found}
 use Rattle.positions.proofs.day_of.Goals as goal
 
 pub loop-high-init : goal.loop-high-init
-loop-high-init c = let a = c.args in (some_day a.scheme a.n a.d a.position c.requires.3, search rules, omega (arith, no_values a.scheme a.n), c.requires.3)
+loop-high-init c = let a = c.args in (
+  some_day a.scheme a.n a.d a.position c.requires.3,
+  search rules,
+  omega
+      (arith, no_values a.scheme a.n),
+  c.requires.3,
+)
 
 pub returns : goal.returns
 returns c =

@@ -55,11 +55,13 @@ overflow_add-result c =
     let a = c.args in
     record {
       fits = sum_fits a.scheme a.n a.f a.d a.kind a.index a.first a.last c.layout_refusal-x.ensures c.if-x-ne0.false
-          c.closing_day-g.ensures c.place_in_day-i.ensures (omega arith) c.is_named.ensures (ap not c.if-not-is_named.false) c.values_through-earlier.ensures;
+          c.closing_day-g.ensures c.place_in_day-i.ensures (omega arith) c.is_named.ensures (ap not c.if-not-is_named.false)
+          c.values_through-earlier.ensures;
     }
 
 pub returns : goal.returns
 returns c =
     let a = c.args in
     placed_there a.scheme a.n a.f a.d a.kind a.index a.first a.last c.layout_refusal-x.ensures c.if-x-ne0.false
-    c.closing_day-g.ensures c.place_in_day-i.ensures (omega arith) c.is_named.ensures (ap not c.if-not-is_named.false) c.values_through-earlier.ensures
+    c.closing_day-g.ensures c.place_in_day-i.ensures (omega arith) c.is_named.ensures (ap not c.if-not-is_named.false)
+    c.values_through-earlier.ensures

@@ -25,7 +25,8 @@ sealed c =
     let loop = c.loop-i in
     let ledger = c.args.ledger.now in
     day_sealed loop.invariant.2 loop.invariant.3 (omega (arith, c.loop-i-test.true, loop.invariant.1))
-    (take (c.end_of-e.result - c.start_of-a.result) (drop c.start_of-a.result ledger)) c.close-c.new.part c.close-c.result c.count_of-k.result c.wide.result (ap₂ (λ x y. take (y - x) (drop x ledger)) c.start_of-a.ensures c.end_of-e.ensures)
+    (take (c.end_of-e.result - c.start_of-a.result) (drop c.start_of-a.result ledger)) c.close-c.new.part c.close-c.result
+    c.count_of-k.result c.wide.result (ap₂ (λ x y. take (y - x) (drop x ledger)) c.start_of-a.ensures c.end_of-e.ensures)
     (rw (← add.ensures) c.close-c.ensures.value) (rw (← add.ensures) c.close-c.ensures.part_after) c.count_of-k.ensures c.wide.ensures
 
 pub loop-i-init : goal.loop-i-init
@@ -41,12 +42,24 @@ end_of-e-requires c = omega (arith, turn (goal.at.end_of-e-requires c).In-loop-i
 pub slice_bounds-add-count : goal.slice_bounds-add-count
 slice_bounds-add-count c =
     let loop = c.loop-i in
-    omega (arith, c.start_of-a.ensures, c.end_of-e.ensures, loop.invariant.2.ends_hold.ascend loop.i (turn (goal.at.slice_bounds-add-count c).In-loop-i))
+    omega (
+      arith,
+      c.start_of-a.ensures,
+      c.end_of-e.ensures,
+      loop.invariant.2.ends_hold.ascend loop.i
+          (turn (goal.at.slice_bounds-add-count c).In-loop-i),
+    )
 
 pub slice_bounds-add-start : goal.slice_bounds-add-start
 slice_bounds-add-start c =
     let loop = c.loop-i in
-    omega (arith, c.start_of-a.ensures, c.end_of-e.ensures, loop.invariant.2.ends_hold.ascend loop.i (turn (goal.at.slice_bounds-add-start c).In-loop-i))
+    omega (
+      arith,
+      c.start_of-a.ensures,
+      c.end_of-e.ensures,
+      loop.invariant.2.ends_hold.ascend loop.i
+          (turn (goal.at.slice_bounds-add-start c).In-loop-i),
+    )
 
 pub slice_bounds-add-end : goal.slice_bounds-add-end
 slice_bounds-add-end c = let loop = c.loop-i in

@@ -7,7 +7,8 @@ use Rattle.chains.proofs.Values.{chains_of_day-length}
 use Rattle.service.specs.Contract.{day_count, day_bytes}
 use Rattle.service.specs.Private.{Linked}
 use Rattle.service.proofs.RecordLaws.{allowed_is}
-use Rattle.service.proofs.DayLaws.{day_asks, tiles_linked, levels_linked_lem, black_linked, count_is, day_fits, day_bytes_lem, quiet_after, restarted_after, quiet_written, closed_of}
+use Rattle.service.proofs.DayLaws.{day_asks, tiles_linked, levels_linked_lem, black_linked, count_is}
+use Rattle.service.proofs.DayLaws.{day_fits, day_bytes_lem, quiet_after, restarted_after, quiet_written, closed_of}
 use Rattle.service.proofs.close_day.Goals as goal
 use Rattle.service.proofs.close_day.Goals.{then-state-eq2, else-state-eq2, then-state-eq3, else-state-eq3}
 

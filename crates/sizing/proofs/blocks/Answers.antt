@@ -20,13 +20,33 @@ pub overflow_mul-sum : goal.overflow_mul-sum
 overflow_mul-sum c = record { fits = omega (arith, (small (goal.at.overflow_mul-sum c).After-link_count-links).links_few) }
 
 pub overflow_add-sum : goal.overflow_add-sum
-overflow_add-sum c = record { fits = omega (arith, (small (goal.at.overflow_add-sum c).After-link_count-links).links_few, (small (goal.at.overflow_add-sum c).After-link_count-links).own_most) }
+overflow_add-sum c = record {
+  fits = omega (
+    arith,
+    (small (goal.at.overflow_add-sum c).After-link_count-links).links_few,
+    (small (goal.at.overflow_add-sum c).After-link_count-links).own_most,
+  );
+}
 
 pub overflow_cast-sum : goal.overflow_cast-sum
-overflow_cast-sum c = record { fits = omega (arith, (small (goal.at.overflow_cast-sum c).After-link_count-links).links_few, (small (goal.at.overflow_cast-sum c).After-link_count-links).own_most) }
+overflow_cast-sum c = record {
+  fits = omega (
+    arith,
+    (small (goal.at.overflow_cast-sum c).After-link_count-links).links_few,
+    (small (goal.at.overflow_cast-sum c).After-link_count-links).own_most,
+  );
+}
 
 pub overflow_add-sum-in-loop-i : goal.overflow_add-sum-in-loop-i
-overflow_add-sum-in-loop-i c = record { fits = omega (arith, (small (goal.at.overflow_add-sum-in-loop-i c).After-link_count-links).links_few, (small (goal.at.overflow_add-sum-in-loop-i c).After-link_count-links).own_most, (small (goal.at.overflow_add-sum-in-loop-i c).After-link_count-links).sum_most) }
+overflow_add-sum-in-loop-i c = record {
+  fits = omega (
+    arith,
+    (small
+        (goal.at.overflow_add-sum-in-loop-i c).After-link_count-links).links_few,
+    (small (goal.at.overflow_add-sum-in-loop-i c).After-link_count-links).own_most,
+    (small (goal.at.overflow_add-sum-in-loop-i c).After-link_count-links).sum_most,
+  );
+}
 
 pub loop-i-preserved : goal.loop-i-preserved
 loop-i-preserved c =

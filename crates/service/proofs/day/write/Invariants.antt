@@ -7,7 +7,8 @@ use Rattle.chains.specs.Step.{value_bytes}
 use Rattle.service.proofs.day.write.Given as goal
 
 abbrev pub invariant-loop-i : goal.invariant-loop-i
-invariant-loop-i l = (l.i ≤ l.k) × (length l.part ≡ length l.initial.part) × Wrote 0 (value_bytes (take l.i l.values)) l.initial.part (32 * l.i) l.part
+invariant-loop-i l = (l.i ≤ l.k) × (length l.part ≡ length l.initial.part) × Wrote 0 (value_bytes (take l.i l.values)) l.initial.part
+    (32 * l.i) l.part
 
 abbrev pub decreases-loop-i : goal.decreases-loop-i
 decreases-loop-i l = l.k - l.i

@@ -19,7 +19,8 @@ returns-then-state-gt-LAST_SEASON c = not_allowed c.args.state (λ a. omega (ari
 pub returns-then-state-lt-BOOK_LIMIT : goal.returns-then-state-lt-BOOK_LIMIT
 returns-then-state-lt-BOOK_LIMIT c =
     allowed_before c.args.state c.setup_refusal.ensures
-    c.if-setup_refusal-ne0.false c.if-state-gt-BOOK_LIMIT.false c.if-state-gt-DAY_LIMIT.false c.if-state-gt-LAST_SEASON.false c.if-state-lt-BOOK_LIMIT.true
+    c.if-setup_refusal-ne0.false c.if-state-gt-BOOK_LIMIT.false c.if-state-gt-DAY_LIMIT.false c.if-state-gt-LAST_SEASON.false
+    c.if-state-lt-BOOK_LIMIT.true
 
 pub returns : goal.returns
 returns c =
