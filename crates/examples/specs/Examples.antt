@@ -31,7 +31,7 @@ pub record ReadsBy (scheme n d passed : ℕ) (S list : List ℕ) (low good : ℕ
   pub low_is : low_of passed (first_of list) ≡ low
   pub good_is : last_good_day scheme n d (table_of (chains scheme n d) S) ≡ good
 
--- 01's case: P is D − F-as-N (SPEC 19.4)
+-- 01's case: P is D − F·N (SPEC 19.4)
 abbrev pub Reads : ℕ → ℕ → ℕ → ℕ → List ℕ → List ℕ → ℕ → ℕ → Type 0
 Reads scheme n f d S list low good = ReadsBy scheme n d (validation_before n f d) S list low good
 
@@ -63,7 +63,7 @@ pub record LastGoods : Type 0 where
   pub stored_once_lem : Reads 3 4 1 8 (7 ∷ []) (7 ∷ []) 6 4
 
 -- 02's skipped validations (SPEC 19.7): 001's figure, if the last check was at day 16, if there was none, and if there
--- was one at day 48, which is no multiple of F-as-N
+-- was one at day 48, which is no multiple of F·N
 pub record Skipped : Type 0 where
   pub one_skipped : ReadsBy 2 16 64 16 figure_changed figure_listed 18 16
   pub all_skipped : ReadsBy 2 16 64 0 figure_changed figure_listed 18 16

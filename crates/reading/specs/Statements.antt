@@ -44,7 +44,7 @@ SaysNotPassed =
     ((readout scheme n f d passed outcomes list).report.refusal ≡ 19) ↔
     ((layout_refusal scheme n f d ≡ 0) × ((d ≤ passed) ⊎ (divides n passed ≡ false)))
 
--- D − F-as-N, 01's P, is always let pass (SPEC 19.4)
+-- D − F·N, 01's P, is always let pass (SPEC 19.4)
 abbrev pub ValidationAllowed : Type 0
 ValidationAllowed =
     (scheme n f d : ℕ) → layout_refusal scheme n f d ≡ 0 → allowed_passed n d (validation_before n f d) ≡ true

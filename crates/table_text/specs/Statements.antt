@@ -37,7 +37,7 @@ pub record ReadAs (s scheme n f d : List ℕ) (passed : ℕ) (outcomes : List �
   pub passed_is : passed_in s ≡ passed
   pub outcomes_are : outcomes_in s ≡ map digit_of outcomes
 
--- four fields mean D − F-as-N
+-- four fields mean D − F·N
 abbrev pub LaidIsRead : Type 0
 LaidIsRead =
     (s scheme n f d outcomes : List ℕ) → Laid s scheme n f d outcomes →

@@ -51,7 +51,7 @@ f_in s = value_in (from_f s)
 abbrev pub d_in : List ℕ → ℕ
 d_in s = value_in (from_d s)
 
--- 02's P (SPEC 19.5): the fifth field, or D − F-as-N for a line of four
+-- 02's P (SPEC 19.5): the fifth field, or D − F·N for a line of four
 abbrev pub passed_in : List ℕ → ℕ
 passed_in s = cond (has_passed s) (value_in (from_passed s)) (validation_before (n_in s) (f_in s) (d_in s))
 
