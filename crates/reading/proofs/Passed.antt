@@ -1,4 +1,4 @@
--- 02's P: when 19 is said, D − F-as-N is let pass, and nothing but low moves.
+-- 02's P: when 19 is said, D − F·N is let pass, and nothing but low moves.
 use mathlib.Core.{Path.◌≡◌, Path.refl, Path.sym, Path.◌∙◌, Logic.◌⊎◌, Logic.inl, Logic.inr, List.List, List.[], List.◌∷◌, Bool.true, Bool.false, Bool.and-false}
 use Prim.Native.Nat.{ℕ, zero, suc, ◌-◌, ◌*◌, ◌/◌, ◌≤◌}
 use native.Mathlib.{Nat.mul-sub, Nat.mul_comm, Nat.mul-pos, Decide.ℕ_discrete, Omega.arith}
