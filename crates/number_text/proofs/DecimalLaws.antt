@@ -29,6 +29,10 @@ pub decimal_one : (k x : ℕ) → (k ≡ 0 → ⊥) → x < 10 → decimal_in k 
 decimal_one zero x n h = absurd (n refl)
 decimal_one (suc k) x n h = rw (lt-ltb x 10 h)
 
+-- a number of one digit is put
+pub digit_put : (at k x : ℕ) (l : List ℕ) → (k ≡ 0 → ⊥) → x < 10 → at + k ≤ length l → Wrote at (decimal_in k x) l (at + 1) (set l at (48 + x))
+digit_put at k x l z t h = wrote_one at (48 + x) (decimal_in k x) l (decimal_one k x z t) (place_within at k (length l) z h)
+
 pub decimal_more : (k x : ℕ) → (k ≡ 0 → ⊥) → 10 ≤ x → decimal_in k x ≡ decimal_in (k - 1) (x / 10) ++ ((48 + x % 10) ∷ [])
 decimal_more zero x n h = absurd (n refl)
 decimal_more (suc k) x n h = let e : suc k - 1 ≡ k = omega arith in rw (le-ltb x 10 h, e)

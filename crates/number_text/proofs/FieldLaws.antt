@@ -5,7 +5,7 @@ use Prim.Native.Nat.{ℕ, zero, suc, ◌+◌, ◌-◌, ◌*◌, ◌≤◌, ◌<�
 use native.Mathlib.{Numerals.add-one, Omega.arith}
 use lib.{Dec.eqb, Dec.leb, Seq.take_all, Seq.take-suc, Seq.drop-cons, Seq.drop-drop, Seq.drop-append_seam}
 use lib.ListN.{length, get_or, take, drop, length-drop, drop_of_length-le, take-append-drop}
-use borrow.Author.Tests.{eq-eqb, eqb-true, ne_eqb, le-leb, leb-true, not-true, not-false}
+use borrow.Author.Tests.{eq-eqb, eqb-true, ne_eqb, le-leb, lt-leb, leb-true, not-true, not-false}
 use Rattle.lists.proofs.Laws.{split, true_or_false, and_both, up_from_mem, every_at}
 use Rattle.lists.specs.Lists.{up_from}
 use Rattle.number_text.specs.Numbers.{is_digit, digit_of, digits, after_digits, is_number, number_from, Number, starts_with, is_field, value_in, after_field}
@@ -57,6 +57,18 @@ digits_within s at end h e = let w = digits_most (drop at s) in let l = length-d
 pub number_more : (ds : List ℕ) → (length ds ≡ 0 → ⊥) → length ds ≤ 5 → (length ds ≡ 1 → ⊥) → not (eqb (get_or ds 0 0) 48) ≡ is_number ds
 unfolding is_number
 number_more ds z h n = rw (le-leb 1 (length ds) (omega arith), le-leb (length ds) 5 h, ne_eqb (length ds) 1 n)
+
+pub number_none : (ds : List ℕ) → length ds ≡ 0 → false ≡ is_number ds
+unfolding is_number
+number_none ds z = rw z
+
+pub number_long : (ds : List ℕ) → 5 < length ds → false ≡ is_number ds
+unfolding is_number
+number_long ds h = rw (le-leb 1 (length ds) (omega arith), lt-leb (length ds) 5 h)
+
+pub number_one : (ds : List ℕ) → length ds ≡ 1 → true ≡ is_number ds
+unfolding is_number
+number_one ds e = rw e
 
 pub number_snoc : (v : ℕ) (ds : List ℕ) (b : ℕ) → number_from v (ds ++ (b ∷ [])) ≡ 10 * number_from v ds + digit_of b
 number_snoc v [] b = refl

@@ -4,6 +4,7 @@ ghost use Rattle.buffers.specs.Private.{Wrote};
 ghost use Rattle.number_text.specs.Numbers.{comma, decimal_in, decimal, comma_numbers};
 
 // x in decimal, in at most k digits.
+#[tactic(auto, using(crate::proofs::DecimalLaws::digit_put))]
 pub fn put_digits(out: &mut [u8], at: usize, x: u32, k: u32) -> usize
     requires { at + k ≤ length out.old }
     ensures { Wrote at (decimal_in k x) out.old result out.new }

@@ -51,6 +51,7 @@ pub fn digits_end(s: &[u8], at: usize) -> usize
 }
 
 // 1 to 5 digits, no leading zeros.
+#[tactic(auto, using(crate::proofs::FieldLaws::number_none, crate::proofs::FieldLaws::number_long, crate::proofs::FieldLaws::number_one, crate::proofs::FieldLaws::number_more))]
 fn is_number(ds: &[u8]) -> bool
     ensures { result ≡ is_number ds.now }
 {
