@@ -15,7 +15,12 @@ import sys
 # names that would fall together with another name, a field or a variable beside them
 OWN = {
     "lastGood": "last_good_day",
-    "last-good": "last_good_day_lem",
+    "last-good": "last_good",
+    "book-written": "book_is_written",
+    "days-found": "search_days_found",
+    "found-days": "found_days_are",
+    "stored-once": "black_stored_once",
+    "tree-days": "days_of_tree",
     "recordBytes": "bytes_of_record",
     "all_apart": "all_apart_lem",
     "one_bit": "one_bit_lem",
@@ -25,7 +30,7 @@ OWN = {
 
 # names of lists that lemmas are about
 STD = set("length take drop set append map get_or sum concat".split())
-TOKEN = re.compile(r"[^\s(){}\[\];,.:→×⊎∧∨λ≡=|]+")
+TOKEN = re.compile(r"[^\s(){}\[\];,.:→×⊎∧∨λ≡=|`]+")
 DECLARED = re.compile(r"^(\s*)((?:pub |abbrev |unfoldable |data |record )*)([^\s:(){};,λ→=|.]+) :(?: |$)")
 
 

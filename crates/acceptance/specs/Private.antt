@@ -1,4 +1,4 @@
--- Acceptance and listing by local rules: the laws `accepted-rules` and `listing-isListed` say that they are 01's.
+-- Acceptance and listing by local rules: the laws `accepted_rules` and `listing_is_listed` say that they are 01's.
 -- Definitions only. A value is looked up by name.
 use Rattle.std.specs.Prelude.{◌≡◌, ◌⊎◌, Bool, true, false, not, ◌&&◌, ◌||◌, cond, List, ℕ, zero, suc, pred, ◌+◌, ◌-◌, ◌*◌, ◌/◌, ◌%◌, ◌^◌, ◌≤◌, ◌<◌, eqb, leb, length, get_or}
 use Rattle.refusals.specs.Refusals.{book_limit}

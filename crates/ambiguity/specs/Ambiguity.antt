@@ -97,7 +97,7 @@ line_sets = 1 ∷ 2 ∷ 3 ∷ []
 abbrev pub line_count : ℕ
 line_count = 21
 
--- each line once: as many in all, and each N with each k once; the law `lines-told`: and so no other
+-- each line once: as many in all, and each N with each k once; the law `lines_told`: and so no other
 abbrev pub stands_once : List Asked → ℕ → ℕ → Bool
 stands_once order n k = eqb (times n k order) 1
 

@@ -1,5 +1,5 @@
 -- What private contracts cite: sums over sets by sums over pairs and triples; the lines as the program orders them.
--- Definitions only; the laws `figures-told` and `printed-once` lead them back to the request's.
+-- Definitions only; the laws `figures_told` and `printed_once` lead them back to the request's.
 use Rattle.std.specs.Prelude.{◌≡◌, true, ℕ, zero, suc, ◌+◌, ◌-◌, ◌*◌, ◌/◌, ◌^◌, ◌≤◌}
 use mathlib.Core.List.{List, [], ◌∷◌, flat_map}
 use Rattle.lists.specs.Lists.{up_from}

@@ -1,4 +1,4 @@
--- Values compared with the book. Definitions only; private contracts cite them. The law `compared-day` (checking)
+-- Values compared with the book. Definitions only; private contracts cite them. The law `compared_day_lem` (checking)
 -- leads them back to 01's outcomes.
 use Rattle.std.specs.Prelude.{cond, List, [], ◌∷◌, ℕ, take, drop}
 use Rattle.lists.specs.Lists.{same}

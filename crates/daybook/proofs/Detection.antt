@@ -182,7 +182,7 @@ module _ (s n f : ℕ) (opens : setup_refusal s n f ≡ 0) (E : List (List ℕ))
         exact = λ e g m. rw (tree_list e) at (rw (days_are X w t) at m);
         clean = rw (report_is X w t) (both (clean_empty d x.passed (last_good_day s n d (table_of C X)) (listing C d (table_of C X))) (none_listed C d E B covered));
         numbers = report_is X w t ∙ ap (λ (l : List ℕ). found d x.passed l (last_good_day s n d (table_of C X))) (sym (days_are X w t));
-        last_good_day_lem = let r = allowed_scheme_is s setup.scheme_ok in good_given s n d X (table_of C X) r.0 r.1 (gives X w t);
+        last_good = let r = allowed_scheme_is s setup.scheme_ok in good_given s n d X (table_of C X) r.0 r.1 (gives X w t);
       }
     where
       X : List ℕ

@@ -115,4 +115,4 @@ seal_claim s n f d ledger ends book e =
     let g = demand_3 s n f (opened_number s n f ∙ ok.setup) cs in
     let days_are = days_are s n f d ledger ends book ok in
     let w : wrote s n f cs 0 ≡ book_of s n (days_of ledger ends d) = (g.season 0).book ∙ ap (book_of s n) days_are in
-    record { days_sealed = days_are; book_written_lem = book_of_seal s n f d ledger ends book z ∙ ap (λ (b : List ℕ). b ++ drop (length b) book) (sym w); guarantee = g }
+    record { days_sealed = days_are; book_is_written = book_of_seal s n f d ledger ends book z ∙ ap (λ (b : List ℕ). b ++ drop (length b) book) (sym w); guarantee = g }

@@ -146,7 +146,7 @@ seal_calls scheme n d ledger book = flat_map (day_calls scheme n ledger book) (d
 pub record SealedSo (scheme n f d : ℕ) (ledger ends book : List ℕ) (cs : List Call) : Type 0 where
   -- they seal the ledger's days in season 0, and write what seal writes; the book's rest stays
   pub days_sealed : sealed scheme n cs 0 ≡ days_of ledger ends d
-  pub book_written_lem : (sealed_book scheme n f d ledger ends book).book ≡
+  pub book_is_written : (sealed_book scheme n f d ledger ends book).book ≡
       wrote scheme n f cs 0 ++ drop (length (wrote scheme n f cs 0)) book
   -- and so all that demand 3 says holds for them
   pub guarantee : Guarantee scheme n f cs

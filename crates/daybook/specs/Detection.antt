@@ -105,4 +105,4 @@ pub record Detected (scheme n f : ℕ) (sealed : List (List ℕ)) (d : ℕ) (x :
   pub numbers : (reading scheme n f d x).report ≡
       found d x.passed (listed_days scheme n f d x) (last_good_day scheme n d (table_of_changes scheme n sealed d x))
   -- last good, the last day whose black value passes, is the last that n divides with no changed day up to it
-  pub last_good_day_lem : last_good_day scheme n d (table_of_changes scheme n sealed d x) ≡ last_unchanged n d (changed_days sealed d x)
+  pub last_good : last_good_day scheme n d (table_of_changes scheme n sealed d x) ≡ last_unchanged n d (changed_days sealed d x)

@@ -91,11 +91,11 @@ cleared g [] table = false
 cleared g (c ∷ chains) [] = false
 cleared g (c ∷ chains) (o ∷ table) = (eqb o 1 && has g c) || cleared g chains table
 
--- 01's listed days (SPEC 8.5), those not cleared; the law `listed-iff`: those that belong to some set that gives the
+-- 01's listed days (SPEC 8.5), those not cleared; the law `listed_iff`: those that belong to some set that gives the
 -- table, if one does
 unfoldable pub listing : List (List ℕ) → ℕ → List ℕ → List ℕ
 listing chains d table = keep (λ g. not (cleared g chains table)) (days d)
 
--- 01's test 14 (SPEC 8.4): those days give the table; the law `given-iff-accepted`: exactly if some set gives it
+-- 01's test 14 (SPEC 8.4): those days give the table; the law `given_iff_accepted`: exactly if some set gives it
 unfoldable pub accepted : List (List ℕ) → ℕ → List ℕ → Bool
 accepted chains d table = same (table_of chains (listing chains d table)) table

@@ -31,7 +31,7 @@ examples =
       tree_16 = record { formula = refl; chains_are = refl };
       tree_14 = record { formula = refl; chains_are = refl };
       tree_3 = record { formula = refl; chains_are = refl };
-      tree_days_lem = record { lists = lists 3 2 16 _ _ refl refl; passed_ok = refl; low_is = refl; good_is = refl };
+      days_of_tree = record { lists = lists 3 2 16 _ _ refl refl; passed_ok = refl; low_is = refl; good_is = refl };
       black_day = record { lists = lists 1 2 24 _ _ refl refl; passed_ok = refl; low_is = refl; good_is = refl };
       tile_1 = lists 2 1 1 _ _ refl refl;
       tile_4 = lists 2 4 4 _ _ refl refl;
@@ -45,7 +45,7 @@ unfolding listing accepted table_of lg names_through flat_map chains last_good_d
 last_goods =
     record {
       no_black = record { lists = lists 3 4 4 _ _ refl refl; passed_ok = refl; low_is = refl; good_is = refl };
-      stored_once_lem = record { lists = lists 3 4 8 _ _ refl refl; passed_ok = refl; low_is = refl; good_is = refl };
+      black_stored_once = record { lists = lists 3 4 8 _ _ refl refl; passed_ok = refl; low_is = refl; good_is = refl };
     }
 
 pub skipped : Skipped
@@ -61,12 +61,12 @@ pub searched : Searched
 unfolding table_of lg names_through flat_map chains lib.Count.ones lib.Count.ones_in maximal looks found_in found_days days_under progress_of
 searched =
     record {
-      not_begun = record { looked_at = refl; days_found_lem = refl; undecided_is = refl };
-      stopped = record { looked_at = refl; days_found_lem = refl; undecided_is = refl };
-      not_there_yet = record { looked_at = refl; days_found_lem = refl; undecided_is = refl };
-      finished = record { looked_at = refl; days_found_lem = refl; undecided_is = refl };
-      clean = record { looked_at = refl; days_found_lem = refl; undecided_is = refl };
-      two_maximal = record { looked_at = refl; days_found_lem = refl; undecided_is = refl };
+      not_begun = record { looked_at = refl; search_days_found = refl; undecided_is = refl };
+      stopped = record { looked_at = refl; search_days_found = refl; undecided_is = refl };
+      not_there_yet = record { looked_at = refl; search_days_found = refl; undecided_is = refl };
+      finished = record { looked_at = refl; search_days_found = refl; undecided_is = refl };
+      clean = record { looked_at = refl; search_days_found = refl; undecided_is = refl };
+      two_maximal = record { looked_at = refl; search_days_found = refl; undecided_is = refl };
       allowed = refl;
     }
 

@@ -48,7 +48,7 @@ pub record Examples : Type 0 where
   pub tree_16 : Counts 3 2 16 35
   pub tree_14 : Counts 3 2 14 29
   pub tree_3 : Counts 3 1 3 5
-  pub tree_days_lem : Reads 3 2 1 16 (4 ∷ 7 ∷ 10 ∷ []) (4 ∷ 7 ∷ 10 ∷ []) 14 2
+  pub days_of_tree : Reads 3 2 1 16 (4 ∷ 7 ∷ 10 ∷ []) (4 ∷ 7 ∷ 10 ∷ []) 14 2
   pub black_day : Reads 1 2 3 24 (16 ∷ []) (up_from 15 10) 18 14
   pub tile_1 : Lists 2 1 1 (0 ∷ 0 ∷ []) (1 ∷ [])
   pub tile_4 : Lists 2 4 4 (0 ∷ 1 ∷ 1 ∷ 0 ∷ []) (4 ∷ [])
@@ -60,7 +60,7 @@ pub record Examples : Type 0 where
 -- not divide 2; and black at day 4, stored once as a tree's chain
 pub record LastGoods : Type 0 where
   pub no_black : Reads 3 4 1 4 (3 ∷ []) (3 ∷ []) 2 0
-  pub stored_once_lem : Reads 3 4 1 8 (7 ∷ []) (7 ∷ []) 6 4
+  pub black_stored_once : Reads 3 4 1 8 (7 ∷ []) (7 ∷ []) 6 4
 
 -- 02's skipped validations (SPEC 19.7): 001's figure, if the last check was at day 16, if there was none, and if there
 -- was one at day 48, which is no multiple of F·N
@@ -73,7 +73,7 @@ pub record Skipped : Type 0 where
 pub record Searches (d : ℕ) (S : List ℕ) (limit : ℕ) (looked : List Name) (found : List ℕ) (undecided : ℕ)
     : Type 0 where
   pub looked_at : (search_of 1 d (table_of (chains 3 1 d) S) limit).looked ≡ looked
-  pub days_found_lem : found_days 1 d (table_of (chains 3 1 d) S) limit ≡ found
+  pub search_days_found : found_days 1 d (table_of (chains 3 1 d) S) limit ≡ found
   pub undecided_is : (progress_of 1 d (table_of (chains 3 1 d) S) limit).undecided ≡ undecided
 
 -- 02's search (SPEC 20.8); with day 3 of 4 changed the whole walk has as many chains as 02 allows

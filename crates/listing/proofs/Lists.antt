@@ -13,7 +13,7 @@ use Rattle.listing.specs.Private.{Tile, bit_of, tile_days, tree_days, top_days}
 use Rattle.buffers.specs.Private.{Wrote}
 use Rattle.acceptance.proofs.{Listed.number_small, Runs.keep_length, Runs.div_whole, Steps.interval_room, Steps.interval_number, Steps.interval_end, Steps.chain_of_lem}
 use Rattle.listing.proofs.Tiles.{tile_congr, number_bits}
-use Rattle.listing.proofs.Walks.{tile_none, tile_days_lem, tree_days_lem, days_block}
+use Rattle.listing.proofs.Walks.{tile_none, tile_days_lem, days_of_tree, days_block}
 use Rattle.buffers.proofs.Writes.{wrote_none, wrote_length, wrote_join}
 
 -- ---- an interval
@@ -97,7 +97,7 @@ module _ (n d : ℕ) (t : List ℕ) (small : d ≤ 65536) (r : levels_rule n d t
     | no z ↦ let q = d / 2 ^ suc l in
         let o : d / 2 ^ l ≡ suc (q + q) = top_odd d l z in
         let c : suc (q + q) * 2 ^ l ≤ d = rw o at (div-mul-le_self d (2 ^ l)) in
-        rw (ne_eqb (d / 2 ^ l % 2) 0 z, o) (days_block (is_listed 3 n t) (2 ^ l) (q + q) ∙ rw (twice q l, tree_days_lem n d t small r l (q + q) c))
+        rw (ne_eqb (d / 2 ^ l % 2) 0 z, o) (days_block (is_listed 3 n t) (2 ^ l) (q + q) ∙ rw (twice q l, days_of_tree n d t small r l (q + q) c))
   ]
 
 -- one level

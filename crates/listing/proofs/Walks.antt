@@ -93,22 +93,22 @@ module _ (n d : ℕ) (t : List ℕ) (small : d ≤ 65536) (r : levels_rule n d t
       let xs = last_days (2 ^ l) (suc j * 2 ^ l) in
       keep_none (is_listed 3 n t) xs (some_not (is_listed 3 n t) xs (not-true (some (is_listed 3 n t) xs) (sym (tree_3 n d t small r l j h) ∙ e)))
 
-  pub tree_days_lem : (l j : ℕ) → suc j * 2 ^ l ≤ d → keep (is_listed 3 n t) (last_days (2 ^ l) (suc j * 2 ^ l)) ≡ tree_days n t l (suc j * 2 ^ l)
+  pub days_of_tree : (l j : ℕ) → suc j * 2 ^ l ≤ d → keep (is_listed 3 n t) (last_days (2 ^ l) (suc j * 2 ^ l)) ≡ tree_days n t l (suc j * 2 ^ l)
   unfolding tree_days
-  tree_days_lem zero j h =
+  days_of_tree zero j h =
       let g : ℕ = suc j * 2 ^ 0 in
       let q : suc (g - 1) ≡ g = omega arith in
       elim (split (passes 3 n t (tree 0 g))) [
         | inl e ↦ rw e (passing 0 j h e)
         | inr e ↦ rw e (ap (λ x. keep (is_listed 3 n t) (x ∷ [])) q ∙ rw (is_listed_3 n t g, e))
       ]
-  tree_days_lem (suc l) j h =
+  days_of_tree (suc l) j h =
       let g : ℕ = suc j * 2 ^ suc l in
       let e = half_point j l in
       let s = suc-mul (suc (j + j)) (2 ^ l) in
       let left : suc (j + j) * 2 ^ l ≡ g - 2 ^ l = omega arith in
-      let a = rw left at (tree_days_lem l (j + j) (omega arith)) in
-      let b = rw (s ∙ sym e) at (tree_days_lem l (suc (j + j)) (omega arith)) in
+      let a = rw left at (days_of_tree l (j + j) (omega arith)) in
+      let b = rw (s ∙ sym e) at (days_of_tree l (suc (j + j)) (omega arith)) in
       elim (split (passes 3 n t (tree (suc l) g))) [
         | inl f ↦ rw f (passing (suc l) j h f)
         | inr f ↦ rw f (ap (keep (is_listed 3 n t)) (half_split j l) ∙ keep_append (is_listed 3 n t) (last_days (2 ^ l) (g - 2 ^ l)) (last_days (2 ^ l) g) ∙ ap₂ (λ x y. x ++ y) a b)

@@ -1,5 +1,5 @@
 -- What the walks list, and what is written of it. Definitions only; private contracts cite them, and the laws
--- `tile-days`, `tree-days` and `listing-isListed` lead them back to 01's listing.
+-- `tile_days_lem`, `days_of_tree` and `listing_is_listed` lead them back to 01's listing.
 use Rattle.std.specs.Prelude.{◌≡◌, ℕ, zero, suc, ◌+◌, ◌-◌, ◌*◌, ◌/◌, ◌%◌, ◌^◌, ◌<◌, ◌≤◌, Bool, true, false, cond, List, [], ◌∷◌, ◌++◌, ◌==◌}
 use Rattle.refusals.specs.Refusals.{book_limit}
 use Rattle.lists.specs.Lists.{up_from, every}

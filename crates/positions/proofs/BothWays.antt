@@ -26,7 +26,7 @@ use Rattle.positions.specs.declared.Place.TheVariants as case-of-place
 use Rattle.positions.specs.Positions.{kind_number, chain_of, book_chains, numbers_of, book_numbers, first_place, located, placed}
 use Rattle.positions.specs.Private.{day_within, closing_day}
 use Rattle.positions.specs.Statements.{BothWays, TreeOnly}
-use Rattle.positions.proofs.Spans.{tree_days_lem}
+use Rattle.positions.proofs.Spans.{days_of_tree}
 use Rattle.positions.proofs.DayLaws.{black_stored}
 use Rattle.positions.proofs.BookLaws.{numbers_length, first_at, first_in, in_first, found, only_place}
 use Rattle.positions.proofs.StepLaws.{four}
@@ -194,7 +194,7 @@ level_there n d g l e m =
     let o : 1 ≤ g = rw e at (pow_pos l) in
     let b = below_pow l in
     let w : divides (2 ^ l) g ≡ true = rw e (eq-eqb (g % g) 0 (mod_self g)) in
-    let t = tree_days_lem n g l o w in
+    let t = days_of_tree n g l o w in
     let one : suc (g - 2 ^ l) ≡ 1 = omega arith in
     let i : tree l g among names_through 3 n d =
     names_through_in 3 n d (up_from_mem 1 d g o (omega arith)) (tree l g) (Memᴰ.append_left (cond (divides n g && not (stored_once g)) (black g ∷ []) [])

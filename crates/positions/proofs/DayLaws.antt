@@ -16,7 +16,7 @@ use Rattle.layouts.proofs.Coverage.{by_scheme, divisor_le}
 use Rattle.layouts.proofs.Positions.{levels_run, get_d_up_from, get_d_map_in}
 use Rattle.positions.specs.Positions.{kind_number, chain_of}
 use Rattle.positions.specs.Private.{black_place, closing_day, place_in_day}
-use Rattle.positions.proofs.Spans.{black_days, tile_first, tree_days_lem}
+use Rattle.positions.proofs.Spans.{black_days, tile_first, days_of_tree}
 
 -- ---- a run of values, then perhaps black
 
@@ -132,7 +132,7 @@ module _ (s n d g : ℕ) (allowed : allowed_n n ≡ true) (some : 1 ≤ g) (most
       record { day = rw (tile_first n g allowed w some i l, p, le-leb g d most); place = refl }
 
   tree_leads : (l : ℕ) → divides (2 ^ l) g ≡ true → Leads s n d g l (tree l g)
-  tree_leads l w = let e = (tree_days_lem n g l some w).1 in record { day = rw (e, le-leb g d most); place = refl }
+  tree_leads l w = let e = (days_of_tree n g l some w).1 in record { day = rw (e, le-leb g d most); place = refl }
 
 pub leads : (s n d g i : ℕ) → allowed_scheme s ≡ true → allowed_n n ≡ true → 1 ≤ g → g ≤ d → i < length (names_of_day s n g) →
     Leads s n d g i (get_or (names_of_day s n g) i (black 0))

@@ -160,8 +160,8 @@ black_days n g l =
     let z : suc (g - g) ≡ 1 = omega arith in
     (first_days g g l ∙ z, last_days_lem 0 g g l (omega arith))
 
-pub tree_days_lem : (n g l : ℕ) → 1 ≤ g → divides (2 ^ l) g ≡ true → ((chain_of n (tree l g)).first ≡ suc (g - 2 ^ l)) × ((chain_of n (tree l g)).last ≡ g)
-tree_days_lem n g l o e = (first_days (2 ^ l) g (pow_pos l), last_days_lem 0 (2 ^ l) g (pow_pos l) (divisor_le (2 ^ l) g o e))
+pub days_of_tree : (n g l : ℕ) → 1 ≤ g → divides (2 ^ l) g ≡ true → ((chain_of n (tree l g)).first ≡ suc (g - 2 ^ l)) × ((chain_of n (tree l g)).last ≡ g)
+days_of_tree n g l o e = (first_days (2 ^ l) g (pow_pos l), last_days_lem 0 (2 ^ l) g (pow_pos l) (divisor_le (2 ^ l) g o e))
 
 pub spans_told : SpansTold
 spans_told n g a o =
@@ -170,5 +170,5 @@ spans_told n g a o =
       tile_first = λ i w l. tile_first n g a w o i l;
       tile_whole = λ w. tile_whole n g a w o;
       tile_last = λ i w l. tile_last n g a w o i l;
-      tree_days_lem = λ l e. tree_days_lem n g l o e;
+      days_of_tree = λ l e. days_of_tree n g l o e;
     }

@@ -18,7 +18,7 @@ use Rattle.positions.specs.declared.Kind.TheVariants.{Black, Tile, Tree}
 use Rattle.positions.specs.declared.Chain.{Chain}
 use Rattle.positions.specs.Positions.{kind_number, chain_over, chain_of, numbers_of}
 use Rattle.positions.specs.Private.{black_place, day_within, closing_day, place_in_day, is_named}
-use Rattle.positions.proofs.Spans.{black_days, tile_first, tile_whole, tile_last, tree_days_lem}
+use Rattle.positions.proofs.Spans.{black_days, tile_first, tile_whole, tile_last, days_of_tree}
 use Rattle.positions.proofs.DayLaws.{IsBlack, IsTile, IsLevel, value_1, value_2, value_3, levels_few}
 
 -- ---- day_of
@@ -80,7 +80,7 @@ module _ (n i g : ℕ) (a : allowed_n n ≡ true) (l : i ≤ lg n) (o : 1 ≤ g)
 
 pub tree_of : (l g : ℕ) {k : ℕ} → 1 ≤ g → divides (2 ^ l) g ≡ true → k ≡ 2 ^ l → four Tree l (g - k + 1) g ≡ chain_over Tree l (last_days (2 ^ l) g)
 tree_of l g {k} o w e =
-    let t = tree_days_lem 0 g l o w in
+    let t = days_of_tree 0 g l o w in
     let p : suc (g - 2 ^ l) ≡ g - k + 1 = omega arith in
     four_of (t.0 ∙ p) t.1
 

@@ -32,7 +32,7 @@ pub record Spans (n g : ℕ) : Type 0 where
   pub tile_first : (i : ℕ) → divides n g ≡ true → i ≤ lg n → (chain_of n (tile i g)).first ≡ suc (g - n)
   pub tile_whole : divides n g ≡ true → (chain_of n (tile 0 g)).last ≡ g
   pub tile_last : (i : ℕ) → divides n g ≡ true → suc i ≤ lg n → (chain_of n (tile (suc i) g)).last ≡ g - n / 2 ^ suc i
-  pub tree_days_lem : (l : ℕ) → divides (2 ^ l) g ≡ true →
+  pub days_of_tree : (l : ℕ) → divides (2 ^ l) g ≡ true →
       ((chain_of n (tree l g)).first ≡ suc (g - 2 ^ l)) × ((chain_of n (tree l g)).last ≡ g)
 
 abbrev pub SpansTold : Type 0

@@ -60,9 +60,9 @@ alike s n f d p q o places e h = rw (e, h)
 same_but_low : (r d p q good : ℕ) (F m : List ℕ) →
     SameButLow (record { report = unless_refused r (found d p F good) (refused_report r); list = m }) (record { report = unless_refused r (found d q F good) (refused_report r); list = m })
 unfolding found
-same_but_low zero d p q good [] m = record { refusal = refl; clean = refl; listed = refl; first = refl; high = refl; last_good_day_lem = refl; list = refl }
-same_but_low zero d p q good (g ∷ gs) m = record { refusal = refl; clean = refl; listed = refl; first = refl; high = refl; last_good_day_lem = refl; list = refl }
-same_but_low (suc r) d p q good F m = record { refusal = refl; clean = refl; listed = refl; first = refl; high = refl; last_good_day_lem = refl; list = refl }
+same_but_low zero d p q good [] m = record { refusal = refl; clean = refl; listed = refl; first = refl; high = refl; last_good = refl; list = refl }
+same_but_low zero d p q good (g ∷ gs) m = record { refusal = refl; clean = refl; listed = refl; first = refl; high = refl; last_good = refl; list = refl }
+same_but_low (suc r) d p q good F m = record { refusal = refl; clean = refl; listed = refl; first = refl; high = refl; last_good = refl; list = refl }
 
 pub moves_low_alone : MovesLowAlone
 unfolding readout

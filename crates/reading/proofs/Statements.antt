@@ -152,7 +152,7 @@ determined : (d : ℕ) (a b : Reading) (r : Report) → CaseOf a r → CaseOf b 
 unfolding report_of
 determined d Clean b r A B e h = sym (B.clean.1 (A.clean.0 refl))
 determined d (Changed m) (Changed k) r A B e h =
-    ap (λ (x : Report). Changed (record { listed = x.listed; first = x.first; low = x.low; high = x.high; last_good = x.last_good_day_lem })) (e ∙ sym h)
+    ap (λ (x : Report). Changed (record { listed = x.listed; first = x.first; low = x.low; high = x.high; last_good = x.last_good })) (e ∙ sym h)
 determined d (Changed m) Clean r A B e h = A.clean.1 (B.clean.0 refl)
 determined d (Changed m) (Refused y) r A B e h = (A.refused y).1 ((B.refused y).0 refl)
 determined d (Refused x) b r A B e h = sym ((B.refused x).1 ((A.refused x).0 refl))

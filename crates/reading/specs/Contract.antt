@@ -17,14 +17,14 @@ pub record Report : Type 0 where
   pub first : ℕ
   pub low : ℕ
   pub high : ℕ
-  pub last_good_day_lem : ℕ
+  pub last_good : ℕ
 
 abbrev pub clean_report : ℕ → Report
-clean_report d = record { refusal = 0; clean = true; listed = 0; first = 0; low = 0; high = 0; last_good_day_lem = d }
+clean_report d = record { refusal = 0; clean = true; listed = 0; first = 0; low = 0; high = 0; last_good = d }
 
 abbrev pub refused_report : ℕ → Report
 refused_report number =
-    record { refusal = number; clean = false; listed = 0; first = 0; low = 0; high = 0; last_good_day_lem = 0 }
+    record { refusal = number; clean = false; listed = 0; first = 0; low = 0; high = 0; last_good = 0 }
 
 -- for each case of the answer (SPEC 8.10)
 unfoldable pub report_of : ℕ → Reading → Report
@@ -37,13 +37,13 @@ report_of d (Changed m) =
       first = m.first;
       low = m.low;
       high = m.high;
-      last_good_day_lem = m.last_good;
+      last_good = m.last_good;
     }
 report_of d (Refused number) = refused_report number
 
 -- 01's five numbers (SPEC 8.6), in 01's order
 abbrev pub five_numbers : Report → List ℕ
-five_numbers r = r.listed ∷ r.first ∷ r.low ∷ r.high ∷ r.last_good_day_lem ∷ []
+five_numbers r = r.listed ∷ r.first ∷ r.low ∷ r.high ∷ r.last_good ∷ []
 
 -- ---- tests
 
@@ -95,8 +95,8 @@ listed_in scheme n d outcomes = listing (chains scheme n d) d (table_in scheme n
 
 -- 01's result (SPEC 8.6): clean if no day is listed; else changed, with the numbers, low being 02's (SPEC 19.2)
 unfoldable pub found : ℕ → ℕ → List ℕ → ℕ → Report
-found d passed [] last_good_day_lem = clean_report d
-found d passed (g ∷ gs) last_good_day_lem =
+found d passed [] last_good = clean_report d
+found d passed (g ∷ gs) last_good =
     record {
       refusal = 0;
       clean = false;
@@ -104,7 +104,7 @@ found d passed (g ∷ gs) last_good_day_lem =
       first = g;
       low = low_of passed g;
       high = d;
-      last_good_day_lem = last_good_day_lem;
+      last_good = last_good;
     }
 
 -- all that a call leaves: what it says, and the list

@@ -1,5 +1,5 @@
 -- What the private contracts say: outcomes taken in turn, a table that is read, the numbers of a changed one as they
--- are worked out. Definitions only; the laws `bits-by`, `given-passes` and `report-changed` lead them back to 01's.
+-- are worked out. Definitions only; the laws `bits_by`, `given_passes` and `report_changed` lead them back to 01's.
 use Rattle.std.specs.Prelude.{◌≡◌, true, List, [], ◌∷◌, ℕ, ◌-◌, ◌*◌, ◌/◌, ◌≤◌, min, max}
 use Rattle.evidence.specs.Evidence.{accepted}
 use Rattle.refusals.specs.Refusals.{book_limit, Test, ◌or_refuse◌}
@@ -51,4 +51,4 @@ pub record NumbersOf (r : Report) (m : Numbers) : Type 0 where
   pub first_is : m.first ≡ r.first
   pub low_is : m.low ≡ r.low
   pub high_is : m.high ≡ r.high
-  pub last_good_is : m.last_good ≡ r.last_good_day_lem
+  pub last_good_is : m.last_good ≡ r.last_good

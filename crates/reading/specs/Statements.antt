@@ -56,7 +56,7 @@ pub record SameButLow (a b : Readout) : Type 0 where
   pub listed : a.report.listed ≡ b.report.listed
   pub first : a.report.first ≡ b.report.first
   pub high : a.report.high ≡ b.report.high
-  pub last_good_day_lem : a.report.last_good_day_lem ≡ b.report.last_good_day_lem
+  pub last_good : a.report.last_good ≡ b.report.last_good
   pub list : a.list ≡ b.list
 
 abbrev pub MovesLowAlone : Type 0

@@ -61,7 +61,7 @@ unfoldable pub slots_at : ℕ → List ℕ → ℕ → List Value
 slots_at zero b i = []
 slots_at (suc k) b i = value_at b i ∷ slots_at k b (i + 32)
 
--- the record that record_size bytes say, whatever they are; the laws `bytes-round-trip` and `record-round-trip`: the two
+-- the record that record_size bytes say, whatever they are; the laws `bytes_round_trip` and `record_round_trip`: the two
 -- undo each other
 unfoldable pub record_of : List ℕ → Record
 record_of b =

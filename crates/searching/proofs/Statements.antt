@@ -152,7 +152,7 @@ module _ (n d : ℕ) (t : List ℕ) (limit : ℕ) (before : List ℕ) (G : Given
         looked_counted = refl;
         looked_least = ap length (looks_first (passes_in n d t) limit (maximal d)) ∙ length-take limit (walk (passes_in n d t) d);
         found_counted = ap length front;
-        found_days_lem = front;
+        found_days_are = front;
         ascending = rw front (rw R.found (keep_ascends (is_changed n d t) 1 g));
         rest = drop_at F (drop (length F) before) (length F) refl;
         undecided_few = omega (arith, undecided_is);

@@ -44,7 +44,7 @@ module _ (passes : ℕ → ℕ → Bool) where
   found_at (tree (suc l) g) = []
 
   -- 02's "dealt with fully" (SPEC 20.3): the tree's level l that ends at g, and where it fails its left half, then its
-  -- right; the law `looks-first`: this is the order in which chains are looked at
+  -- right; the law `looks_first`: this is the order in which chains are looked at
   abbrev pub dealt_with : ℕ → ℕ → List Name
   dealt_with zero g = tree 0 g ∷ []
   dealt_with (suc l) g =

@@ -55,7 +55,7 @@ pub record StateOf (n d : ℕ) (table : List ℕ) (limit : ℕ) (before after : 
   pub looked_least : p.looked ≡ min limit (length (walk (passes_in n d table) d))
   -- the single days among them that fail stand in the list, ascending; the rest of the list stays
   pub found_counted : length (take p.found after) ≡ p.found
-  pub found_days_lem : take p.found after ≡ found_in (passes_in n d table) (search_of n d table limit).looked
+  pub found_days_are : take p.found after ≡ found_in (passes_in n d table) (search_of n d table limit).looked
   pub ascending : Ascends 1 (take p.found after)
   pub rest : drop p.found after ≡ drop p.found before
   -- the days under chains that are due and not looked at are the last ones up to d; none is left exactly if the limit

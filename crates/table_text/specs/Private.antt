@@ -29,7 +29,7 @@ pub record ReportIs (x : reading.Report) (r : Report) : Type 0 where
   pub first_is : r.first ≡ x.first
   pub low_is : r.low ≡ x.low
   pub high_is : r.high ≡ x.high
-  pub last_good_is : r.last_good ≡ x.last_good_day_lem
+  pub last_good_is : r.last_good ≡ x.last_good
 
 -- the numbers of the line REF
 abbrev pub numbers_in : ℕ → Report → List ℕ

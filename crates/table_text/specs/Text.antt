@@ -97,7 +97,7 @@ no_line number = line (78 ∷ 79 ∷ []) (number ∷ [])
 unfoldable pub ref_line : ℕ → Report → List ℕ
 ref_line scheme r =
     line (82 ∷ 69 ∷ 70 ∷ [])
-    (scheme ∷ r.listed ∷ r.first ∷ r.low ∷ r.high ∷ r.last_good_day_lem ∷ [])
+    (scheme ∷ r.listed ∷ r.first ∷ r.low ∷ r.high ∷ r.last_good ∷ [])
 
 -- DAY and the day, for each day
 unfoldable pub day_lines : List ℕ → List ℕ
