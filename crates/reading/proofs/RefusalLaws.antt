@@ -33,6 +33,19 @@ module _ (s n d : ℕ) (t : List ℕ) {b : Bool} (T : Table s n d t) (e : b ≡ 
   pub given_0 : {r : Bool} → r ≡ rules s n d t → not r ≡ false → 0 ≡ first_refusal (given_tests s n d t)
   given_0 h k = rw (passed e f, passed (by_rules h) k)
 
+-- the same over plain facts, for a search
+pub given_13_plain : (s n d : ℕ) (t : List ℕ) → bits t ≡ false → 13 ≡ first_refusal (given_tests s n d t)
+given_13_plain s n d t e = let f : not (bits t) ≡ true = rw e in rw (failed {r = bits t} refl f)
+
+pub given_passes_plain : (s n d : ℕ) (t : List ℕ) → Table s n d t → bits t ≡ true → least t ≡ 1 → 0 ≡ first_refusal (given_tests s n d t)
+given_passes_plain s n d t T e k = given_passes s n d t T refl (rw e) refl k
+
+pub given_14_plain : (s n d : ℕ) (t : List ℕ) → Table s n d t → bits t ≡ true → rules s n d t ≡ false → 14 ≡ first_refusal (given_tests s n d t)
+given_14_plain s n d t T e k = given_14 s n d t T refl (rw e) refl (rw k)
+
+pub given_0_plain : (s n d : ℕ) (t : List ℕ) → Table s n d t → bits t ≡ true → rules s n d t ≡ true → 0 ≡ first_refusal (given_tests s n d t)
+given_0_plain s n d t T e k = given_0 s n d t T refl (rw e) refl (rw k)
+
 -- ---- tests 8 12 13 14
 
 pub layout_table : (s n d : ℕ) (t : List ℕ) → Layout s n d → length t ≡ length (chains s n d) → Table s n d t

@@ -85,6 +85,7 @@ fn bits(t: &[u8]) -> bool
 }
 
 // Tests 13 14. A table of passes, the usual one, needs no other test.
+#[tactic(auto, using(crate::proofs::RefusalLaws::given_13_plain, crate::proofs::RefusalLaws::given_passes_plain, crate::proofs::RefusalLaws::given_14_plain, crate::proofs::RefusalLaws::given_0_plain))]
 fn given_refusal(scheme: u32, n: u32, d: u32, t: &[u8]) -> u32
     requires { Table scheme n d t.now }
     ensures { result ≡ first_refusal (given_tests scheme n d t.now) }

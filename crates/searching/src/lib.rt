@@ -31,6 +31,7 @@ struct Cursor {
 }
 
 // Tests 1 2 3 7 8 12 13 14 20 (SPEC 11.12).
+#[tactic(auto, using(crate::proofs::Calls::search_layout, crate::proofs::Calls::search_table, crate::proofs::Calls::search_20, crate::proofs::Calls::search_0))]
 fn refusal(scheme: u32, n: u32, f: u32, d: u32, outcomes: &[u8], places: usize) -> u32
     ensures { result ≡ search_refusal scheme n f d outcomes.now places }
 {

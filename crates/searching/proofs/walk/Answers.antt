@@ -1,11 +1,10 @@
 -- The loop's invariant: the walk after some looks, and what is written of it.
-use mathlib.Core.Logic.{◌⊎◌, inl, inr}
+use mathlib.Core.Logic.{◌⊎◌}
 use Prim.Native.Nat.{◌≤◌}
 use native.Mathlib.Omega.{arith}
 use Rattle.searching.proofs.Reached.{reached_fits}
 use Rattle.searching.proofs.Looks.{through_none, through_given, through_found, through_day, through_next, through_progress, through_list}
 use Rattle.searching.proofs.walk.Goals as goal
-use Rattle.searching.proofs.walk.Goals.{then-loop-looked-test+else-c-d, else-loop-looked-test}
 
 pub level_behind-requires : goal.level_behind-requires
 level_behind-requires c = (omega arith, c.requires.table.most)
@@ -18,7 +17,7 @@ look-next-requires c =
     let G = c.requires in
     let T = c.loop-looked.invariant in (
       through_given _ _ _ _ _ G _ _ _ T,
-      reached_fits _ _ _ _ _ _ T.reached c.if-c-d.true,
+      reached_fits _ _ _ _ _ _ T.reached (omega arith),
       through_found _ _ _ _ _ G _ _ _ T,
     )
 
@@ -28,7 +27,7 @@ loop-looked-smaller c = omega (arith, c.loop-looked-test.true)
 pub loop-looked-preserved : goal.loop-looked-preserved
 loop-looked-preserved c =
     let G = c.requires in
-    through_next _ _ _ _ _ G _ _ _ c.loop-looked.invariant _ _ c.loop-looked-test.true c.if-c-d.true c.look-next.ensures
+    through_next _ _ _ _ _ G _ _ _ c.loop-looked.invariant _ _ c.loop-looked-test.true (omega arith) c.look-next.ensures
 
 pub overflow_sub-result : goal.overflow_sub-result
 overflow_sub-result c = through_day _ _ _ _ _ c.requires _ _ _ c.loop-looked.invariant
@@ -42,10 +41,7 @@ returns c =
     let T = c.loop-looked.invariant in
     -- the loop ends at the limit, or with no day left
     let ended : (c.args.limit ≤ c.loop-looked.looked) ⊎ (c.args.d ≤ c.loop-looked.c.day) =
-    elim c.loop-looked-test.branch [
-      | then-loop-looked-test+else-c-d w ↦ inr w.if-c-d.false
-      | else-loop-looked-test w ↦ inl w.loop-looked-test.false
-    ] in
+    grind arith in
     record {
       value = through_progress _ _ _ _ _ G _ _ _ T ended;
       list_after = through_list _ _ _ _ _ G _ _ _ T ended;
