@@ -21,6 +21,7 @@ pub enum Counting {
 }
 
 // Tests 2 21. Scheme 2 and F 1 are allowed.
+#[tactic(auto, using(crate::proofs::Calls::n_refused, crate::proofs::Calls::n_allowed, crate::proofs::Calls::large_refused, crate::proofs::Calls::none_refused, crate::proofs::Calls::many_refused, crate::proofs::Calls::not_refused))]
 fn refusal(n: u32, k: u32) -> u32
     ensures { result ≡ count_refusal n k }
 {

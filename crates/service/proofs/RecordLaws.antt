@@ -182,6 +182,19 @@ module _ (r : Record) {b : Bool} (e : b ≡ allowed_record r) where
     pub record_0 : r.days < book_limit → 0 ≡ record_refusal r
     record_0 h = passes (rw (current_before r h) h)
 
+-- the same, told by the test itself
+pub refused_6 : (r : Record) → allowed_record r ≡ false → 6 ≡ record_refusal r
+refused_6 r e = record_6 r refl (rw e)
+
+pub refused_5 : (r : Record) → allowed_record r ≡ true → book_limit ≤ r.days → last_season ≤ r.season → 5 ≡ record_refusal r
+refused_5 r e = record_5 r refl (rw e)
+
+pub turns_on : (r : Record) → allowed_record r ≡ true → book_limit ≤ r.days → r.season < last_season → 0 ≡ record_refusal r
+turns_on r e = record_turns r refl (rw e)
+
+pub refused_0 : (r : Record) → allowed_record r ≡ true → r.days < book_limit → 0 ≡ record_refusal r
+refused_0 r e = record_0 r refl (rw e)
+
 -- what no refusal says
 pub record_passes : (r : Record) {x : ℕ} → x ≡ record_refusal r → x ≡ 0 → Allowed r × ((current r).days < book_limit)
 unfolding record_refusal

@@ -74,6 +74,7 @@ pub fn allowed(state: Record) -> bool
 }
 
 // Tests 6 5.
+#[tactic(auto, using(crate::proofs::RecordLaws::refused_6, crate::proofs::RecordLaws::refused_5, crate::proofs::RecordLaws::turns_on, crate::proofs::RecordLaws::refused_0))]
 pub fn refusal(state: Record) -> u32
     ensures { result ≡ record_refusal state }
 {

@@ -26,6 +26,21 @@ use Rattle.table_text.specs.Private.{TypedIs, ReportIs, numbers_in, passed_by, a
 use Rattle.table_text.specs.declared.Report.{Report}
 use Rattle.table_text.specs.declared.Typed.{Typed}
 
+-- ---- 15 for form, length and D over 256
+
+module _ (size d : ℕ) where
+  pub form_wrong : (formed : Bool) → formed ≡ false → 15 ≡ first_refusal (form_tests formed size d)
+  form_wrong formed e = rw e
+
+  pub form_long : (formed : Bool) → formed ≡ true → 1024 < size → 15 ≡ first_refusal (form_tests formed size d)
+  form_long formed e l = rw (e, lt-leb size 1024 l)
+
+  pub form_far : (formed : Bool) → formed ≡ true → size ≤ 1024 → 256 < d → 15 ≡ first_refusal (form_tests formed size d)
+  form_far formed e k l = rw (e, le-leb size 1024 k, lt-leb d 256 l)
+
+  pub form_right : (formed : Bool) → formed ≡ true → size ≤ 1024 → d ≤ 256 → 0 ≡ first_refusal (form_tests formed size d)
+  form_right formed e k l = rw (e, le-leb size 1024 k, le-leb d 256 l)
+
 -- ---- 1 2 3 7 19, and 15 for extra digits
 
 module _ (s n f d p count : ℕ) {r : ℕ} (e : r ≡ passed_refusal s n f d p) where

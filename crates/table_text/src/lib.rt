@@ -40,6 +40,7 @@ struct Report {
 }
 
 // 15 for form, length and D over 256.
+#[tactic(auto, using(crate::proofs::TextLaws::form_wrong, crate::proofs::TextLaws::form_long, crate::proofs::TextLaws::form_far, crate::proofs::TextLaws::form_right))]
 fn form_refusal(formed: bool, size: usize, d: u32) -> u32
     ensures { result ≡ first_refusal (form_tests formed size d) }
 {
