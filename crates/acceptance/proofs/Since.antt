@@ -1,10 +1,12 @@
 -- The tree's chains against the last failed day: what a pass over the days finds is the rule of the halves.
 use mathlib.Core.{Path.◌≡◌, Path.refl, Path.sym, Path.ap, Path.ap₂, Path.◌∙◌, Logic.inl, Logic.inr, List.List}
-use mathlib.Core.Bool.{Bool, true, false, not, ◌&&◌, ◌||◌}
+use mathlib.Core.Bool.{Bool, true, false, not, beq, ◌&&◌, ◌||◌}
 use Prim.Native.Nat.{ℕ, zero, suc, pred, ◌+◌, ◌-◌, ◌*◌, ◌/◌, ◌%◌, ◌^◌, ◌≤◌, ◌<◌}
-use native.Mathlib.{Nat.mod-one, Nat.mul-pos, Nat.zero-add, Nat.suc-add, Nat.pow-succ', Nat.eq_of_mul-eq-mul_left, Decide.dec_le, Decide.dec_lt, Decide.ℕ_discrete, Numerals.add-one, Omega.arith}
+use native.Mathlib.{Nat.mod-one, Nat.mul-pos, Nat.zero-add, Nat.suc-add, Nat.pow-succ', Nat.eq_of_mul-eq-mul_left, Decide.dec_le, Decide.dec_lt, Decide.ℕ_discrete, Omega.arith}
 use lib.{Dec.leb, Pow.pow_pos}
-use borrow.Author.Tests.{eq-eqb, le-leb, lt-leb, not-true, not-false}
+use Rattle.std.specs.Int.{bit_at, trailing_zeros, w32}
+use Rattle.std.proofs.lemmas.{Nat.mod-pow-add, Nat.Bits.bit_at-trailing_zeros}
+use borrow.Author.Tests.{eq-eqb, le-leb, lt-leb}
 use Rattle.lists.specs.Lists.{up_from}
 use Rattle.lists.proofs.Laws.{split, true_or_false, up_from_bounds, every_of}
 use Rattle.layouts.specs.Layouts.{divides, tree, last_days}
@@ -13,7 +15,7 @@ use Rattle.layouts.proofs.{AllowedLaws.chains_few, Coverage.divisor_le, Position
 use Rattle.acceptance.proofs.Lookup.{position_bound, tree_named}
 use Rattle.acceptance.specs.Private.{Has, Chain, alike, passes, halves_rule, halves_at, LastFailed, since_rule, DayRules, level_rule, levels_rule, is_listed}
 use Rattle.acceptance.proofs.Runs.{some, some_append, some_of, some_none, last_days_mem, last_days_bounds, divides_multiple, div_whole}
-use Rattle.acceptance.proofs.{Given.half_point, Given.half_split, Listed.block_number, Listed.is_listed_3, Listed.tree_3, Listed.neither, Listed.alike_eq, Listed.small_level, Steps.interval_end}
+use Rattle.acceptance.proofs.{Given.half_point, Given.half_split, Listed.block_number, Listed.is_listed_3, Listed.tree_3, Listed.neither, Listed.alike_eq, Listed.small_level, Steps.interval_end, Steps.alike_is}
 
 alike_same : (a b : Bool) → a ≡ b → alike a b ≡ true
 alike_same true b e = sym e
@@ -23,9 +25,6 @@ alike_same false b e = rw (← e)
 
 pub last_none : (n : ℕ) (t : List ℕ) → LastFailed n t 0 0
 last_none n t = record { most = omega arith; failed = inl refl; later = λ x a b. absurd (omega arith) }
-
-pub last_back : (n : ℕ) (t : List ℕ) {g s : ℕ} → LastFailed n t g s → LastFailed n t (g + 1 - 1) s
-last_back n t {g} u = let e : g + 1 - 1 ≡ g = omega arith in rw e u
 
 module _ (n : ℕ) (t : List ℕ) {g s : ℕ} {r : Bool} (p : 1 ≤ g) (u : LastFailed n t (g - 1) s) (e : r ≡ passes 3 n t (tree 0 g)) where
   pub last_kept : r ≡ true → LastFailed n t g s
@@ -73,12 +72,16 @@ own n t zero x s u v e p w =
 own n t (suc l) x s u v e p w =
     alike_eq (passes 3 n t (tree (suc l) x)) (leb (2 ^ suc l + s) x) (v.holds e l w) ∙ sym (chain_since n t x s (suc l) u (divisor_le (2 ^ suc l) x p w))
 
-pub checked_next : (n : ℕ) (t : List ℕ) (g s : ℕ) {r : Bool} → Checked n t g → LastFailed n t (g + 1) s → DayRules n t (g + 1) s r → r ≡ true → Checked n t (g + 1)
+pub checked_next : (n : ℕ) (t : List ℕ) (g s : ℕ) {r : Bool} → 1 ≤ g → Checked n t (g - 1) → LastFailed n t g s → DayRules n t g s r → r ≡ true → Checked n t g
 unfolding Checked
-checked_next n t g s c u v e l x a b w = elim (ℕ_discrete x (g + 1)) [
-  | yes q ↦ rw q (own n t l (g + 1) s u v e (omega arith) (rw q at w))
+checked_next n t g s p c u v e l x a b w = elim (ℕ_discrete x g) [
+  | yes q ↦ rw q (own n t l g s u v e p (rw q at w))
   | no q ↦ c l x a (omega arith) w
 ]
+
+-- of day g and those before it, as a loop has them after its turn
+pub days_next : (n : ℕ) (t : List ℕ) (g s : ℕ) → LastFailed n t g s → Checked n t g → LastFailed n t (g + 1 - 1) s × Checked n t (g + 1 - 1)
+days_next n t g s u c = let e : g + 1 - 1 ≡ g = omega arith in rw e (u, c)
 
 -- ---- the rule of the halves
 
@@ -128,15 +131,6 @@ module _ (n d : ℕ) (t : List ℕ) where
 pub own_chain : {n g : ℕ} {t : List ℕ} → Has 3 n g t → Chain n 0 g t
 own_chain {n} {g} h = record { has = h; whole = eq-eqb (g % 1) 0 (mod-one g); level = omega arith }
 
--- the levels 1 to l meet the rule; w is the next one's size, x the number of the day in units of level l
-pub record UpTo (n : ℕ) (t : List ℕ) (g s l w x : ℕ) : Type 0 where
-  pub weight : w ≡ 2 ^ suc l
-  pub units : x * 2 ^ l ≡ g
-  pub rules : (j : ℕ) → j < l → since_rule n t g s (suc j) ≡ true
-
-pub up_none : (n : ℕ) (t : List ℕ) (g s : ℕ) → UpTo n t g s 0 2 g
-up_none n t g s = record { weight = refl; units = omega arith; rules = λ j h. absurd (omega arith) }
-
 divides_lower : (l k g : ℕ) → divides (2 ^ (k + l)) g ≡ true → divides (2 ^ l) g ≡ true
 divides_lower l zero g e = rw zero-add at e
 divides_lower l (suc k) g e = divides_lower l k g (divides_half (k + l) g (rw suc-add at e))
@@ -151,61 +145,66 @@ odd_units x l g e z v =
     let o = eq_of_mul-eq-mul_left (2 ^ l) (pow_pos l) x (2 * k) q in
     z (omega arith)
 
-module _ {n g s l w x : ℕ} {t : List ℕ} (h : Has 3 n g t) (u : UpTo n t g s l w x) where
-  next_size : 2 * w ≡ 2 ^ suc (l + 1)
-  next_size = let p = pow-succ' 2 (suc l) in let e : suc (l + 1) ≡ suc (suc l) = omega arith in rw e (omega (arith, u.weight))
+-- where the low digits are 0, the number is a whole number of their weight
+low_zeros : (g i : ℕ) → ((j : ℕ) → j < i → bit_at g j ≡ 0) → g % 2 ^ i ≡ 0
+low_zeros g zero f = mod-one g
+low_zeros g (suc i) f =
+    let e : suc i ≡ 1 + i = omega arith in
+    rw (e, mod-pow-add g 1 i, f i (omega arith), low_zeros g i (λ j l. f j (omega arith))) (omega arith)
 
-  pub up_all : (x % 2 ≡ 0 → ⊥) → DayRules n t g s true
-  up_all z = record {
-    holds = λ e j v. elim (dec_lt j l) [
-      | yes b ↦ u.rules j b
-      | no b ↦ let k : suc j ≡ (j - l) + suc l = omega arith in absurd (odd_units x l g u.units z (divides_lower (suc l) (j - l) g (rw k at v)))
-    ];
-    fails = λ e. absurd (true_or_false refl e);
-  }
+-- the chains of the levels up to that of the lowest digit 1, and no others, end at a day
+module _ {n g : ℕ} {t : List ℕ} (h : Has 3 n g t) where
+  abbrev top : ℕ
+  top = trailing_zeros w32 g
 
-  module _ (z : x % 2 ≡ 0) where
-    next_units : x / 2 * 2 ^ suc l ≡ g
-    next_units =
-        let e : x ≡ x / 2 * 2 = omega arith in
-        let f : x / 2 * 2 ^ suc l ≡ x / 2 * 2 * 2 ^ l = rw (pow-succ' 2 l) (omega arith) in
-        f ∙ ap (λ y. y * 2 ^ l) (sym e) ∙ u.units
+  lowest : (top < 32) × (bit_at g top ≡ 1) × ((i : ℕ) → i < top → bit_at g i ≡ 0)
+  lowest = bit_at-trailing_zeros w32 g (omega (arith, h.some)) (omega (arith, h.most))
 
-    up_whole : divides (2 ^ suc l) g ≡ true
-    up_whole = rw next_units at (divides_multiple (x / 2) (2 ^ suc l) (pow_pos (suc l)))
+  closes : (l : ℕ) → l ≤ top → divides (2 ^ l) g ≡ true
+  closes l a = eq-eqb (g % 2 ^ l) 0 (low_zeros g l (λ j b. lowest.2 j (omega arith)))
 
-    pub up_low : (l < 16) × (w ≤ g)
-    up_low =
-        let b : 2 ^ suc l ≤ g = divisor_le (2 ^ suc l) g h.some up_whole in
-        (small_level l g 1 (omega arith) (omega arith) h.most, omega (arith, u.weight))
+  closes_not : (j : ℕ) → top ≤ j → divides (2 ^ suc j) g ≡ true → ⊥
+  closes_not j a v =
+      let k : suc j ≡ (j - top) + suc top = omega arith in
+      odd_units (g / 2 ^ top) top g (div_whole (2 ^ top) g (closes top (omega arith)))
+      (λ z. let b = lowest.1 in omega arith) (divides_lower (suc top) (j - top) g (rw k at v))
 
-    pub up_chain : Chain n (l + 1) g t
-    up_chain = record { has = h; whole = rw add-one up_whole; level = omega (arith, up_low.0) }
+  pub day_chain : (l : ℕ) → 1 ≤ l → l ≤ top → Chain n l g t
+  day_chain l p a =
+      let v = closes l a in
+      let b : 2 ^ l ≤ g = divisor_le (2 ^ l) g h.some v in
+      let e : suc (l - 1) ≡ l = omega arith in
+      let c = small_level (l - 1) g 1 (omega arith) (rw e (omega arith)) h.most in
+      record { has = h; whole = v; level = omega arith }
 
-    pub up_next : {y : Bool} → y ≡ since_rule n t g s (l + 1) → not y ≡ false → UpTo n t g s (l + 1) (2 * w) (x / 2)
-    up_next {y} e f =
-        record {
-          weight = next_size;
-          units = rw add-one next_units;
-          rules = λ j b. elim (dec_lt j l) [
-            | yes q ↦ u.rules j q
-            | no q ↦ let k : suc j ≡ l + 1 = omega arith in rw (k, ← e) (not-false y f)
-          ];
-        }
+  pub day_size : (l : ℕ) → 1 ≤ l → l ≤ top → 2 ^ l ≤ g
+  day_size l p a = divisor_le (2 ^ l) g h.some (closes l a)
 
-    pub up_stop : {y : Bool} → y ≡ since_rule n t g s (l + 1) → not y ≡ true → DayRules n t g s false
-    up_stop {y} e f = record {
+  pub day_place : {p : ℕ} (l : ℕ) → 1 ≤ l → l ≤ top → p ≡ position 3 n (tree 0 g) → (p + l ≡ position 3 n (tree l g)) × (p + l < 2 ^ 32)
+  day_place l o a e =
+      let q = day_chain l o a in
+      let b = position_bound 3 n g (tree l g) (tree_named n g g l h.some (omega arith) q.whole) in
+      let f = chains_few 3 n g refl h.n_ok h.most in
+      (omega arith, omega arith)
+
+  module _ (s : ℕ) where
+    -- what a turn finds
+    pub day_turn : (l : ℕ) {w : ℕ} {a b : Bool} → w ≡ 2 ^ l → a ≡ passes 3 n t (tree l g) → b ≡ leb (w + s) g → beq a b ≡ since_rule n t g s l
+    unfolding since_rule
+    day_turn l e f q = rw (alike_is, f, q, e)
+
+    pub day_next : (l : ℕ) → 1 ≤ l → ((j : ℕ) → suc j < l → since_rule n t g s (suc j) ≡ true) → since_rule n t g s l ≡ true →
+        (j : ℕ) → suc j < l + 1 → since_rule n t g s (suc j) ≡ true
+    day_next l o f e j b = elim (ℕ_discrete (suc j) l) [ yes q ↦ rw q e | no q ↦ f j (omega arith) ]
+
+    pub day_stop : (l : ℕ) → 1 ≤ l → l ≤ top → since_rule n t g s l ≡ false → DayRules n t g s false
+    day_stop l o a e = let k : suc (l - 1) ≡ l = omega arith in record {
       holds = λ c. absurd (true_or_false c refl);
-      fails = λ c. (l, up_whole, rw (← (add-one l), ← e) (not-true y f));
+      fails = λ c. (l - 1, rw k (closes l a), rw k e);
     }
 
-    -- what a turn finds
-    pub up_turn : {y a b : Bool} → y ≡ alike a b → a ≡ passes 3 n t (tree (l + 1) g) → b ≡ leb (w + s) g → y ≡ since_rule n t g s (l + 1)
-    unfolding since_rule
-    up_turn e f q = let v : w ≡ 2 ^ (l + 1) = u.weight ∙ ap (λ i. 2 ^ i) (sym (add-one l)) in rw (← v, ← f, ← q) e
-
-    pub up_place : {p : ℕ} → p ≡ position 3 n (tree 0 g) → (p + (l + 1) ≡ position 3 n (tree (l + 1) g)) × (p + (l + 1) < 2 ^ 32)
-    up_place e =
-        let b = position_bound 3 n g (tree (l + 1) g) (tree_named n g g (l + 1) h.some (omega arith) up_chain.whole) in
-        let f = chains_few 3 n g refl h.n_ok h.most in
-        (omega arith, omega arith)
+    pub day_all : (l : ℕ) → top < l → ((j : ℕ) → suc j < l → since_rule n t g s (suc j) ≡ true) → DayRules n t g s true
+    day_all l o f = record {
+      holds = λ e j v. elim (dec_lt j top) [ yes b ↦ f j (omega arith) | no b ↦ absurd (closes_not j (omega arith) v) ];
+      fails = λ e. absurd (true_or_false refl e);
+    }

@@ -1,17 +1,17 @@
 -- What the functions that test a table need: values in range, and each rule from its parts.
-use mathlib.Core.{Path.◌≡◌, Path.sym, Path.◌∙◌, Bool.Bool, Bool.true, Bool.false, Bool.not, List.List}
+use mathlib.Core.{Path.◌≡◌, Path.refl, Path.sym, Path.◌∙◌, Bool.Bool, Bool.true, Bool.false, Bool.not, Bool.beq, List.List}
 use Prim.Native.Nat.{ℕ, suc, pred, ◌+◌, ◌-◌, ◌*◌, ◌/◌, ◌^◌, ◌≤◌, ◌<◌}
 use native.Mathlib.Nat.{mul-pos, le_trans, mul-le-mul_right, div-mul-le_self, div-le_self}
 use native.Mathlib.{Numerals.add-one, Omega.arith}
 use lib.{Dec.eqb, ListN.length, ListN.get_or, ListN.length-append, Pow.pow_pos}
-use borrow.Author.Tests.{not-true, not-false}
+use borrow.Author.Tests.{not-false}
 use Rattle.lists.specs.Lists.{up_from, every}
 use Rattle.lists.proofs.Laws.{up_from_mem, every_more, every_fails}
 use Rattle.layouts.specs.Layouts.{divides, allowed_scheme, allowed_n, lg, Name, black, tile, tree, chains}
 use Rattle.layouts.specs.Private.{position}
 use Rattle.layouts.proofs.{AllowedLaws.allowed_n_is, AllowedLaws.allowed_scheme_is, Coverage.divisor_le, Coverage.chains_front}
 use Rattle.layouts.proofs.Positions.{divides_half}
-use Rattle.acceptance.specs.Private.{Table, Has, Interval, Chain, passes, prior}
+use Rattle.acceptance.specs.Private.{Table, Has, Interval, Chain, alike, passes, prior, block_rule}
 use Rattle.acceptance.proofs.{BlackLaws.black_position, Runs.divides_multiple, Given.half_point, Given.prior_first, Given.prior_next, Listed.block_number}
 use Rattle.acceptance.proofs.Lookup.{position_bound, tile_named, tree_named}
 
@@ -62,13 +62,31 @@ interval_number {s} {n} {g} h =
     block_number n g g w.some (record { some = h.has.some; most = omega arith; whole = h.whole })
 
 -- before the first interval, and after each
-pub prior_none : (s n : ℕ) (t : List ℕ) → true ≡ prior s n t ((0 + 1) * n)
+pub prior_none : (s n : ℕ) (t : List ℕ) → true ≡ prior s n t (1 * n)
 prior_none s n t = sym (prior_first s n t)
 
-pub prior_turn : (s n k : ℕ) (t : List ℕ) {b : Bool} → 1 ≤ n → b ≡ passes s n t (black ((k + 1) * n)) → b ≡ prior s n t ((k + 1 + 1) * n)
-prior_turn s n k t p e =
-    let q : k + 1 + 1 ≡ suc (suc k) = omega arith in
-    rw q (rw add-one at e ∙ sym (prior_next s n k t p))
+pub prior_turn : (s n k : ℕ) (t : List ℕ) {b : Bool} → 1 ≤ n → 1 ≤ k → b ≡ passes s n t (black (k * n)) → b ≡ prior s n t ((k + 1) * n)
+prior_turn s n k t p o e =
+    let q : k ≡ suc (k - 1) = omega arith in
+    let v : k + 1 ≡ suc (suc (k - 1)) = omega arith in
+    rw v (rw q at e ∙ sym (prior_next s n (k - 1) t p))
+
+-- scheme 1: where black fails, or passes
+pub black_failed : (s n g : ℕ) (t : List ℕ) → passes s n t (black g) ≡ false → s ≡ 1 → block_rule s n t g ≡ true
+unfolding block_rule
+black_failed s n g t f z = rw z (rw (rw z at f))
+
+pub black_passed : (s n g : ℕ) (t : List ℕ) → passes s n t (black g) ≡ true → s ≡ 1 → block_rule s n t g ≡ prior s n t g
+unfolding block_rule
+black_passed s n g t f z = rw z (rw (rw z at f))
+
+-- ---- two tests with the same answer
+
+pub alike_is : (a b : Bool) → beq a b ≡ alike a b
+alike_is true true = refl
+alike_is true false = refl
+alike_is false true = refl
+alike_is false false = refl
 
 -- ---- chains
 
@@ -106,8 +124,11 @@ chain_room m h e = let b = chain_point h in omega (arith, b.0)
 pub every_next : (p : ℕ → Bool) (s i x : ℕ) {r : Bool} → x ≡ s + i → every p (up_from s i) ≡ true → r ≡ p x → not r ≡ false → every p (up_from s (i + 1)) ≡ true
 every_next p s i x {r} e h q f = rw add-one (every_more p s i h (rw (← e, ← q) (not-false r f)))
 
-pub every_stop : (p : ℕ → Bool) (s m x : ℕ) {r : Bool} → s ≤ x → x < s + m → r ≡ p x → not r ≡ true → false ≡ every p (up_from s m)
-every_stop p s m x {r} a b q f = sym (every_fails p (up_from s m) x (up_from_mem s m x a b) (sym q ∙ not-true r f))
+pub every_turn : (p : ℕ → Bool) (x : ℕ) {r : Bool} → 1 ≤ x → every p (up_from 1 (x - 1)) ≡ true → r ≡ p x → r ≡ true → every p (up_from 1 (x + 1 - 1)) ≡ true
+every_turn p x a h q f = let e : x + 1 - 1 ≡ suc (x - 1) = omega arith in let k : 1 + (x - 1) ≡ x = omega arith in rw e (every_more p 1 (x - 1) h (rw (k, ← q) f))
+
+pub every_stop : (p : ℕ → Bool) (s m x : ℕ) {r : Bool} → s ≤ x → x < s + m → r ≡ p x → r ≡ false → false ≡ every p (up_from s m)
+every_stop p s m x a b q f = sym (every_fails p (up_from s m) x (up_from_mem s m x a b) (sym q ∙ f))
 
 pub every_done : (p : ℕ → Bool) (s i m : ℕ) → i ≤ m → m ≤ i → every p (up_from s i) ≡ true → true ≡ every p (up_from s m)
 every_done p s i m a b h = let e : i ≡ m = omega arith in sym (rw e at h)

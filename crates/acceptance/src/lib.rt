@@ -12,33 +12,6 @@ ghost use Rattle.acceptance.specs.Private as rule;
 ghost use Rattle.acceptance.specs.Private.{Table, Has, Interval, passes, tile_rule, block_rule};
 ghost use Rattle.acceptance.specs.Private.{LastFailed, DayRules, levels_rule, blocks_rule};
 
-fn implies(a: bool, b: bool) -> bool
-    ensures { result ≡ not a || b }
-{
-    if a {
-        return b;
-    }
-    true
-}
-
-fn both(a: bool, b: bool) -> bool
-    ensures { result ≡ a && b }
-{
-    if a {
-        return b;
-    }
-    false
-}
-
-fn alike(a: bool, b: bool) -> bool
-    ensures { result ≡ rule.alike a b }
-{
-    if a {
-        return b;
-    }
-    !b
-}
-
 // Where c(0), which stands at place p, passes, so do c(1) to c(lg n), which stand behind it.
 fn tile_rules(n: u32, g: u32, p: u32, t: &[u8]) -> bool
     requires { Interval 2 n g t.now × (p ≡ position 2 n (tile 0 g)) }
@@ -47,10 +20,7 @@ fn tile_rules(n: u32, g: u32, p: u32, t: &[u8]) -> bool
     if !values::mark(t, p) {
         return true;
     }
-    let k = layouts::lg(n);
-    let mut i = 0;
-    while i < k {
-        i += 1;
+    for i in 1..=layouts::lg(n) {
         if !values::mark(t, p + i) {
             return false;
         }
@@ -58,41 +28,37 @@ fn tile_rules(n: u32, g: u32, p: u32, t: &[u8]) -> bool
     true
 }
 
-// The interval that ends at g under scheme 2: o is the outcome of the black before it, b of its own.
-fn tile_block(n: u32, g: u32, o: bool, b: bool, t: &[u8]) -> bool
-    requires { Interval 2 n g t.now × (o ≡ rule.prior 2 n t.now g) × (b ≡ passes 2 n t.now (black g)) }
+// The interval that ends at g under scheme 2: before is the outcome of the black before it, own of its own.
+fn tile_block(n: u32, g: u32, before: bool, own: bool, t: &[u8]) -> bool
+    requires { Interval 2 n g t.now × (before ≡ rule.prior 2 n t.now g) × (own ≡ passes 2 n t.now (black g)) }
     ensures { result ≡ block_rule 2 n t.now g }
 {
     let p = layouts::tile_at(n, 0, g);
-    let c = values::mark(t, p);
-    let w = both(o, c);
-    let a = alike(b, w);
-    let e = tile_rules(n, g, p, t);
-    both(a, e)
+    let whole = before && values::mark(t, p);
+    let agrees = own == whole;
+    agrees && tile_rules(n, g, p, t)
 }
 
 // Under scheme 3.
-fn tree_block(n: u32, g: u32, o: bool, b: bool, t: &[u8]) -> bool
-    requires { Interval 3 n g t.now × (o ≡ rule.prior 3 n t.now g) × (b ≡ passes 3 n t.now (black g)) }
+fn tree_block(n: u32, g: u32, before: bool, own: bool, t: &[u8]) -> bool
+    requires { Interval 3 n g t.now × (before ≡ rule.prior 3 n t.now g) × (own ≡ passes 3 n t.now (black g)) }
     ensures { result ≡ block_rule 3 n t.now g }
 {
-    let c = values::tree_passes(n, layouts::lg(n), g, t);
-    let w = both(o, c);
-    alike(b, w)
+    let whole = before && values::tree_passes(n, layouts::lg(n), g, t);
+    own == whole
 }
 
-fn block_rule(scheme: u32, n: u32, g: u32, o: bool, b: bool, t: &[u8]) -> bool
-    requires { Interval scheme n g t.now × (o ≡ rule.prior scheme n t.now g)
-        × (b ≡ passes scheme n t.now (black g)) }
+#[tactic(auto, using(crate::proofs::Steps::black_failed, crate::proofs::Steps::black_passed))]
+fn block_rule(scheme: u32, n: u32, g: u32, before: bool, own: bool, t: &[u8]) -> bool
+    requires { Interval scheme n g t.now × (before ≡ rule.prior scheme n t.now g)
+        × (own ≡ passes scheme n t.now (black g)) }
     ensures { result ≡ block_rule scheme n t.now g }
 {
-    if scheme == 1 {
-        return implies(b, o);
+    match scheme {
+        1 => !own || before,
+        2 => tile_block(n, g, before, own, t),
+        _ => tree_block(n, g, before, own, t),
     }
-    if scheme == 2 {
-        return tile_block(n, g, o, b, t);
-    }
-    tree_block(n, g, o, b, t)
 }
 
 // The intervals in turn, with the outcome of the black before.
@@ -100,17 +66,14 @@ fn block_rules(scheme: u32, n: u32, d: u32, t: &[u8]) -> bool
     requires { Table scheme n d t.now }
     ensures { result ≡ blocks_rule scheme n d t.now }
 {
-    let m = d / n;
-    let mut k = 0;
-    let mut o = true;
-    while k < m {
-        k += 1;
+    let mut before = true;
+    for k in 1..=d / n {
         let g = k * n;
-        let b = values::black_passes(scheme, n, g, t);
-        if !block_rule(scheme, n, g, o, b, t) {
+        let own = values::black_passes(scheme, n, g, t);
+        if !block_rule(scheme, n, g, before, own, t) {
             return false;
         }
-        o = b;
+        before = own;
     }
     true
 }
@@ -121,10 +84,7 @@ fn last_failed(n: u32, g: u32, p: u32, s: u32, t: &[u8]) -> u32
     requires { Has 3 n g t.now × (p ≡ position 3 n (tree 0 g)) × LastFailed n t.now (g - 1) s }
     ensures { LastFailed n t.now g result }
 {
-    if values::mark(t, p) {
-        return s;
-    }
-    g
+    if values::mark(t, p) { s } else { g }
 }
 
 // The tree's chains of level 1 and up that end at g, which stand behind its own: each passes exactly if the last failed
@@ -133,18 +93,13 @@ fn day_rules(n: u32, g: u32, p: u32, s: u32, t: &[u8]) -> bool
     requires { Has 3 n g t.now × (p ≡ position 3 n (tree 0 g)) × (s ≤ g) }
     ensures { DayRules n t.now g s result }
 {
-    let mut l = 0;
-    let mut w = 2;
-    let mut x = g;
-    while x % 2 == 0 {
-        l += 1;
-        let a = values::mark(t, p + l);
-        let b = w + s <= g;
-        if !alike(a, b) {
+    for l in 1..=g.trailing_zeros() {
+        let own = values::mark(t, p + l);
+        let since = layouts::size(l) + s <= g;
+        let agrees = own == since;
+        if !agrees {
             return false;
         }
-        w = 2 * w;
-        x = x / 2;
     }
     true
 }
@@ -154,10 +109,8 @@ fn level_rules(n: u32, d: u32, t: &[u8]) -> bool
     requires { Table 3 n d t.now }
     ensures { result ≡ levels_rule n d t.now }
 {
-    let mut g = 0;
     let mut s = 0;
-    while g < d {
-        g += 1;
+    for g in 1..=d {
         let p = layouts::tree_at(n, 0, g);
         s = last_failed(n, g, p, s, t);
         if !day_rules(n, g, p, s, t) {
@@ -171,11 +124,5 @@ pub fn accepts(scheme: u32, n: u32, d: u32, t: &[u8]) -> bool
     requires { Table scheme n d t.now }
     ensures { result ≡ rule.rules scheme n d t.now }
 {
-    if !block_rules(scheme, n, d, t) {
-        return false;
-    }
-    if scheme != 3 {
-        return true;
-    }
-    level_rules(n, d, t)
+    block_rules(scheme, n, d, t) && (scheme != 3 || level_rules(n, d, t))
 }

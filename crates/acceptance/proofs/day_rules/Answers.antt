@@ -1,54 +1,46 @@
 -- `acceptance::day_rules` meets its contract.
-use Rattle.acceptance.proofs.{Steps.tree_inside, Steps.passes_by}
-use Rattle.acceptance.proofs.Since.{up_none, up_low, up_chain, up_place, up_turn, up_next, up_stop, up_all}
-use native.Mathlib.Omega.{arith}
-use Prim.Native.Nat.{◌+◌, ◌≤◌, ◌<◌}
-use mathlib.Core.Path.{◌≡◌, refl}
 use Rattle.acceptance.specs.Private.{since_rule}
-use mathlib.Core.{Path.ap, Bool.not}
-use Rattle.acceptance.proofs.day_rules.Goals.{After-alike, In-loop-x}
+use Rattle.acceptance.proofs.{Steps.tree_inside, Steps.passes_by}
+use Rattle.acceptance.proofs.Since.{day_chain, day_place, day_turn, day_next, day_stop, day_all}
+use mathlib.Core.{Bool.beq, Path.refl, Path.sym, Path.◌∙◌}
+use lib.Dec.{leb}
+use Rattle.std.proofs.Common.{◌≡◌, ◌+◌, arith}
+use Rattle.acceptance.proofs.day_rules.Goals.{After-size}
 use Rattle.acceptance.proofs.day_rules.Goals as goal
 
--- a turn's level is low, and its chain closes
-low : (c : In-loop-x) → (c.loop-x.l < 16) × (c.loop-x.w ≤ c.args.g)
-low c = up_low c.requires.0 c.loop-x.invariant c.loop-x-test.true
-
 -- a turn finds the rule of its level
-turn : (c : After-alike) → let a = c.args in
-    c.alike.result ≡ since_rule a.n a.t.now a.g a.s (c.loop-x.l + 1)
+turn : (c : After-size) → let a = c.args in
+    beq c.mark-own.result (leb (c.size.result + a.s) a.g) ≡ since_rule a.n a.t.now a.g a.s c.loop-l.l
 turn c = let pre = c.requires in
-    up_turn pre.0 c.loop-x.invariant c.loop-x-test.true c.alike.ensures
-    (passes_by 3 _ _ _ (up_place pre.0 c.loop-x.invariant c.loop-x-test.true pre.1).0 c.mark-a.ensures) refl
-
-pub loop-x-init : goal.loop-x-init
-loop-x-init c = up_none _ _ _ _
-
-pub overflow_add-l : goal.overflow_add-l
-overflow_add-l c = omega (arith, low (goal.at.overflow_add-l c).In-loop-x)
+    day_turn pre.0 _ c.loop-l.l c.size.ensures
+    (passes_by 3 _ _ _ (day_place pre.0 c.loop-l.l (omega arith) (omega arith) pre.1).0 c.mark-own.ensures) refl
 
 pub overflow_add-p : goal.overflow_add-p
-overflow_add-p c = record { fits = (up_place c.requires.0 c.loop-x.invariant c.loop-x-test.true c.requires.1).1 }
+overflow_add-p c = record { fits = (day_place c.requires.0 c.loop-l.l (omega arith) (omega arith) c.requires.1).1 }
 
-pub mark-a-requires : goal.mark-a-requires
-mark-a-requires c = let pre = c.requires in
-    tree_inside (up_chain pre.0 c.loop-x.invariant c.loop-x-test.true) (up_place pre.0 c.loop-x.invariant c.loop-x-test.true pre.1).0
+pub mark-own-requires : goal.mark-own-requires
+mark-own-requires c = let pre = c.requires in
+    tree_inside (day_chain pre.0 c.loop-l.l (omega arith) (omega arith))
+    (day_place pre.0 c.loop-l.l (omega arith) (omega arith) pre.1).0
 
-pub overflow_add-b : goal.overflow_add-b
-overflow_add-b c = let pre = c.requires in omega (arith, low (goal.at.overflow_add-b c).In-loop-x, pre.2, pre.0.most)
+pub size-requires : goal.size-requires
+size-requires c = (day_chain c.requires.0 c.loop-l.l (omega arith) (omega arith)).level
 
-pub returns-then-not-alike : goal.returns-then-not-alike
-returns-then-not-alike c =
-    up_stop c.requires.0 c.loop-x.invariant c.loop-x-test.true (turn (goal.at.returns-then-not-alike c).After-alike) (ap not c.if-not-alike.true)
+pub returns-then-not-agrees : goal.returns-then-not-agrees
+returns-then-not-agrees c =
+    day_stop c.requires.0 _ c.loop-l.l (omega arith) (omega arith)
+    (sym (turn (goal.at.returns-then-not-agrees c).After-size) ∙ c.if-not-agrees.true)
 
-pub overflow_mul-w : goal.overflow_mul-w
-overflow_mul-w c = omega (arith, low (goal.at.overflow_mul-w c).In-loop-x, c.requires.0.most)
-
-pub loop-x-smaller : goal.loop-x-smaller
-loop-x-smaller c = omega (arith, low (goal.at.loop-x-smaller c).In-loop-x)
-
-pub loop-x-preserved : goal.loop-x-preserved
-loop-x-preserved c =
-    up_next c.requires.0 c.loop-x.invariant c.loop-x-test.true (turn (goal.at.loop-x-preserved c).After-alike) (ap not c.if-not-alike.false)
+pub loop-l-preserved : goal.loop-l-preserved
+loop-l-preserved c =
+    day_next c.requires.0 _ c.loop-l.l (omega arith) c.loop-l.invariant
+    (sym (turn (goal.at.loop-l-preserved c).After-size) ∙ c.if-not-agrees.false)
 
 pub returns : goal.returns
-returns c = up_all c.requires.0 c.loop-x.invariant c.loop-x-test.false
+returns c = day_all c.requires.0 _ c.loop-l.l (omega arith) c.loop-l.invariant
+
+pub returns-else-not-agrees : goal.returns-else-not-agrees
+returns-else-not-agrees c =
+    day_all c.requires.0 _ (c.loop-l.l + 1) (omega arith)
+    (day_next c.requires.0 _ c.loop-l.l (omega arith) c.loop-l.invariant
+    (sym (turn (goal.at.returns-else-not-agrees c).After-size) ∙ c.if-not-agrees.false))

@@ -1,10 +1,7 @@
 -- `acceptance::day_rules` meets its contract.
-use Rattle.acceptance.proofs.Since.{UpTo}
-use Prim.Native.Nat.{◌-◌}
+use Rattle.acceptance.specs.Private.{since_rule}
+use Rattle.std.proofs.Common.{◌≡◌, ℕ, suc, ◌<◌, true}
 use Rattle.acceptance.proofs.day_rules.Given as goal
 
-abbrev pub invariant-loop-x : goal.invariant-loop-x
-invariant-loop-x l = UpTo l.n l.t l.g l.s l.l l.w l.x
-
-abbrev pub decreases-loop-x : goal.decreases-loop-x
-decreases-loop-x l = 16 - l.l
+abbrev pub invariant-loop-l : goal.invariant-loop-l
+invariant-loop-l l = (j : ℕ) → suc j < l.l → since_rule l.n l.t l.g l.s (suc j) ≡ true

@@ -8,5 +8,5 @@ mark-requires c = let pre = c.requires in tree_inside (own_chain pre.0) pre.1
 pub returns-then-mark : goal.returns-then-mark
 returns-then-mark c = last_kept c.args.n c.args.t.now c.requires.0.some c.requires.2 (passes_by 3 _ _ _ c.requires.1 c.mark.ensures) c.if-mark.true
 
-pub returns : goal.returns
-returns c = last_new c.args.n c.args.t.now c.requires.0.some c.requires.2 (passes_by 3 _ _ _ c.requires.1 c.mark.ensures) c.if-mark.false
+pub returns-else-mark : goal.returns-else-mark
+returns-else-mark c = last_new c.args.n c.args.t.now c.requires.0.some c.requires.2 (passes_by 3 _ _ _ c.requires.1 c.mark.ensures) c.if-mark.false
