@@ -15,6 +15,7 @@ const K: [u32; 64] = [
 
 // The constants. An element of a constant at an index that is not known copies the whole constant to the stack each
 // time, so the rounds of one block or of many share one copy, by reference.
+#[tactic(auto, unfolding(crate::specs::Words::k_table))]
 pub fn table() -> [u32; 64]
     ensures { result ≡ spec.k_table }
 {
@@ -22,6 +23,7 @@ pub fn table() -> [u32; 64]
 }
 
 // The first hash value.
+#[tactic(auto, unfolding(crate::specs::Words::initial))]
 pub fn initial() -> [u32; 8]
     ensures { result ≡ spec.initial }
 {
