@@ -16,10 +16,10 @@ use Rattle.layouts.proofs.AllowedLaws.{layout_asks, values_counted, chains_few}
 use Rattle.positions.specs.declared.Chain.{Chain}
 use Rattle.positions.specs.declared.Located.TheVariants as case-of-located
 use Rattle.positions.specs.declared.Place.TheVariants as case-of-place
-use Rattle.positions.proofs.BookLaws.{numbers_length, Closes, chain_there, below, found, is_found}
+use Rattle.positions.proofs.BookLaws.{numbers_length, Closes, chain_there, below, Found, found, is_found}
 use Rattle.positions.specs.Private.{day_within, closing_day, place_in_day, is_named}
 use Rattle.positions.specs.declared.Place.{Place}
-use Rattle.positions.specs.Positions.{kind_number, chain_of, book_chains, numbers_of, book_numbers, first_place, located, placed}
+use Rattle.positions.specs.Positions.{chain_of, book_chains, book_numbers, first_place, located, placed}
 
 module _ (s n f d : ℕ) {x : ℕ} (found : x ≡ layout_refusal s n f d) where
   -- a last test after those of the layout
@@ -89,53 +89,8 @@ module _ (s n f d : ℕ) {x : ℕ} (found : x ≡ layout_refusal s n f d) where
     unfolding placed
     placed_at z l q = let e = passes there z (le-leb _ _ l) in rw (← e, q)
 
--- the four numbers, by the day and the place that they lead to
-module _ (s n f d kind index first last : ℕ) {x g : ℕ} (told : x ≡ layout_refusal s n f d) (none : x ≡ 0) (day : g ≡ closing_day n d kind first last) where
-  abbrev numbers : List ℕ
-  numbers = kind ∷ index ∷ first ∷ last ∷ []
+-- ---- four numbers in an array, by the day and the place that they lead to
 
-  asks : (allowed_scheme s ≡ true) × (allowed_n n ≡ true) × (d ≤ 65536)
-  asks = layout_asks s n f d told none
-
-  pub day_most : g ≤ d
-  day_most = rw day (most (cond (eqb kind 2) (pred (first + n)) last))
-    where
-      most : (h : ℕ) → day_within d h ≤ d
-      most h = elim (split (leb h d)) [ inl e ↦ rw e (leb-true h d e) | inr e ↦ rw e (omega arith) ]
-
-  absent : (first_place numbers (book_numbers s n d) < length (book_numbers s n d) → ⊥) → case-of-place.Refused 18 ≡ placed s n f d numbers
-  absent h = placed_absent s n f d told numbers none (omega arith)
-
-  pub no_day : g ≡ 0 → case-of-place.Refused 18 ≡ placed s n f d numbers
-  no_day z = absent (λ h. let r = found s n d kind index first last asks.0 asks.1 h in omega (arith, r.some, day))
-
-  module _ {i : ℕ} (place : i ≡ place_in_day s n g kind index) where
-    pub not_named : {r : Bool} → r ≡ is_named s n g i numbers → not r ≡ true → case-of-place.Refused 18 ≡ placed s n f d numbers
-    not_named e t = absent (λ h.
-        let r = found s n d kind index first last asks.0 asks.1 h in
-        true_or_false (rw (place, day) r.named) (failed e t))
-
-    module _ {v : ℕ} {r : Bool} (some : 1 ≤ g) (named : r ≡ is_named s n g i numbers) (yes-named : not r ≡ false) (before : v ≡ length (chains s n (g - 1))) where
-      there_is : first_place numbers (book_numbers s n d) < length (book_numbers s n d)
-      there_is = is_found s n d kind index first last asks.0 asks.1 g i some day_most (passed named yes-named)
-
-      sum_is : v + i ≡ first_place numbers (book_numbers s n d)
-      sum_is =
-          let r = found s n d kind index first last asks.0 asks.1 there_is in
-          let q : g - 1 ≡ pred g = omega arith in
-          rw (before, q, place, day) r.place_is
-
-      pub sum_fits : v + i < 2 ^ 32
-      sum_fits = omega (arith, sum_is, there_is, numbers_length s n d, chains_few s n d asks.0 asks.1 asks.2)
-
-      pub placed_there : case-of-place.At (v + i) ≡ placed s n f d numbers
-      placed_there = placed_at s n f d told numbers none there_is sum_is
-
--- ---- a chain, by its kind's number
-pub by_kind : (s n f d : ℕ) (c : Chain) {k : ℕ} {r : Place} → k ≡ kind_number c.kind → r ≡ placed s n f d (k ∷ c.index ∷ c.first ∷ c.last ∷ []) → r ≡ placed s n f d (numbers_of c)
-by_kind s n f d c e q = q ∙ ap (λ (k : ℕ). placed s n f d (k ∷ c.index ∷ c.first ∷ c.last ∷ [])) e
-
--- four numbers, one by one
 four_read : (l : List ℕ) → length l ≡ 4 → get_or l 0 0 ∷ get_or l 1 0 ∷ get_or l 2 0 ∷ get_or l 3 0 ∷ [] ≡ l
 four_read (a ∷ b ∷ c ∷ d ∷ []) e = refl
 four_read [] e = absurd (omega arith)
@@ -144,5 +99,59 @@ four_read (a ∷ b ∷ []) e = absurd (omega arith)
 four_read (a ∷ b ∷ c ∷ []) e = absurd (omega arith)
 four_read (a ∷ b ∷ c ∷ d ∷ x ∷ l) e = absurd (omega arith)
 
-pub by_four : (s n f d : ℕ) (l : List ℕ) {r : Place} → length l ≡ 4 → r ≡ placed s n f d (get_or l 0 0 ∷ get_or l 1 0 ∷ get_or l 2 0 ∷ get_or l 3 0 ∷ []) → r ≡ placed s n f d l
-by_four s n f d l e q = q ∙ ap (placed s n f d) (four_read l e)
+module _ (s n f d : ℕ) (l : List ℕ) (four : length l ≡ 4) {x g : ℕ} (told : x ≡ layout_refusal s n f d) (none : x ≡ 0)
+    (day : g ≡ closing_day n d (get_or l 0 0) (get_or l 2 0) (get_or l 3 0)) where
+  abbrev numbers : List ℕ
+  numbers = get_or l 0 0 ∷ get_or l 1 0 ∷ get_or l 2 0 ∷ get_or l 3 0 ∷ []
+
+  is_l : {r : Place} → r ≡ placed s n f d numbers → r ≡ placed s n f d l
+  is_l e = e ∙ ap (placed s n f d) (four_read l four)
+
+  asks : (allowed_scheme s ≡ true) × (allowed_n n ≡ true) × (d ≤ 65536)
+  asks = layout_asks s n f d told none
+
+  day_most : g ≤ d
+  day_most = rw day (most (cond (eqb (get_or l 0 0) 2) (pred (get_or l 2 0 + n)) (get_or l 3 0)))
+    where
+      most : (h : ℕ) → day_within d h ≤ d
+      most h = elim (split (leb h d)) [ inl e ↦ rw e (leb-true h d e) | inr e ↦ rw e (omega arith) ]
+
+  -- what the functions on a day ask
+  pub day_asks : 1 ≤ g → (allowed_scheme s ≡ true) × (allowed_n n ≡ true) × (1 ≤ g) × (g ≤ 65536)
+  day_asks some = (asks.0, asks.1, some, omega (arith, asks.2, day_most))
+
+  absent : (first_place numbers (book_numbers s n d) < length (book_numbers s n d) → ⊥) → case-of-place.Refused 18 ≡ placed s n f d l
+  absent h = is_l (placed_absent s n f d told numbers none (omega arith))
+
+  found_there : first_place numbers (book_numbers s n d) < length (book_numbers s n d) →
+      Found s n d (get_or l 0 0) (get_or l 1 0) (get_or l 2 0) (get_or l 3 0) asks.0 asks.1 (first_place numbers (book_numbers s n d))
+      (closing_day n d (get_or l 0 0) (get_or l 2 0) (get_or l 3 0)) (place_in_day s n (closing_day n d (get_or l 0 0) (get_or l 2 0) (get_or l 3 0)) (get_or l 0 0) (get_or l 1 0))
+  found_there h = found s n d (get_or l 0 0) (get_or l 1 0) (get_or l 2 0) (get_or l 3 0) asks.0 asks.1 h
+
+  pub no_day : g ≡ 0 → case-of-place.Refused 18 ≡ placed s n f d l
+  no_day z = absent (λ h. let r = found_there h in omega (arith, r.some, day))
+
+  module _ {i : ℕ} (place : i ≡ place_in_day s n g (get_or l 0 0) (get_or l 1 0)) {r : Bool} (told_named : r ≡ is_named s n g i l) where
+    named : r ≡ is_named s n g i numbers
+    named = told_named ∙ ap (is_named s n g i) (sym (four_read l four))
+
+    pub not_named : not r ≡ true → case-of-place.Refused 18 ≡ placed s n f d l
+    not_named t = absent (λ h.
+        let f = found_there h in
+        true_or_false (rw (place, day) f.named) (failed named t))
+
+    module _ {v : ℕ} (some : 1 ≤ g) (yes-named : not r ≡ false) (before : v ≡ length (chains s n (g - 1))) where
+      there_is : first_place numbers (book_numbers s n d) < length (book_numbers s n d)
+      there_is = is_found s n d (get_or l 0 0) (get_or l 1 0) (get_or l 2 0) (get_or l 3 0) asks.0 asks.1 g i some day_most (passed named yes-named)
+
+      sum_is : v + i ≡ first_place numbers (book_numbers s n d)
+      sum_is =
+          let r = found_there there_is in
+          let q : g - 1 ≡ pred g = omega arith in
+          rw (before, q, place, day) r.place_is
+
+      pub sum_fits : v + i < 2 ^ 32
+      sum_fits = omega (arith, sum_is, there_is, numbers_length s n d, chains_few s n d asks.0 asks.1 asks.2)
+
+      pub placed_there : case-of-place.At (v + i) ≡ placed s n f d l
+      placed_there = is_l (placed_at s n f d told numbers none there_is sum_is)

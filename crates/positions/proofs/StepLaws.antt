@@ -1,12 +1,12 @@
 -- Laws for the functions, each after the function that uses it.
 use mathlib.Core.Path.{◌≡◌, refl, sym, ap, ◌∙◌}
-use mathlib.Core.Bool.{Bool, true, false, ◌&&◌}
+use mathlib.Core.Bool.{Bool, true}
 use mathlib.Core.Logic.{◌⊎◌, inl, inr}
-use mathlib.Core.List.{List, [], ◌∷◌, flat_map}
+use mathlib.Core.List.{List, flat_map}
 use Prim.Native.Nat.{ℕ, zero, suc, pred, ◌+◌, ◌-◌, ◌/◌, ◌^◌, ◌≤◌, ◌<◌}
 use native.Mathlib.{Nat.div-le_self, Omega.arith}
-use lib.{Dec.eqb, Count.ones, ListN.length, ListN.get_or, ListN.length-map}
-use borrow.Author.Tests.{eq-eqb, ne_eqb, le-leb, lt-leb}
+use lib.{Dec.ltb, Count.ones, ListN.length, ListN.get_or, ListN.length-map}
+use borrow.Author.Tests.{le-leb, lt-leb}
 use Rattle.lists.specs.Lists.{same}
 use Rattle.refusals.specs.Refusals.{book_limit}
 use Rattle.layouts.specs.Layouts.{allowed_scheme, allowed_n, divides, lg, black, tile, tree, last_days, covered_days, names_of_day, names_through, chains, chains_of_day}
@@ -16,8 +16,8 @@ use Rattle.layouts.proofs.Counts.{levels_ones}
 use Rattle.positions.specs.declared.Kind.{Kind}
 use Rattle.positions.specs.declared.Kind.TheVariants.{Black, Tile, Tree}
 use Rattle.positions.specs.declared.Chain.{Chain}
-use Rattle.positions.specs.Positions.{kind_number, chain_over, chain_of, numbers_of}
-use Rattle.positions.specs.Private.{black_place, day_within, closing_day, place_in_day, is_named}
+use Rattle.positions.specs.Positions.{chain_over, chain_of, numbers_of}
+use Rattle.positions.specs.Private.{black_place, is_named}
 use Rattle.positions.proofs.Spans.{black_days, tile_first, tile_whole, tile_last, days_of_tree}
 use Rattle.positions.proofs.DayLaws.{IsBlack, IsTile, IsLevel, value_1, value_2, value_3, levels_few}
 
@@ -120,9 +120,6 @@ module _ (s n g i : ℕ) (asked : Asked s n g i) where
         let z = third x y in
         elim (value_3 n g i (rw z at asked.4)) [ inl v ↦ v | inr v ↦ (let p = rw z at q in absurd (omega (arith, v.place))) ]
 
-    pub tile_asks : s ≡ 2 → 1 ≤ b - i → (allowed_n n ≡ true) × (i ≤ lg n) × (1 ≤ g) × (divides n g ≡ true)
-    tile_asks z h = let v = tile_there z h in (asked.1, v.inside, asked.2, v.whole)
-
     pub level_asks : (s ≡ 1 → ⊥) → (s ≡ 2 → ⊥) → 1 ≤ b - i → (i ≤ 16) × (1 ≤ g) × (divides (2 ^ i) g ≡ true)
     level_asks x y h = let v = level_there x y h in (omega (arith, v.inside, levels_few g asked.2 asked.3), asked.2, v.whole)
 
@@ -158,58 +155,15 @@ day_length : (s n g : ℕ) → length (chains_of_day s n g) ≡ length (names_of
 unfolding chains_of_day
 day_length s n g = length-map (names_of_day s n g) (covered_days n)
 
--- ---- day_within, closing_day, place_in_day
-
-pub past : (d g : ℕ) → d < g → 0 ≡ day_within d g
-past d g l = rw (lt-leb g d l)
-
-pub within : (d g : ℕ) → g ≤ d → g ≡ day_within d g
-within d g l = rw (le-leb g d l)
-
-module _ (n d kind first last : ℕ) where
-  pub other_kind : {r : ℕ} → (kind ≡ 2 → ⊥) → r ≡ day_within d last → r ≡ closing_day n d kind first last
-  other_kind h e = rw (ne_eqb kind 2 h) e
-
-  pub tile_past : kind ≡ 2 → 1 ≤ n → d < first → 0 ≡ closing_day n d kind first last
-  tile_past q o l = rw q (past d (pred (first + n)) (omega arith))
-
-  pub tile_end : {r : ℕ} → kind ≡ 2 → r ≡ day_within d (first + n - 1) → r ≡ closing_day n d kind first last
-  tile_end q e = let p : first + n - 1 ≡ pred (first + n) = omega arith in rw (q, ← p) e
-
-module _ (s n g kind index : ℕ) where
-  pub of_black : {r : ℕ} → kind ≡ 1 → r ≡ black_place s n g → r ≡ place_in_day s n g kind index
-  of_black q e = rw q e
-
-  pub of_index : (kind ≡ 1 → ⊥) → index ≡ place_in_day s n g kind index
-  of_index h = rw (ne_eqb kind 1 h)
-
--- ---- has_numbers, is_named
-
-module _ (c : Chain) (kind index first last : ℕ) {r : ℕ} (told : r ≡ kind_number c.kind) where
-  abbrev alike : Bool
-  alike = same (numbers_of c) (kind ∷ index ∷ first ∷ last ∷ [])
-
-  pub kind_differs : (r ≡ kind → ⊥) → false ≡ alike
-  kind_differs h = rw (ne_eqb (kind_number c.kind) kind (λ e. h (told ∙ e)))
-
-  pub index_differs : r ≡ kind → (c.index ≡ index → ⊥) → false ≡ alike
-  index_differs e h = rw (eq-eqb (kind_number c.kind) kind (sym told ∙ e), ne_eqb c.index index h)
-
-  pub first_differs : r ≡ kind → c.index ≡ index → (c.first ≡ first → ⊥) → false ≡ alike
-  first_differs e q h = rw (eq-eqb (kind_number c.kind) kind (sym told ∙ e), eq-eqb c.index index q, ne_eqb c.first first h)
-
-  pub by_last : r ≡ kind → c.index ≡ index → c.first ≡ first → eqb c.last last ≡ alike
-  by_last e q p =
-      rw (eq-eqb (kind_number c.kind) kind (sym told ∙ e), eq-eqb c.index index q, eq-eqb c.first first p)
-      (elim (eqb c.last last) as (λ b. b ≡ b && true) [ true ↦ refl | false ↦ refl ])
+-- ---- is_named
 
 module _ (s n g i : ℕ) {v : ℕ} (told : v ≡ length (chains_of_day s n g)) where
   pub a_value : i < v → i < length (names_of_day s n g)
   a_value h = omega (arith, told, day_length s n g)
 
   module _ (numbers : List ℕ) where
-    pub no_value : v ≤ i → false ≡ is_named s n g i numbers
-    no_value l = rw (lt-leb (suc i) (length (names_of_day s n g)) (omega (arith, told, day_length s n g)))
+    pub no_value : v ≤ i → ltb i v ≡ is_named s n g i numbers
+    no_value l = rw (lt-leb (suc i) v (omega arith), lt-leb (suc i) (length (names_of_day s n g)) (omega (arith, told, day_length s n g)))
 
     pub by_numbers : {c : Chain} {r : Bool} → i < v → c ≡ chain_of n (get_or (names_of_day s n g) i (black 0)) → r ≡ same (numbers_of c) numbers → r ≡ is_named s n g i numbers
     by_numbers h e q = rw (le-leb (suc i) (length (names_of_day s n g)) (a_value h)) (q ∙ ap (λ (x : Chain). same (numbers_of x) numbers) e)

@@ -1,28 +1,38 @@
 // From a place in the book to its chain, and back (SPEC 18).
 #![tactic(auto)]
 
-ghost use Rattle.std.specs.Prelude.{◌≡◌, true, [], ◌∷◌, pred, ◌≤◌, ◌<◌, ◌^◌, length, get_or};
+ghost use Rattle.std.specs.Prelude.{◌≡◌, true, [], ◌∷◌, pred, ◌≤◌, ◌<◌, ◌^◌, length, get_or, MatchOption};
 ghost use Rattle.refusals.specs.Refusals.{book_limit};
 ghost use Rattle.lists.specs.Lists.{same};
 ghost use Rattle.layouts.specs.Layouts.{allowed_scheme, allowed_n, divides, lg, black, tile, last_days};
 ghost use Rattle.layouts.specs.Layouts.{chains, names_of_day};
 ghost use Rattle.positions.specs.Positions.{kind_number, chain_over, chain_of, numbers_of, located, placed};
 ghost use Rattle.positions.specs.declared.Kind.TheVariants.{Black, Tree};
-ghost use Rattle.positions.specs.Private.{black_place, day_within, closing_day, place_in_day, is_named};
+ghost use Rattle.positions.specs.Private.{black_place, closing_day, place_in_day, is_named};
 
-#[derive(Drop)]
+// What a chain covers, with 02's number.
+#[derive(Clone, Copy, PartialEq, Eq)]
 pub enum Kind {
-    Black,
-    Tile,
-    Tree,
+    Black = 1,
+    Tile = 2,
+    Tree = 3,
 }
 
-#[derive(Drop)]
+#[derive(Clone, Copy, PartialEq, Eq)]
 pub struct Chain {
     pub kind: Kind,
     pub index: u32,
     pub first: u32,
     pub last: u32,
+}
+
+impl Chain {
+    // The four as C has them.
+    pub fn numbers(self) -> [u32; 4]
+        ensures { result ≡ numbers_of self }
+    {
+        [self.kind as u32, self.index, self.first, self.last]
+    }
 }
 
 #[derive(Drop)]
@@ -41,14 +51,11 @@ pub enum Place {
 pub fn kind_number(kind: Kind) -> u32
     ensures { result ≡ kind_number kind }
 {
-    match kind {
-        Kind::Black => 1,
-        Kind::Tile => 2,
-        Kind::Tree => 3,
-    }
+    kind as u32
 }
 
 // The first day on which the values up to it are more than the position: the day that the value closes at.
+#[tactic(auto, using(crate::proofs::StepLaws::day_found))]
 fn day_of(scheme: u32, n: u32, d: u32, position: u32) -> u32
     requires { (allowed_scheme scheme ≡ true) × (allowed_n n ≡ true) × (d ≤ book_limit)
         × (position < length (chains scheme n d)) }
@@ -70,6 +77,7 @@ fn day_of(scheme: u32, n: u32, d: u32, position: u32) -> u32
 }
 
 // Where black stands, or would stand, among the values of day g: behind the tile chains, or the tree's levels.
+#[tactic(auto, using(crate::proofs::StepLaws::tiles_by, crate::proofs::StepLaws::levels_by, layouts::proofs::AllowedLaws::allowed_n_is))]
 fn black_place(scheme: u32, n: u32, g: u32) -> u32
     requires { (allowed_scheme scheme ≡ true) × (allowed_n n ≡ true) × (1 ≤ g) × (g ≤ book_limit) }
     ensures { result ≡ black_place scheme n g }
@@ -77,11 +85,12 @@ fn black_place(scheme: u32, n: u32, g: u32) -> u32
     match scheme {
         1 => 0,
         2 => layouts::lg(n) + 1,
-        _ => 2 + u32::count_ones(g - 1) - u32::count_ones(g),
+        _ => 2 + (g - 1).count_ones() - g.count_ones(),
     }
 }
 
 // Black over days 1 to g.
+#[tactic(auto, using(crate::proofs::StepLaws::black_of))]
 fn black_chain(g: u32) -> Chain
     requires { 1 ≤ g }
     ensures { result ≡ chain_over Black 0 (last_days g g) }
@@ -95,17 +104,16 @@ fn black_chain(g: u32) -> Chain
 }
 
 // The last day of c(i) of the tile that ends at g: from i = 1 on the last whose bit of weight n / 2^i is 0.
+#[tactic(auto, using(crate::proofs::StepLaws::tile_last_0, crate::proofs::StepLaws::tile_last_by, crate::proofs::StepLaws::weight_fits))]
 fn tile_last(n: u32, i: u32, g: u32) -> u32
     requires { (allowed_n n ≡ true) × (i ≤ lg n) × (1 ≤ g) × (divides n g ≡ true) }
     ensures { result ≡ (chain_of n (tile i g)).last }
 {
-    if i == 0 {
-        return g;
-    }
-    g - (n >> i)
+    if i == 0 { g } else { g - (n >> i) }
 }
 
 // c(i) of the tile that ends at g.
+#[tactic(auto, using(layouts::proofs::AllowedLaws::allowed_n_is, layouts::proofs::Coverage::divisor_le))]
 fn tile_chain(n: u32, i: u32, g: u32) -> Chain
     requires { (allowed_n n ≡ true) × (i ≤ lg n) × (1 ≤ g) × (divides n g ≡ true) }
     ensures { result ≡ chain_of n (tile i g) }
@@ -120,6 +128,7 @@ fn tile_chain(n: u32, i: u32, g: u32) -> Chain
 }
 
 // The tree's level l that ends at g.
+#[tactic(auto, using(crate::proofs::StepLaws::tree_of, layouts::proofs::Coverage::divisor_le, std::proofs::Common::pow_pos))]
 fn tree_chain(l: u32, g: u32) -> Chain
     requires { (l ≤ 16) × (1 ≤ g) × (divides (2 ^ l) g ≡ true) }
     ensures { result ≡ chain_over Tree l (last_days (2 ^ l) g) }
@@ -135,6 +144,7 @@ fn tree_chain(l: u32, g: u32) -> Chain
 
 // The chain of value i of day g, i from 0. It stands e places in front of black's: none is black itself, up to nine
 // a tile chain, up to seventeen a level.
+#[tactic(auto, using(crate::proofs::StepLaws::black_1, crate::proofs::StepLaws::black_2, crate::proofs::StepLaws::black_3, crate::proofs::StepLaws::is_tile, crate::proofs::StepLaws::is_level))]
 fn chain_in_day(scheme: u32, n: u32, g: u32, i: u32) -> Chain
     requires { (allowed_scheme scheme ≡ true) × (allowed_n n ≡ true) × (1 ≤ g) × (g ≤ book_limit)
         × (i < length (names_of_day scheme n g)) }
@@ -155,6 +165,7 @@ fn chain_in_day(scheme: u32, n: u32, g: u32, i: u32) -> Chain
 }
 
 // The chain at a position of the book.
+#[tactic(auto, using(layouts::proofs::AllowedLaws::layout_asks, crate::proofs::BookLaws::closes_by, crate::proofs::CallLaws::located_refused, crate::proofs::CallLaws::located_beyond))]
 pub fn chain_at(scheme: u32, n: u32, f: u32, d: u32, position: u32) -> Located
     ensures { result ≡ located scheme n f d position }
 {
@@ -170,28 +181,22 @@ pub fn chain_at(scheme: u32, n: u32, f: u32, d: u32, position: u32) -> Located
     Located::At(chain_in_day(scheme, n, g, position - before))
 }
 
-// A day, or 0 where it is past d.
-fn day_within(d: u32, g: u32) -> u32
-    ensures { result ≡ day_within d g }
-{
-    if d < g {
-        return 0;
-    }
-    g
-}
-
-// The day at which a chain so named would close, 0 where it is past d: the tile's end, else the last day.
-fn closing_day(n: u32, d: u32, kind: u32, first: u32, last: u32) -> u32
+// The day at which a chain so named would close, if it is a day up to d: the tile's end, else the last day.
+fn closing_day(n: u32, d: u32, kind: u32, first: u32, last: u32) -> Option<u32>
     requires { (allowed_n n ≡ true) × (d ≤ book_limit) }
-    ensures { result ≡ closing_day n d kind first last }
+    ensures { MatchOption result (closing_day n d kind first last ≡ 0)
+        (λ g. (1 ≤ g) × (g ≡ closing_day n d kind first last)) }
 {
-    if kind != 2 {
-        return day_within(d, last);
+    let day = if kind == 2 {
+        first.checked_add(n - 1)?
+    } else {
+        last
+    };
+    if 1 <= day && day <= d {
+        Some(day)
+    } else {
+        None
     }
-    if d < first {
-        return 0;
-    }
-    day_within(d, first + n - 1)
 }
 
 // Its place among the values of that day.
@@ -200,101 +205,50 @@ fn place_in_day(scheme: u32, n: u32, g: u32, kind: u32, index: u32) -> u32
     ensures { result ≡ place_in_day scheme n g kind index }
 {
     if kind == 1 {
-        return black_place(scheme, n, g);
+        black_place(scheme, n, g)
+    } else {
+        index
     }
-    index
 }
 
 // Whether a chain has these four numbers.
-#[tactic(auto, using(crate::proofs::StepLaws::kind_differs, crate::proofs::StepLaws::index_differs, crate::proofs::StepLaws::first_differs, crate::proofs::StepLaws::by_last))]
-fn has_numbers(chain: Chain, kind: u32, index: u32, first: u32, last: u32) -> bool
-    ensures { result ≡ same (numbers_of chain) (kind ∷ index ∷ first ∷ last ∷ []) }
+fn has_numbers(chain: Chain, numbers: [u32; 4]) -> bool
+    ensures { result ≡ same (numbers_of chain) numbers }
 {
-    let k = chain.kind;
-    if kind_number(k) != kind {
-        return false;
-    }
-    if chain.index != index {
-        return false;
-    }
-    if chain.first != first {
-        return false;
-    }
-    chain.last == last
+    chain.numbers() == numbers
 }
 
 // Whether value i of day g has them.
-fn is_named(
-    scheme: u32,
-    n: u32,
-    g: u32,
-    i: u32,
-    kind: u32,
-    index: u32,
-    first: u32,
-    last: u32,
-) -> bool
+fn is_named(scheme: u32, n: u32, g: u32, i: u32, numbers: [u32; 4]) -> bool
     requires { (allowed_scheme scheme ≡ true) × (allowed_n n ≡ true) × (1 ≤ g) × (g ≤ book_limit) }
-    ensures { result ≡ is_named scheme n g i (kind ∷ index ∷ first ∷ last ∷ []) }
+    ensures { result ≡ is_named scheme n g i numbers }
 {
-    if layouts::values_of_day(scheme, n, g) <= i {
-        return false;
-    }
-    let chain = chain_in_day(scheme, n, g, i);
-    has_numbers(chain, kind, index, first, last)
+    i < layouts::values_of_day(scheme, n, g) && has_numbers(chain_in_day(scheme, n, g, i), numbers)
 }
 
-// The position of the chain that these four numbers name.
-fn position_by(
-    scheme: u32,
-    n: u32,
-    f: u32,
-    d: u32,
-    kind: u32,
-    index: u32,
-    first: u32,
-    last: u32,
-) -> Place
-    ensures { result ≡ placed scheme n f d (kind ∷ index ∷ first ∷ last ∷ []) }
+// The position of the chain that four numbers name, as C has them; any number is taken for the kind.
+pub fn position_of_numbers(scheme: u32, n: u32, f: u32, d: u32, numbers: [u32; 4]) -> Place
+    ensures { result ≡ placed scheme n f d numbers }
 {
     let x = layouts::layout_refusal(scheme, n, f, d);
     if x != 0 {
         return Place::Refused(x);
     }
-    let g = closing_day(n, d, kind, first, last);
-    if g == 0 {
+    let [kind, index, first, last] = numbers;
+    let Some(g) = closing_day(n, d, kind, first, last) else {
         return Place::Refused(18);
-    }
+    };
     let i = place_in_day(scheme, n, g, kind, index);
-    if !is_named(scheme, n, g, i, kind, index, first, last) {
+    if !is_named(scheme, n, g, i, numbers) {
         return Place::Refused(18);
     }
     let earlier = layouts::values_through(scheme, n, g - 1);
     Place::At(earlier + i)
 }
 
-// The same, the four as C has them; any number is taken for the kind.
-pub fn position_of_numbers(scheme: u32, n: u32, f: u32, d: u32, numbers: [u32; 4]) -> Place
-    ensures { result ≡ placed scheme n f d numbers }
-{
-    position_by(
-        scheme, n, f, d, numbers[0], numbers[1], numbers[2], numbers[3],
-    )
-}
-
 // The position of a chain.
 pub fn position_of(scheme: u32, n: u32, f: u32, d: u32, chain: Chain) -> Place
     ensures { result ≡ placed scheme n f d (numbers_of chain) }
 {
-    let kind = chain.kind;
-    position_by(
-        scheme,
-        n,
-        f,
-        d,
-        kind_number(kind),
-        chain.index,
-        chain.first,
-        chain.last,
-    )
+    position_of_numbers(scheme, n, f, d, chain.numbers())
 }

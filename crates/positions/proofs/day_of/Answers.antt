@@ -1,7 +1,7 @@
 -- The loop's invariant: the position is not below the values up to day `low`, and below those up to day `high`.
 use native.Mathlib.Omega.{arith}
 use borrow.Author.Rules.{rules}
-use Rattle.positions.proofs.StepLaws.{no_values, some_day, day_found}
+use Rattle.positions.proofs.StepLaws.{no_values, some_day}
 use Rattle.positions.proofs.day_of.Goals as goal
 
 pub loop-high-init : goal.loop-high-init
@@ -12,9 +12,3 @@ loop-high-init c = let a = c.args in (
       (arith, no_values a.scheme a.n),
   c.requires.3,
 )
-
-pub returns : goal.returns
-returns c =
-    let l = c.loop-high in
-    let a = c.args in
-    (omega arith, search rules, day_found a.scheme a.n a.position l.low l.high l.invariant.0 (omega arith) l.invariant.2, l.invariant.3)

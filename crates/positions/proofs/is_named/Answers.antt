@@ -1,21 +1,20 @@
 -- `positions::is_named` meets its contract.
-use mathlib.Core.List.{[], ◌∷◌}
-use native.Mathlib.Omega.{arith}
 use Rattle.positions.proofs.StepLaws.{no_value, a_value, by_numbers}
 use Rattle.positions.proofs.is_named.Goals as goal
 
-pub returns-then-values_of_day-i : goal.returns-then-values_of_day-i
-returns-then-values_of_day-i c = let a = c.args in no_value a.scheme a.n a.g a.i c.values_of_day.ensures
-    (a.kind ∷ a.index ∷ a.first ∷ a.last ∷ []) c.if-values_of_day-i.true
-
-pub chain_in_day-chain-requires : goal.chain_in_day-chain-requires
-chain_in_day-chain-requires c =
+pub chain_in_day-requires : goal.chain_in_day-requires
+chain_in_day-requires c =
     let a = c.args in
     let p = c.requires in
-    (p.0, p.1, p.2, p.3, a_value a.scheme a.n a.g a.i c.values_of_day.ensures (omega arith))
+    (p.0, p.1, p.2, p.3, a_value a.scheme a.n a.g a.i c.values_of_day.ensures c.if-i-values_of_day.true)
 
-pub returns : goal.returns
-returns c =
+pub returns-then-i-values_of_day : goal.returns-then-i-values_of_day
+returns-then-i-values_of_day c =
     let a = c.args in
-    by_numbers a.scheme a.n a.g a.i c.values_of_day.ensures (a.kind ∷ a.index ∷ a.first ∷ a.last ∷ []) (omega arith)
-    c.chain_in_day-chain.ensures c.has_numbers.ensures
+    by_numbers a.scheme a.n a.g a.i c.values_of_day.ensures a.numbers c.if-i-values_of_day.true c.chain_in_day.ensures
+    c.has_numbers.ensures
+
+pub returns-else-i-values_of_day : goal.returns-else-i-values_of_day
+returns-else-i-values_of_day c =
+    let a = c.args in
+    no_value a.scheme a.n a.g a.i c.values_of_day.ensures a.numbers c.if-i-values_of_day.false
