@@ -1,14 +1,6 @@
 -- `layouts::tile_at` meets its contract.
-use Rattle.layouts.proofs.{AllowedLaws.place_fits, AllowedLaws.place}
-use mathlib.Core.Path.{refl}
-use native.Mathlib.Omega.{arith}
+use Rattle.layouts.proofs.AllowedLaws.{place}
 use Rattle.layouts.proofs.tile_at.Goals as goal
-
-pub overflow_add-result : goal.overflow_add-result
-overflow_add-result c = record {
-  fits = place_fits 2 _ _ _ refl c.requires.0 c.requires.2 (omega (arith, c.requires.3))
-      c.values_through.ensures;
-}
 
 pub returns : goal.returns
 returns c = place 2 _ _ _ c.values_through.ensures
