@@ -8,11 +8,14 @@ use lib.{Arith.digits_mod, Count.ones, Count.count_leading_zeros, Count.leading_
 use lib.{Dec.leb, ListN.length, ListN.length-map, ListN.length-append}
 use borrow.Author.Tests.{eqb-true, eq-eqb, leb-true, not-true}
 use Rattle.lists.proofs.Laws.{split, and_both, has_mem, up_from_mem, every_at}
+use Rattle.std.specs.Prelude.{Ok, Err}
+use Rattle.refusals.specs.declared.Refusal.{Refusal}
+use Rattle.refusals.specs.declared.Refusal.TheVariants as cause
 use Rattle.refusals.specs.Refusals.{book_limit, ◌or_refuse◌}
-use Rattle.refusals.proofs.TestLaws.{passed, failed, Pass, none_fails, pass_split, refused_before, last_fails, last_passes}
+use Rattle.refusals.proofs.TestLaws.{Pass, none_fails, pass_split, passed_number, refused_before, passed_before}
 use Rattle.layouts.specs.{Statements.ValuesCounted, Statements.BookFront, Statements.CoverByArithmetic, Private.position}
-use Rattle.layouts.specs.Layouts.{divides, allowed_scheme, allowed_n, allowed_f, allowed_d, setup_tests, layout_tests, setup_refusal}
-use Rattle.layouts.specs.Layouts.{layout_refusal, lg, black, names_through, covered_days, chains_of_day, chains}
+use Rattle.layouts.specs.Layouts.{divides, allowed_scheme, allowed_n, allowed_f, allowed_d, setup_tests, layout_tests, setup_tested, setup_refusal}
+use Rattle.layouts.specs.Layouts.{layout_tested, layout_refusal, lg, black, names_through, covered_days, chains_of_day, chains}
 use Rattle.layouts.proofs.Coverage.{by_scheme, divisor_le, covers_by_bit, chains_suc, chains_front}
 use Rattle.layouts.proofs.Counts.{lg_unique, ones_small, digits, digits_small, through, count_through, values_length}
 
@@ -94,19 +97,19 @@ setup_passed : (s n f : ℕ) → Pass (setup_tests s n f) → Setup s n f
 setup_passed s n f p = record { scheme_ok = p.0; n_ok = p.1.0; f_ok = p.1.1.0 }
 
 pub setup_is : (s n f : ℕ) → setup_refusal s n f ≡ 0 → Setup s n f
-unfolding setup_refusal
-setup_is s n f e = setup_passed s n f (none_fails (setup_tests s n f) refl e)
+unfolding setup_tested
+setup_is s n f e = setup_passed s n f (none_fails (setup_tests s n f) e)
 
 pub layout_passed : (s n f d : ℕ) → Pass (layout_tests s n f d) → Setup s n f × (allowed_d n f d ≡ true)
-layout_passed s n f d p = let q = pass_split (setup_tests s n f) (allowed_d n f d or_refuse 7 ∷ []) p in (setup_passed s n f q.0, q.1.0)
+layout_passed s n f d p = let q = pass_split (setup_tests s n f) (allowed_d n f d or_refuse cause.BadD ∷ []) p in (setup_passed s n f q.0, q.1.0)
 
 pub layout_is : (s n f d : ℕ) → layout_refusal s n f d ≡ 0 → Setup s n f × (allowed_d n f d ≡ true)
-unfolding layout_refusal
-layout_is s n f d e = layout_passed s n f d (none_fails (layout_tests s n f d) refl e)
+unfolding layout_tested
+layout_is s n f d e = layout_passed s n f d (none_fails (layout_tests s n f d) e)
 
 -- what the layouts ask of a call whose tests 1 2 3 7 found no cause
-pub layout_asks : (s n f d : ℕ) {x : ℕ} → x ≡ layout_refusal s n f d → x ≡ 0 → (allowed_scheme s ≡ true) × (allowed_n n ≡ true) × (d ≤ 65536)
-layout_asks s n f d e z = let l = layout_is s n f d (sym e ∙ z) in (l.0.scheme_ok, l.0.n_ok, (allowed_d_is n f d l.1).most)
+pub layout_asks : (s n f d : ℕ) → layout_tested s n f d ≡ Ok tt → (allowed_scheme s ≡ true) × (allowed_n n ≡ true) × (d ≤ 65536)
+layout_asks s n f d e = let l = layout_is s n f d (passed_number (layout_tested s n f d) e) in (l.0.scheme_ok, l.0.n_ok, (allowed_d_is n f d l.1).most)
 
 -- ---- logarithms by leading zeros
 
@@ -132,21 +135,17 @@ chains_through s n g a b =
 -- ---- the refusals, by the tests
 
 module _ (s n f : ℕ) where
-  pub layout_early : (d r : ℕ) → r ≡ setup_refusal s n f → (r ≡ 0 → ⊥) → r ≡ layout_refusal s n f d
-  unfolding setup_refusal layout_refusal
-  layout_early d r e h = refused_before (setup_tests s n f) (allowed_d n f d or_refuse 7 ∷ []) e h
+  pub layout_early : (d : ℕ) {r : Refusal} → setup_tested s n f ≡ Err r → Err r ≡ layout_tested s n f d
+  unfolding setup_tested layout_tested
+  layout_early d e = sym (refused_before (setup_tests s n f) (allowed_d n f d or_refuse cause.BadD ∷ []) e)
 
-  pub layout_7 : (d : ℕ) {r : ℕ} {q : Bool} → r ≡ setup_refusal s n f → r ≡ 0 → q ≡ allowed_d n f d → not q ≡ true → 7 ≡ layout_refusal s n f d
-  unfolding setup_refusal layout_refusal
-  layout_7 d e z h t = last_fails (setup_tests s n f) (allowed_d n f d) 7 refl e z (failed h t)
+  pub layout_last : (d : ℕ) → setup_tested s n f ≡ Ok tt → layout_tested s n f d ≡ cond (allowed_d n f d) (Ok tt) (Err cause.BadD)
+  unfolding setup_tested layout_tested
+  layout_last d e = passed_before (setup_tests s n f) (allowed_d n f d or_refuse cause.BadD ∷ []) e
 
-  pub layout_0 : (d : ℕ) {r : ℕ} {q : Bool} → r ≡ setup_refusal s n f → r ≡ 0 → q ≡ allowed_d n f d → not q ≡ false → 0 ≡ layout_refusal s n f d
-  unfolding setup_refusal layout_refusal
-  layout_0 d e z h t = last_passes (setup_tests s n f) (allowed_d n f d) 7 refl e z (passed h t)
-
-  pub setup_bounds : setup_refusal s n f ≡ 0 → (1 ≤ n) × (n ≤ 256) × (1 ≤ f) × (f ≤ 64)
+  pub setup_bounds : setup_tested s n f ≡ Ok tt → (1 ≤ n) × (n ≤ 256) × (1 ≤ f) × (f ≤ 64)
   setup_bounds e =
-      let u = setup_is s n f e in
+      let u = setup_is s n f (passed_number (setup_tested s n f) e) in
       let p = allowed_n_is n u.n_ok in
       let q = allowed_f_is s f u.f_ok in
       (p.some, p.most, q.0, q.1)

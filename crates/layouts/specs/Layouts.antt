@@ -1,11 +1,14 @@
 -- 01's three layouts (SPEC 4): what is allowed; the chains in book order, their number and places; refusals 1 2 3 7.
 -- Definitions only.
 use Rattle.std.specs.Prelude.{Bool, true, false, not, ◌&&◌, ◌||◌, cond, ℕ, zero, suc, pred, ◌+◌, ◌-◌, ◌*◌, ◌/◌, ◌%◌, ◌^◌, eqb, leb}
+use Rattle.std.specs.Prelude.{Result}
 use mathlib.Core.List.{List, [], ◌∷◌, ◌++◌, map, flat_map}
 use Rattle.std.specs.Int.Count.{ones}
 use Rattle.lists.specs.Lists.{has, up_from, keep}
 use Rattle.evidence.specs.Evidence.{days}
-use Rattle.refusals.specs.Refusals.{book_limit, Test, ◌or_refuse◌, first_refusal}
+use Rattle.refusals.specs.Refusals.{book_limit, Test, ◌or_refuse◌, tested, number_of}
+use Rattle.refusals.specs.declared.Refusal.{Refusal}
+use Rattle.refusals.specs.declared.Refusal.TheVariants as cause
 
 abbrev pub divides : ℕ → ℕ → Bool  -- n divides g
 divides n g = eqb (g % n) 0
@@ -107,14 +110,25 @@ value_count (suc (suc (suc (suc s)))) n d = 0
 
 -- 01's tests 1 2 3 (SPEC 10.1, 10.2, 10.3)
 abbrev pub setup_tests : ℕ → ℕ → ℕ → List Test
-setup_tests scheme n f = allowed_scheme scheme or_refuse 1 ∷ allowed_n n or_refuse 2 ∷ allowed_f scheme f or_refuse 3 ∷ []
+setup_tests scheme n f =
+    allowed_scheme scheme or_refuse cause.BadScheme ∷
+    allowed_n n or_refuse cause.BadN ∷
+    allowed_f scheme f or_refuse cause.BadF ∷
+    []
 
 -- 01's tests 1 2 3 7 (SPEC 10.7)
 abbrev pub layout_tests : ℕ → ℕ → ℕ → ℕ → List Test
-layout_tests scheme n f d = setup_tests scheme n f ++ (allowed_d n f d or_refuse 7 ∷ [])
+layout_tests scheme n f d = setup_tests scheme n f ++ (allowed_d n f d or_refuse cause.BadD ∷ [])
 
-unfoldable pub setup_refusal : ℕ → ℕ → ℕ → ℕ
-setup_refusal scheme n f = first_refusal (setup_tests scheme n f)
+-- what they say, and its number
+unfoldable pub setup_tested : ℕ → ℕ → ℕ → Result Unit Refusal
+setup_tested scheme n f = tested (setup_tests scheme n f)
 
-unfoldable pub layout_refusal : ℕ → ℕ → ℕ → ℕ → ℕ
-layout_refusal scheme n f d = first_refusal (layout_tests scheme n f d)
+unfoldable pub layout_tested : ℕ → ℕ → ℕ → ℕ → Result Unit Refusal
+layout_tested scheme n f d = tested (layout_tests scheme n f d)
+
+abbrev pub setup_refusal : ℕ → ℕ → ℕ → ℕ
+setup_refusal scheme n f = number_of (setup_tested scheme n f)
+
+abbrev pub layout_refusal : ℕ → ℕ → ℕ → ℕ → ℕ
+layout_refusal scheme n f d = number_of (layout_tested scheme n f d)

@@ -4,10 +4,12 @@
 
 ghost use Rattle.std.specs.Prelude.{◌≡◌, true, ◌/◌, ◌^◌, ◌≤◌, ◌<◌, length};
 ghost use Rattle.refusals.specs.Refusals.{book_limit};
-ghost use Rattle.layouts.specs.Layouts.{allowed_scheme, allowed_n, allowed_f, allowed_d, setup_refusal};
-ghost use Rattle.layouts.specs.Layouts.{layout_refusal, black, tile, tree, chains, chains_of_day};
+ghost use Rattle.layouts.specs.Layouts.{allowed_scheme, allowed_n, allowed_f, allowed_d, setup_tested};
+ghost use Rattle.layouts.specs.Layouts.{layout_tested, black, tile, tree, chains, chains_of_day};
 ghost use Rattle.layouts.specs.Private.{position};
 ghost use Rattle.layouts.specs.Layouts as spec;
+
+use refusals::Refusal;
 
 fn allowed_scheme(scheme: u32) -> bool
     ensures { result ≡ allowed_scheme scheme }
@@ -35,34 +37,33 @@ fn allowed_d(n: u32, f: u32, d: u32) -> bool
     1 <= d && d <= refusals::BOOK_LIMIT && d % (f * n) == 0
 }
 
-// Tests 1 2 3: the number of the first that finds its cause, or 0.
-pub fn setup_refusal(scheme: u32, n: u32, f: u32) -> u32
-    ensures { result ≡ setup_refusal scheme n f }
+// Tests 1 2 3.
+#[tactic(auto, unfolding(crate::specs::Layouts::setup_tested))]
+pub fn test_setup(scheme: u32, n: u32, f: u32) -> Result<(), Refusal>
+    ensures { result ≡ setup_tested scheme n f }
 {
     if !allowed_scheme(scheme) {
-        return 1;
+        return Err(Refusal::BadScheme);
     }
     if !allowed_n(n) {
-        return 2;
+        return Err(Refusal::BadN);
     }
     if !allowed_f(scheme, f) {
-        return 3;
+        return Err(Refusal::BadF);
     }
-    0
+    Ok(())
 }
 
 // Tests 1 2 3 7.
-pub fn layout_refusal(scheme: u32, n: u32, f: u32, d: u32) -> u32
-    ensures { result ≡ layout_refusal scheme n f d }
+#[tactic(auto, using(crate::proofs::AllowedLaws::setup_bounds, crate::proofs::AllowedLaws::layout_early, crate::proofs::AllowedLaws::layout_last))]
+pub fn test_layout(scheme: u32, n: u32, f: u32, d: u32) -> Result<(), Refusal>
+    ensures { result ≡ layout_tested scheme n f d }
 {
-    let r = setup_refusal(scheme, n, f);
-    if r != 0 {
-        return r;
-    }
+    test_setup(scheme, n, f)?;
     if !allowed_d(n, f, d) {
-        return 7;
+        return Err(Refusal::BadD);
     }
-    0
+    Ok(())
 }
 
 // 2 to the power of level.

@@ -1,13 +1,15 @@
 -- Laws of the tests of a call: the first that fails, none that fails; and of what a refusal leaves.
-use mathlib.Core.{Path.◌≡◌, Path.refl, Path.sym, Path.◌∙◌, Bool.Bool, Bool.true, Bool.false, Bool.not, Bool.◌&&◌}
+use mathlib.Core.{Path.◌≡◌, Path.refl, Path.sym, Path.ap, Path.◌∙◌, Bool.Bool, Bool.true, Bool.false, Bool.not, Bool.◌&&◌}
 use mathlib.Core.List.{List, [], ◌∷◌, ◌++◌}
 use Prim.Native.Nat.{ℕ, zero, suc}
 use native.Mathlib.{Decide.ℕ_discrete, Omega.arith}
 use borrow.Author.Tests.{not-true, not-false, eq-eqb}
 use lib.{Dec.eqb, ListN.length, ListN.drop}
+use Rattle.std.specs.Prelude.{Result, Ok, Err}
 use Rattle.lists.proofs.Laws.{true_or_false, and_both}
-use Rattle.refusals.specs.Refusals.{Test, ◌or_refuse◌, first_refusal, answer_of, unless_refused, front_written}
-use Rattle.refusals.specs.declared.Answer.TheVariants.{Done, Refused}
+use Rattle.refusals.specs.declared.Refusal.{Refusal}
+use Rattle.refusals.specs.declared.Refusal.TheVariants as cause
+use Rattle.refusals.specs.Refusals.{Test, ◌or_refuse◌, number, number_of, tested, first_refusal, answered, unless_refused, front_written}
 
 -- a test by the answer that a function gave
 pub passed : {r x : Bool} → r ≡ x → not r ≡ false → x ≡ true
@@ -19,103 +21,135 @@ failed {r} e f = sym e ∙ not-true r f
 -- each test passes
 abbrev pub Pass : List Test → Type 0
 Pass [] = Unit {0}
-Pass (passes or_refuse number ∷ tests) = (passes ≡ true) × Pass tests
+Pass (passes or_refuse refusal ∷ tests) = (passes ≡ true) × Pass tests
 
--- no number is 0: computed for the tests of a call
-abbrev pub numbered : List Test → Bool
-numbered [] = true
-numbered (passes or_refuse number ∷ tests) = not (eqb number 0) && numbered tests
-
-number_some : (x : ℕ) → not (eqb x 0) ≡ true → x ≡ 0 → ⊥
-number_some zero e z = absurd (true_or_false e refl)
-number_some (suc x) e z = omega arith
+-- no cause has the number 0
+pub number_some : (r : Refusal) → number r ≡ 0 → ⊥
+number_some cause.BadScheme e = omega arith
+number_some cause.BadN e = omega arith
+number_some cause.BadF e = omega arith
+number_some cause.LongDay e = omega arith
+number_some cause.LastSeasonFull e = omega arith
+number_some cause.BadRecord e = omega arith
+number_some cause.BadD e = omega arith
+number_some cause.ShortBuffer e = omega arith
+number_some cause.FewEnds e = omega arith
+number_some cause.BadEnd e = omega arith
+number_some cause.ShortBook e = omega arith
+number_some cause.FewOutcomes e = omega arith
+number_some cause.BadOutcome e = omega arith
+number_some cause.NoSet e = omega arith
+number_some cause.BadText e = omega arith
+number_some cause.FewLengths e = omega arith
+number_some cause.LongLength e = omega arith
+number_some cause.NotInBook e = omega arith
+number_some cause.BadPassed e = omega arith
+number_some cause.NotTree e = omega arith
+number_some cause.BadCount e = omega arith
 
 -- ---- none fails
 
-pub none_fails : (tests : List Test) → numbered tests ≡ true → first_refusal tests ≡ 0 → Pass tests
-none_fails [] k e = tt
-none_fails (true or_refuse number ∷ tests) k e = (refl, none_fails tests (and_both (not (eqb number 0)) (numbered tests) k).1 e)
-none_fails (false or_refuse number ∷ tests) k e = absurd (number_some number (and_both (not (eqb number 0)) (numbered tests) k).0 e)
+pub none_fails : (tests : List Test) → first_refusal tests ≡ 0 → Pass tests
+none_fails [] e = tt
+none_fails (true or_refuse refusal ∷ tests) e = (refl, none_fails tests e)
+none_fails (false or_refuse refusal ∷ tests) e = absurd (number_some refusal e)
 
-pub all_pass : (tests : List Test) → Pass tests → first_refusal tests ≡ 0
+pub all_pass : (tests : List Test) → Pass tests → tested tests ≡ Ok tt
 all_pass [] p = refl
-all_pass (passes or_refuse number ∷ tests) p = rw p.0 (all_pass tests p.1)
+all_pass (passes or_refuse refusal ∷ tests) p = rw p.0 (all_pass tests p.1)
+
+pub no_refusal : (tests : List Test) → Pass tests → first_refusal tests ≡ 0
+no_refusal tests p = rw (all_pass tests p)
 
 -- ---- the first that fails
 
-pub first_fails : (before : List Test) (number : ℕ) (after : List Test) → Pass before → first_refusal (before ++ (false or_refuse number ∷ after)) ≡ number
-first_fails [] number after p = refl
-first_fails (passes or_refuse x ∷ before) number after p = rw p.0 (first_fails before number after p.1)
+pub first_fails : (before : List Test) (refusal : Refusal) (after : List Test) → Pass before → tested (before ++ (false or_refuse refusal ∷ after)) ≡ Err refusal
+first_fails [] refusal after p = refl
+first_fails (passes or_refuse x ∷ before) refusal after p = rw p.0 (first_fails before refusal after p.1)
 
 -- ---- some tests, then others
 
 pub pass_split : (a b : List Test) → Pass (a ++ b) → Pass a × Pass b
 pass_split [] b p = (tt, p)
-pass_split (passes or_refuse number ∷ a) b p = let q = pass_split a b p.1 in ((p.0, q.0), q.1)
+pass_split (passes or_refuse refusal ∷ a) b p = let q = pass_split a b p.1 in ((p.0, q.0), q.1)
 
 pub pass_both : (a b : List Test) → Pass a → Pass b → Pass (a ++ b)
 pass_both [] b p q = q
-pass_both (passes or_refuse number ∷ a) b p q = (p.0, pass_both a b p.1 q)
+pass_both (passes or_refuse refusal ∷ a) b p q = (p.0, pass_both a b p.1 q)
 
-pub refused_before : (a b : List Test) {x : ℕ} → x ≡ first_refusal a → (x ≡ 0 → ⊥) → x ≡ first_refusal (a ++ b)
-refused_before [] b e h = absurd (h e)
-refused_before (true or_refuse number ∷ a) b e h = refused_before a b e h
-refused_before (false or_refuse number ∷ a) b e h = e
+-- a value is no refusal
+pub not_both : {A : Type 0} {r : Refusal} {value : A} {a : Result A Refusal} → a ≡ Ok value → a ≡ Err r → ⊥
+not_both {A} {r} {value} {a} e f = number_some r (sym (ap number_of (sym e ∙ f)))
 
-pub refused_after : (a b : List Test) → numbered a ≡ true → first_refusal a ≡ 0 → first_refusal (a ++ b) ≡ first_refusal b
-refused_after [] b k e = refl
-refused_after (true or_refuse number ∷ a) b k e = refused_after a b (and_both (not (eqb number 0)) (numbered a) k).1 e
-refused_after (false or_refuse number ∷ a) b k e = absurd (number_some number (and_both (not (eqb number 0)) (numbered a) k).0 e)
+pub refused_before : (a b : List Test) {r : Refusal} → tested a ≡ Err r → tested (a ++ b) ≡ Err r
+refused_before [] b e = absurd (not_both refl e)
+refused_before (true or_refuse x ∷ a) b e = refused_before a b e
+refused_before (false or_refuse x ∷ a) b e = e
 
--- ---- a number that no test has is not said: computed for the tests of a call
+pub passed_before : (a b : List Test) {u : Unit {0}} → tested a ≡ Ok u → tested (a ++ b) ≡ tested b
+passed_before [] b e = refl
+passed_before (true or_refuse x ∷ a) b e = passed_before a b e
+passed_before (false or_refuse x ∷ a) b e = absurd (not_both e refl)
 
+-- ---- the same by numbers
+
+pub number_before : (a b : List Test) → (first_refusal a ≡ 0 → ⊥) → first_refusal (a ++ b) ≡ first_refusal a
+number_before [] b h = absurd (h refl)
+number_before (true or_refuse x ∷ a) b h = number_before a b h
+number_before (false or_refuse x ∷ a) b h = refl
+
+pub number_after : (a b : List Test) → first_refusal a ≡ 0 → first_refusal (a ++ b) ≡ first_refusal b
+number_after [] b e = refl
+number_after (true or_refuse x ∷ a) b e = number_after a b e
+number_after (false or_refuse x ∷ a) b e = absurd (number_some x e)
+
+-- a number that no test has is not said: computed for the tests of a call
 abbrev pub unsaid : ℕ → List Test → Bool
 unsaid x [] = true
-unsaid x (passes or_refuse number ∷ tests) = not (eqb number x) && unsaid x tests
+unsaid x (passes or_refuse refusal ∷ tests) = not (eqb (number refusal) x) && unsaid x tests
 
 pub never_said : (x : ℕ) (tests : List Test) → unsaid x tests ≡ true → (x ≡ 0 → ⊥) → first_refusal tests ≡ x → ⊥
 never_said x [] k h e = h (sym e)
-never_said x (true or_refuse number ∷ tests) k h e = never_said x tests (and_both (not (eqb number x)) (unsaid x tests) k).1 h e
-never_said x (false or_refuse number ∷ tests) k h e = true_or_false (and_both (not (eqb number x)) (unsaid x tests) k).0 (rw (eq-eqb number x e))
-
--- ---- a call's last test, with no cause found before it
-
-module _ (tests : List Test) (b : Bool) (number : ℕ) {x : ℕ} (k : numbered tests ≡ true) (e : x ≡ first_refusal tests) (z : x ≡ 0) where
-  pub last_fails : b ≡ false → number ≡ first_refusal (tests ++ (b or_refuse number ∷ []))
-  last_fails t = rw (refused_after tests (b or_refuse number ∷ []) k (sym e ∙ z), t)
-
-  pub last_passes : b ≡ true → 0 ≡ first_refusal (tests ++ (b or_refuse number ∷ []))
-  last_passes t = rw (refused_after tests (b or_refuse number ∷ []) k (sym e ∙ z), t)
+never_said x (true or_refuse r ∷ tests) k h e = never_said x tests (and_both (not (eqb (number r) x)) (unsaid x tests) k).1 h e
+never_said x (false or_refuse r ∷ tests) k h e = true_or_false (and_both (not (eqb (number r) x)) (unsaid x tests) k).0 (rw (eq-eqb (number r) x e))
 
 -- a last test that passes says nothing
-pub last_nothing : (x : ℕ) (a : List Test) → first_refusal (a ++ (true or_refuse x ∷ [])) ≡ first_refusal a
-last_nothing x [] = refl
-last_nothing x (true or_refuse y ∷ a) = last_nothing x a
-last_nothing x (false or_refuse y ∷ a) = refl
+pub last_nothing : (r : Refusal) (a : List Test) → first_refusal (a ++ (true or_refuse r ∷ [])) ≡ first_refusal a
+last_nothing r [] = refl
+last_nothing r (true or_refuse x ∷ a) = last_nothing r a
+last_nothing r (false or_refuse x ∷ a) = refl
 
 -- tests whose parts find the same find the same
-pub same_refusal : (a b c e : List Test) → numbered a ≡ true → numbered b ≡ true → first_refusal a ≡ first_refusal b → first_refusal c ≡ first_refusal e → first_refusal (a ++ c) ≡ first_refusal (b ++ e)
-same_refusal a b c e k l p q = elim (ℕ_discrete (first_refusal a) 0) [
-  | yes z ↦ refused_after a c k z ∙ q ∙ sym (refused_after b e l (sym p ∙ z))
-  | no h ↦ sym (refused_before a c refl h) ∙ refused_before b e p h
+pub same_refusal : (a b c e : List Test) → first_refusal a ≡ first_refusal b → first_refusal c ≡ first_refusal e → first_refusal (a ++ c) ≡ first_refusal (b ++ e)
+same_refusal a b c e p q = elim (ℕ_discrete (first_refusal a) 0) [
+  | yes z ↦ number_after a c z ∙ q ∙ sym (number_after b e (sym p ∙ z))
+  | no h ↦ number_before a c h ∙ p ∙ sym (number_before b e (λ z. h (p ∙ z)))
 ]
 
--- ---- what a call answers and leaves, by the refusal that it found
+-- ---- what a call answers and leaves, by what its tests said
 
-pub answer_refused : {x : ℕ} (r : ℕ) → x ≡ r → (x ≡ 0 → ⊥) → Refused x ≡ answer_of r
-answer_refused {x = zero} r e h = absurd (h refl)
-answer_refused {x = suc y} r e h = rw (← e)
+-- the number of an answer is that of its tests
+pub number_answered : {A : Type 0} (t : Result Unit Refusal) (value : A) → number_of (answered t value) ≡ number_of t
+number_answered (Ok u) value = refl
+number_answered (Err r) value = refl
 
-pub answer_done : {x : ℕ} (r : ℕ) → x ≡ r → x ≡ 0 → Done ≡ answer_of r
-answer_done r e z = rw (← e, z)
+pub passed_number : {u : Unit {0}} (t : Result Unit Refusal) → t ≡ Ok u → number_of t ≡ 0
+passed_number t e = rw e
 
-pub old_stays : {A : Type 0} {x : ℕ} (r : ℕ) (new old : A) → x ≡ r → (x ≡ 0 → ⊥) → old ≡ unless_refused r new old
-old_stays {x = zero} r new old e h = absurd (h refl)
-old_stays {x = suc y} r new old e h = rw (← e)
+pub number_passed : (t : Result Unit Refusal) → number_of t ≡ 0 → t ≡ Ok tt
+number_passed (Ok u) e = refl
+number_passed (Err r) e = absurd (number_some r e)
 
-pub new_stands : {A : Type 0} {x : ℕ} (r : ℕ) (new old : A) → x ≡ r → x ≡ 0 → new ≡ unless_refused r new old
-new_stands r new old e z = rw (← e, z)
+pub old_stays : {A : Type 0} {r : Refusal} (t : Result Unit Refusal) (new old : A) → t ≡ Err r → unless_refused (number_of t) new old ≡ old
+old_stays {r = r} (Ok u) new old e = absurd (not_both refl e)
+old_stays {r = r} (Err x) new old e = refused_some (number x) new old (number_some x) where
+  refused_some : {A : Type 0} (x : ℕ) (new old : A) → (x ≡ 0 → ⊥) → unless_refused x new old ≡ old
+  refused_some zero new old h = absurd (h refl)
+  refused_some (suc x) new old h = refl
 
-pub front_stands : {x : ℕ} (r : ℕ) (new buffer next : List ℕ) (k : ℕ) → x ≡ r → x ≡ 0 → length new ≡ k → next ≡ new ++ drop k buffer →
-    next ≡ front_written r new buffer
-front_stands r new buffer next k e z l q = rw (← e, z, l) q
+pub new_stands : {A : Type 0} {u : Unit {0}} (t : Result Unit Refusal) (new old : A) → t ≡ Ok u → unless_refused (number_of t) new old ≡ new
+new_stands t new old e = rw e
+
+pub front_stands : {u : Unit {0}} (t : Result Unit Refusal) (new buffer next : List ℕ) (k : ℕ) → t ≡ Ok u → length new ≡ k →
+    next ≡ new ++ drop k buffer → next ≡ front_written (number_of t) new buffer
+front_stands t new buffer next k e l q = rw (e, l) q
