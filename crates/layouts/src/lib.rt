@@ -74,13 +74,13 @@ pub fn size(level: u32) -> u32
     1 << level
 }
 
-// The base-2 logarithm, rounded down.
-#[tactic(auto, using(crate::proofs::Counts::lg_unique))]
+// The base-2 logarithm, rounded down, by leading zeros.
+#[tactic(auto, using(crate::proofs::AllowedLaws::lg_leading))]
 pub fn lg(x: u32) -> u32
     requires { 1 ≤ x }
     ensures { result ≡ spec.lg x }
 {
-    x.ilog2()
+    31 - x.leading_zeros()
 }
 
 // g / n, by a shift: n is a power of two.
