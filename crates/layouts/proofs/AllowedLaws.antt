@@ -251,3 +251,11 @@ book_front = chains_front
 
 pub cover_by_arithmetic : CoverByArithmetic
 cover_by_arithmetic n i o a l h = covers_by_bit n (lg n) i o (allowed_n_is n a).power l h
+
+-- ---- what functions of the code are proved by
+
+pub ruleset layout_laws = (setup_bounds, layout_early, layout_last)
+
+pub ruleset through_laws = (allowed_n_is, through_1, through_2, through_3)
+
+pub ruleset cover_laws = (allowed_n_is, cover_by_arithmetic)

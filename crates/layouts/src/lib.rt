@@ -55,7 +55,7 @@ pub fn test_setup(scheme: u32, n: u32, f: u32) -> Result<(), Refusal>
 }
 
 // Tests 1 2 3 7.
-#[tactic(auto, using(crate::proofs::AllowedLaws::setup_bounds, crate::proofs::AllowedLaws::layout_early, crate::proofs::AllowedLaws::layout_last))]
+#[tactic(auto, using(crate::proofs::AllowedLaws::layout_laws))]
 pub fn test_layout(scheme: u32, n: u32, f: u32, d: u32) -> Result<(), Refusal>
     ensures { result ≡ layout_tested scheme n f d }
 {
@@ -104,7 +104,7 @@ fn tree_through(n: u32, g: u32) -> u32
 }
 
 // The values of the days 1 to g.
-#[tactic(auto, using(crate::proofs::AllowedLaws::allowed_n_is, crate::proofs::AllowedLaws::through_1, crate::proofs::AllowedLaws::through_2, crate::proofs::AllowedLaws::through_3))]
+#[tactic(auto, using(crate::proofs::AllowedLaws::through_laws))]
 pub fn values_through(scheme: u32, n: u32, g: u32) -> u32
     requires { (allowed_scheme scheme ≡ true) × (allowed_n n ≡ true) × (g ≤ book_limit) }
     ensures { result ≡ length (chains scheme n g) }
@@ -153,7 +153,7 @@ pub fn tree_at(n: u32, l: u32, g: u32) -> u32
 }
 
 // Whether tile chain c(i) covers the offset o.
-#[tactic(auto, using(crate::proofs::AllowedLaws::allowed_n_is, crate::proofs::AllowedLaws::cover_by_arithmetic))]
+#[tactic(auto, using(crate::proofs::AllowedLaws::cover_laws))]
 pub fn covers(n: u32, i: u32, o: u32) -> bool
     requires { (allowed_n n ≡ true) × (i ≤ spec.lg n) × (o < n) }
     ensures { result ≡ spec.covers n i o }
