@@ -12,17 +12,17 @@ use lib.Dec.{leb}
 use borrow.Author.Tests.{eq-eqb, leb-true, not-true}
 use Rattle.lists.specs.Lists.{◌among◌, up_from, first_of, last_of}
 use Rattle.lists.proofs.Laws.{split, true_or_false, and_both, up_from_mem, mem_keep}
-use Rattle.layouts.specs.Layouts.{allowed_scheme, allowed_n, layout_refusal, value_count, chains, lg, Name, black, tile, tree, covered_days, divides, levels, stored_once, names_of_day, names_through}
+use Rattle.layouts.specs.Layouts.{allowed_scheme, allowed_n, layout_tested, layout_refusal, value_count, chains, lg, Name, black, tile, tree, covered_days, divides, levels, stored_once, names_of_day, names_through}
+use Rattle.std.specs.Prelude.{Result, Ok, Err}
+use Rattle.refusals.specs.declared.Refusal.{Refusal}
+use Rattle.refusals.specs.declared.Refusal.TheVariants as cause
+use Rattle.refusals.proofs.TestLaws.{not_both, number_passed}
 use Rattle.layouts.proofs.AllowedLaws.{layout_asks, values_counted}
 use Rattle.layouts.proofs.Counts.{below_pow, power_of, lg_unique}
 use Rattle.layouts.proofs.Coverage.{names_through_in}
 use Rattle.positions.specs.declared.Kind.{Kind}
 use Rattle.positions.specs.declared.Kind.TheVariants.{Black, Tile, Tree}
 use Rattle.positions.specs.declared.Chain.{Chain}
-use Rattle.positions.specs.declared.Located.{Located}
-use Rattle.positions.specs.declared.Place.{Place}
-use Rattle.positions.specs.declared.Located.TheVariants as case-of-located
-use Rattle.positions.specs.declared.Place.TheVariants as case-of-place
 use Rattle.positions.specs.Positions.{kind_number, chain_of, book_chains, numbers_of, book_numbers, first_place, located, placed}
 use Rattle.positions.specs.Private.{day_within, closing_day}
 use Rattle.positions.specs.Statements.{BothWays, TreeOnly}
@@ -34,21 +34,13 @@ use Rattle.positions.proofs.CallLaws.{located_beyond, located_at, placed_absent,
 
 -- ---- answers apart
 
-chain_in : Located → Chain → Chain
-chain_in (case-of-located.At c) d = c
-chain_in (case-of-located.Refused x) d = d
+chain_in : Result Chain Refusal → Chain → Chain
+chain_in (Ok c) d = c
+chain_in (Err r) d = d
 
-is_refused : Located → ℕ
-is_refused (case-of-located.At c) = 0
-is_refused (case-of-located.Refused x) = 1
-
-located_apart : (c : Chain) (x : ℕ) → case-of-located.At c ≡ case-of-located.Refused x → ⊥
-unfolding is_refused
-located_apart c x e = let z : is_refused (case-of-located.At c) ≡ is_refused (case-of-located.Refused x) = ap is_refused e in omega arith
-
-place_in : Place → ℕ
-place_in (case-of-place.At p) = suc p
-place_in (case-of-place.Refused x) = 0
+place_in : Result ℕ Refusal → ℕ
+place_in (Ok p) = suc p
+place_in (Err r) = 0
 
 -- ---- four numbers are a chain's alone
 
@@ -75,21 +67,24 @@ chain_same a b e =
 -- ---- as stated
 
 module _ (s n f d : ℕ) (ok : layout_refusal s n f d ≡ 0) where
+  told : layout_tested s n f d ≡ Ok tt
+  told = number_passed (layout_tested s n f d) ok
+
   asks : (allowed_scheme s ≡ true) × (allowed_n n ≡ true) × (d ≤ 65536)
-  asks = layout_asks s n f d refl ok
+  asks = layout_asks s n f d told
 
   counted : value_count s n d ≡ length (chains s n d)
   counted = values_counted s n f d ok
 
-  there : (p : ℕ) → p < value_count s n d → located s n f d p ≡ case-of-located.At (get_or (book_chains s n d) p (chain_of n (black 0)))
-  there p l = sym (located_at s n f d refl p ok (omega (arith, counted)))
+  there : (p : ℕ) → p < value_count s n d → located s n f d p ≡ Ok (get_or (book_chains s n d) p (chain_of n (black 0)))
+  there p l = sym (located_at s n f d told p (omega (arith, counted)))
 
-  beyond : (p : ℕ) → value_count s n d ≤ p → located s n f d p ≡ case-of-located.Refused 18
-  beyond p l = sym (located_beyond s n f d refl p ok refl (omega (arith, counted)))
+  beyond : (p : ℕ) → value_count s n d ≤ p → located s n f d p ≡ Err cause.NotInBook
+  beyond p l = sym (located_beyond s n f d told p refl (omega (arith, counted)))
 
-  below_count : (p x : ℕ) → located s n f d p ≡ case-of-located.Refused x → value_count s n d ≤ p
-  below_count p x e = elim (dec_lt p (value_count s n d)) [
-    | yes l ↦ absurd (located_apart (get_or (book_chains s n d) p (chain_of n (black 0))) x (sym (there p l) ∙ e))
+  below_count : (p : ℕ) → located s n f d p ≡ Err cause.NotInBook → value_count s n d ≤ p
+  below_count p e = elim (dec_lt p (value_count s n d)) [
+    | yes l ↦ absurd (not_both (there p l) e)
     | no h ↦ omega arith
   ]
 
@@ -98,14 +93,14 @@ module _ (s n f d : ℕ) (ok : layout_refusal s n f d ≡ 0) where
   numbers_at_lem p = get_or-map numbers_of (book_chains s n d) p (chain_of n (black 0))
 
   -- the chain that is given
-  is_there_lem : (p : ℕ) (c : Chain) → located s n f d p ≡ case-of-located.At c → (p < value_count s n d) × (get_or (book_chains s n d) p (chain_of n (black 0)) ≡ c)
+  is_there_lem : (p : ℕ) (c : Chain) → located s n f d p ≡ Ok c → (p < value_count s n d) × (get_or (book_chains s n d) p (chain_of n (black 0)) ≡ c)
   unfolding chain_in
   is_there_lem p c e = elim (dec_lt p (value_count s n d)) [
-    | yes l ↦ (l, ap (λ (a : Located). chain_in a c) (sym (there p l) ∙ e))
-    | no h ↦ absurd (located_apart c 18 (sym e ∙ beyond p (omega arith)))
+    | yes l ↦ (l, ap (λ (a : Result Chain Refusal). chain_in a c) (sym (there p l) ∙ e))
+    | no h ↦ absurd (not_both e (beyond p (omega arith)))
   ]
 
-  its_days : (p : ℕ) (c : Chain) → located s n f d p ≡ case-of-located.At c →
+  its_days : (p : ℕ) (c : Chain) → located s n f d p ≡ Ok c →
       (c.first ≡ first_of (get_or (chains s n d) p [])) × (c.last ≡ last_of 0 (get_or (chains s n d) p []))
   unfolding book_chains chains
   its_days p c e =
@@ -119,40 +114,40 @@ module _ (s n f d : ℕ) (ok : layout_refusal s n f d ≡ 0) where
       by_days (tile i g) = (refl, refl)
       by_days (tree l g) = (refl, refl)
 
-  forth : (p : ℕ) (c : Chain) → located s n f d p ≡ case-of-located.At c → placed s n f d (numbers_of c) ≡ case-of-place.At p
+  forth : (p : ℕ) (c : Chain) → located s n f d p ≡ Ok c → placed s n f d (numbers_of c) ≡ Ok p
   forth p c e =
       let k = is_there_lem p c e in
       let h : p < length (book_numbers s n d) = omega (arith, k.0, counted, numbers_length s n d) in
       let q = only_place s n d (kind_number c.kind) c.index c.first c.last asks.0 asks.1 p h (numbers_at_lem p ∙ ap numbers_of k.1) in
-      sym (placed_at s n f d refl (numbers_of c) ok (omega arith) (sym q))
+      sym (placed_at s n f d told (numbers_of c) (omega arith) (sym q))
 
   -- where four numbers have a place
-  has_place : (numbers : List ℕ) (p : ℕ) → placed s n f d numbers ≡ case-of-place.At p →
+  has_place : (numbers : List ℕ) (p : ℕ) → placed s n f d numbers ≡ Ok p →
       (first_place numbers (book_numbers s n d) < length (book_numbers s n d)) × (p ≡ first_place numbers (book_numbers s n d))
   unfolding place_in
   has_place numbers p e = elim (dec_lt (first_place numbers (book_numbers s n d)) (length (book_numbers s n d))) [
-    | yes l ↦ let z : suc p ≡ suc (first_place numbers (book_numbers s n d)) = ap place_in (sym e ∙ sym (placed_at s n f d refl numbers ok l refl)) in (l, omega arith)
-    | no h ↦ let z : suc p ≡ 0 = ap place_in (sym e ∙ sym (placed_absent s n f d refl numbers ok (omega arith))) in absurd (omega arith)
+    | yes l ↦ let z : suc p ≡ suc (first_place numbers (book_numbers s n d)) = ap place_in (sym e ∙ sym (placed_at s n f d told numbers l refl)) in (l, omega arith)
+    | no h ↦ let z : suc p ≡ 0 = ap place_in (sym e ∙ sym (placed_absent s n f d told numbers (omega arith))) in absurd (omega arith)
   ]
 
-  back : (p : ℕ) (c : Chain) → placed s n f d (numbers_of c) ≡ case-of-place.At p → located s n f d p ≡ case-of-located.At c
+  back : (p : ℕ) (c : Chain) → placed s n f d (numbers_of c) ≡ Ok p → located s n f d p ≡ Ok c
   back p c e =
       let r = has_place (numbers_of c) p e in
       let l : p < value_count s n d = omega (arith, r.0, r.1, counted, numbers_length s n d) in
       let q = first_at (numbers_of c) (book_numbers s n d) (numbers_of (chain_of n (black 0))) r.0 in
       let k = sym (numbers_at_lem p) ∙ ap (λ (x : ℕ). get_or (book_numbers s n d) x (numbers_of (chain_of n (black 0)))) r.1 ∙ q in
-      there p l ∙ ap (λ (x : Chain). case-of-located.At x) (chain_same (get_or (book_chains s n d) p (chain_of n (black 0))) c k)
+      there p l ∙ ap (λ (x : Chain). Ok x) (chain_same (get_or (book_chains s n d) p (chain_of n (black 0))) c k)
 
-  absent : (numbers : List ℕ) → (numbers among book_numbers s n d → ⊥) → placed s n f d numbers ≡ case-of-place.Refused 18
+  absent : (numbers : List ℕ) → (numbers among book_numbers s n d → ⊥) → placed s n f d numbers ≡ Err cause.NotInBook
   absent numbers h = elim (dec_lt (first_place numbers (book_numbers s n d)) (length (book_numbers s n d))) [
     | yes l ↦ absurd (h (first_in numbers (book_numbers s n d) l))
-    | no m ↦ sym (placed_absent s n f d refl numbers ok (omega arith))
+    | no m ↦ sym (placed_absent s n f d told numbers (omega arith))
   ]
 
-  not_there : (numbers : List ℕ) → placed s n f d numbers ≡ case-of-place.Refused 18 → numbers among book_numbers s n d → ⊥
+  not_there : (numbers : List ℕ) → placed s n f d numbers ≡ Err cause.NotInBook → numbers among book_numbers s n d → ⊥
   unfolding place_in
   not_there numbers e m =
-      let z : suc (first_place numbers (book_numbers s n d)) ≡ 0 = ap place_in (placed_at s n f d refl numbers ok (in_first m) refl ∙ e) in
+      let z : suc (first_place numbers (book_numbers s n d)) ≡ 0 = ap place_in (placed_at s n f d told numbers (in_first m) refl ∙ e) in
       omega arith
 
 pub both_ways : BothWays
@@ -160,7 +155,7 @@ both_ways s n f d ok =
     record {
       chain_at_place = there s n f d ok;
       days_of_value = its_days s n f d ok;
-      no_place = λ p. (below_count s n f d ok p 18, beyond s n f d ok p);
+      no_place = λ p. (below_count s n f d ok p, beyond s n f d ok p);
       there_and_back = forth s n f d ok;
       back_and_there = back s n f d ok;
       no_chain = λ numbers. (not_there s n f d ok numbers, absent s n f d ok numbers);
@@ -175,13 +170,13 @@ not_black n d g h once o e l = elim (split (leb g d)) [
   | inr t ↦ let z : h ≡ 0 = e ∙ rw t in absurd (omega arith)
 ]
 
-once_not_black : (n d g : ℕ) → layout_refusal 3 n 1 d ≡ 0 → stored_once g ≡ true → placed 3 n 1 d (1 ∷ 0 ∷ 1 ∷ g ∷ []) ≡ case-of-place.Refused 18
+once_not_black : (n d g : ℕ) → layout_refusal 3 n 1 d ≡ 0 → stored_once g ≡ true → placed 3 n 1 d (1 ∷ 0 ∷ 1 ∷ g ∷ []) ≡ Err cause.NotInBook
 once_not_black n d g ok once = elim (dec_lt (first_place numbers (book_numbers 3 n d)) (length (book_numbers 3 n d))) [
   | yes l ↦
-      let a = layout_asks 3 n 1 d refl ok in
+      let a = layout_asks 3 n 1 d (number_passed _ ok) in
       let r = found 3 n d 1 0 1 g a.0 a.1 l in
       absurd (not_black n d g (closing_day n d 1 1 g) once r.some refl (leb-true _ _ (and_both _ _ r.named).0))
-  | no m ↦ sym (placed_absent 3 n 1 d refl numbers ok (omega arith))
+  | no m ↦ sym (placed_absent 3 n 1 d (number_passed _ ok) numbers (omega arith))
 ]
   where
     numbers : List ℕ
@@ -209,5 +204,5 @@ tree_only n d g ok once =
     let e : 2 ^ lg g ≡ g = ap (λ (x : ℕ). 2 ^ x) k ∙ r.1 in
     record {
       not_black = once_not_black n d g ok once;
-      but_tree = λ m. (_, sym (placed_at 3 n 1 d refl (3 ∷ lg g ∷ 1 ∷ g ∷ []) ok (in_first (level_there n d g (lg g) e m)) refl));
+      but_tree = λ m. (_, sym (placed_at 3 n 1 d (number_passed _ ok) (3 ∷ lg g ∷ 1 ∷ g ∷ []) (in_first (level_there n d g (lg g) e m)) refl));
     }

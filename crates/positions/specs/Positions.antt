@@ -1,15 +1,13 @@
 -- 02's way from a position of the book to its chain, and back (C-12, SPEC 18). Definitions only.
-use Rattle.std.specs.Prelude.{cond, List, [], ◌∷◌, ◌++◌, map, ℕ, zero, suc, leb, length, get_or}
+use Rattle.std.specs.Prelude.{cond, List, [], ◌∷◌, ◌++◌, map, ℕ, suc, leb, length, get_or, Result}
 use Rattle.lists.specs.Lists.{same, first_of, last_of}
-use Rattle.refusals.specs.Refusals.{Test, ◌or_refuse◌, first_refusal}
+use Rattle.refusals.specs.Refusals.{Test, ◌or_refuse◌, tested, answered}
+use Rattle.refusals.specs.declared.Refusal.{Refusal}
+use Rattle.refusals.specs.declared.Refusal.TheVariants as cause
 use Rattle.layouts.specs.Layouts.{Name, black, tile, tree, covered_days, names_through, value_count, layout_tests}
 use Rattle.positions.specs.declared.Kind.{Kind}
 use Rattle.positions.specs.declared.Kind.TheVariants.{Black, Tile, Tree}
 use Rattle.positions.specs.declared.Chain.{Chain}
-use Rattle.positions.specs.declared.Located.{Located}
-use Rattle.positions.specs.declared.Located.TheVariants as case-of-located
-use Rattle.positions.specs.declared.Place.{Place}
-use Rattle.positions.specs.declared.Place.TheVariants as case-of-place
 
 -- 02's number of each kind (SPEC 18.2)
 abbrev pub kind_number : Kind → ℕ
@@ -47,16 +45,12 @@ first_place numbers (x ∷ xs) = cond (same x numbers) 0 (suc (first_place numbe
 
 -- 02's test 18 (SPEC 10.18), after 1 2 3 7: the position is below 01's number of values (SPEC 4.12)
 abbrev pub position_tests : ℕ → ℕ → ℕ → ℕ → List Test
-position_tests scheme n d position = leb (suc position) (value_count scheme n d) or_refuse 18 ∷ []
-
-abbrev pub located_of : ℕ → Chain → Located
-located_of zero chain = case-of-located.At chain
-located_of (suc x) chain = case-of-located.Refused (suc x)
+position_tests scheme n d position = leb (suc position) (value_count scheme n d) or_refuse cause.NotInBook ∷ []
 
 -- what chain_at gives
-unfoldable pub located : ℕ → ℕ → ℕ → ℕ → ℕ → Located
+unfoldable pub located : ℕ → ℕ → ℕ → ℕ → ℕ → Result Chain Refusal
 located scheme n f d position =
-    located_of (first_refusal (layout_tests scheme n f d ++ position_tests scheme n d position))
+    answered (tested (layout_tests scheme n f d ++ position_tests scheme n d position))
     (get_or (book_chains scheme n d) position (chain_of n (black 0)))
 
 -- ---- from a chain to its position
@@ -64,24 +58,10 @@ located scheme n f d position =
 -- 02's test 18, after 1 2 3 7: a chain of the book has these four
 abbrev pub chain_tests : ℕ → ℕ → ℕ → List ℕ → List Test
 chain_tests scheme n d numbers =
-    leb (suc (first_place numbers (book_numbers scheme n d))) (length (book_numbers scheme n d)) or_refuse 18 ∷ []
-
-abbrev pub place_of : ℕ → ℕ → Place
-place_of zero position = case-of-place.At position
-place_of (suc x) position = case-of-place.Refused (suc x)
+    leb (suc (first_place numbers (book_numbers scheme n d))) (length (book_numbers scheme n d)) or_refuse cause.NotInBook ∷ []
 
 -- what position_of gives
-unfoldable pub placed : ℕ → ℕ → ℕ → ℕ → List ℕ → Place
+unfoldable pub placed : ℕ → ℕ → ℕ → ℕ → List ℕ → Result ℕ Refusal
 placed scheme n f d numbers =
-    place_of (first_refusal (layout_tests scheme n f d ++ chain_tests scheme n d numbers))
+    answered (tested (layout_tests scheme n f d ++ chain_tests scheme n d numbers))
     (first_place numbers (book_numbers scheme n d))
-
--- ---- 02's number for each answer: 0, or the refusal's
-
-abbrev pub located_number : Located → ℕ
-located_number (case-of-located.At chain) = 0
-located_number (case-of-located.Refused number) = number
-
-abbrev pub place_number : Place → ℕ
-place_number (case-of-place.At position) = 0
-place_number (case-of-place.Refused number) = number

@@ -10,6 +10,8 @@ ghost use Rattle.positions.specs.Positions.{kind_number, chain_over, chain_of, n
 ghost use Rattle.positions.specs.declared.Kind.TheVariants.{Black, Tree};
 ghost use Rattle.positions.specs.Private.{black_place, closing_day, place_in_day, is_named};
 
+use refusals::Refusal;
+
 // What a chain covers, with 02's number.
 #[derive(Clone, Copy, PartialEq, Eq)]
 pub enum Kind {
@@ -33,18 +35,6 @@ impl Chain {
     {
         [self.kind as u32, self.index, self.first, self.last]
     }
-}
-
-#[derive(Drop)]
-pub enum Located {
-    At(Chain),
-    Refused(u32),
-}
-
-#[derive(Drop)]
-pub enum Place {
-    At(u32),
-    Refused(u32),
 }
 
 // The number that 02 gives a kind.
@@ -77,7 +67,7 @@ fn day_of(scheme: u32, n: u32, d: u32, position: u32) -> u32
 }
 
 // Where black stands, or would stand, among the values of day g: behind the tile chains, or the tree's levels.
-#[tactic(auto, using(crate::proofs::StepLaws::tiles_by, crate::proofs::StepLaws::levels_by, layouts::proofs::AllowedLaws::allowed_n_is))]
+#[tactic(auto, using(crate::proofs::CallLaws::place_laws))]
 fn black_place(scheme: u32, n: u32, g: u32) -> u32
     requires { (allowed_scheme scheme ≡ true) × (allowed_n n ≡ true) × (1 ≤ g) × (g ≤ book_limit) }
     ensures { result ≡ black_place scheme n g }
@@ -104,7 +94,7 @@ fn black_chain(g: u32) -> Chain
 }
 
 // The last day of c(i) of the tile that ends at g: from i = 1 on the last whose bit of weight n / 2^i is 0.
-#[tactic(auto, using(crate::proofs::StepLaws::tile_last_0, crate::proofs::StepLaws::tile_last_by, crate::proofs::StepLaws::weight_fits))]
+#[tactic(auto, using(crate::proofs::CallLaws::tile_last_laws))]
 fn tile_last(n: u32, i: u32, g: u32) -> u32
     requires { (allowed_n n ≡ true) × (i ≤ lg n) × (1 ≤ g) × (divides n g ≡ true) }
     ensures { result ≡ (chain_of n (tile i g)).last }
@@ -128,7 +118,7 @@ fn tile_chain(n: u32, i: u32, g: u32) -> Chain
 }
 
 // The tree's level l that ends at g.
-#[tactic(auto, using(crate::proofs::StepLaws::tree_of, layouts::proofs::Coverage::divisor_le, std::proofs::Common::pow_pos))]
+#[tactic(auto, using(crate::proofs::CallLaws::tree_laws))]
 fn tree_chain(l: u32, g: u32) -> Chain
     requires { (l ≤ 16) × (1 ≤ g) × (divides (2 ^ l) g ≡ true) }
     ensures { result ≡ chain_over Tree l (last_days (2 ^ l) g) }
@@ -144,7 +134,7 @@ fn tree_chain(l: u32, g: u32) -> Chain
 
 // The chain of value i of day g, i from 0. It stands e places in front of black's: none is black itself, up to nine
 // a tile chain, up to seventeen a level.
-#[tactic(auto, using(crate::proofs::StepLaws::black_1, crate::proofs::StepLaws::black_2, crate::proofs::StepLaws::black_3, crate::proofs::StepLaws::is_tile, crate::proofs::StepLaws::is_level))]
+#[tactic(auto, using(crate::proofs::CallLaws::day_laws))]
 fn chain_in_day(scheme: u32, n: u32, g: u32, i: u32) -> Chain
     requires { (allowed_scheme scheme ≡ true) × (allowed_n n ≡ true) × (1 ≤ g) × (g ≤ book_limit)
         × (i < length (names_of_day scheme n g)) }
@@ -165,20 +155,17 @@ fn chain_in_day(scheme: u32, n: u32, g: u32, i: u32) -> Chain
 }
 
 // The chain at a position of the book.
-#[tactic(auto, using(layouts::proofs::AllowedLaws::layout_asks, crate::proofs::BookLaws::closes_by, crate::proofs::CallLaws::located_refused, crate::proofs::CallLaws::located_beyond))]
-pub fn chain_at(scheme: u32, n: u32, f: u32, d: u32, position: u32) -> Located
+#[tactic(auto, using(crate::proofs::CallLaws::located_laws))]
+pub fn chain_at(scheme: u32, n: u32, f: u32, d: u32, position: u32) -> Result<Chain, Refusal>
     ensures { result ≡ located scheme n f d position }
 {
-    let x = layouts::layout_refusal(scheme, n, f, d);
-    if x != 0 {
-        return Located::Refused(x);
-    }
+    layouts::test_layout(scheme, n, f, d)?;
     if layouts::values_through(scheme, n, d) <= position {
-        return Located::Refused(18);
+        return Err(Refusal::NotInBook);
     }
     let g = day_of(scheme, n, d, position);
     let before = layouts::values_through(scheme, n, g - 1);
-    Located::At(chain_in_day(scheme, n, g, position - before))
+    Ok(chain_in_day(scheme, n, g, position - before))
 }
 
 // The day at which a chain so named would close, if it is a day up to d: the tile's end, else the last day.
@@ -227,27 +214,31 @@ fn is_named(scheme: u32, n: u32, g: u32, i: u32, numbers: [u32; 4]) -> bool
 }
 
 // The position of the chain that four numbers name, as C has them; any number is taken for the kind.
-pub fn position_of_numbers(scheme: u32, n: u32, f: u32, d: u32, numbers: [u32; 4]) -> Place
+#[tactic(auto, using(crate::proofs::CallLaws::placed_refused))]
+pub fn position_of_numbers(
+    scheme: u32,
+    n: u32,
+    f: u32,
+    d: u32,
+    numbers: [u32; 4],
+) -> Result<u32, Refusal>
     ensures { result ≡ placed scheme n f d numbers }
 {
-    let x = layouts::layout_refusal(scheme, n, f, d);
-    if x != 0 {
-        return Place::Refused(x);
-    }
+    layouts::test_layout(scheme, n, f, d)?;
     let [kind, index, first, last] = numbers;
     let Some(g) = closing_day(n, d, kind, first, last) else {
-        return Place::Refused(18);
+        return Err(Refusal::NotInBook);
     };
     let i = place_in_day(scheme, n, g, kind, index);
     if !is_named(scheme, n, g, i, numbers) {
-        return Place::Refused(18);
+        return Err(Refusal::NotInBook);
     }
     let earlier = layouts::values_through(scheme, n, g - 1);
-    Place::At(earlier + i)
+    Ok(earlier + i)
 }
 
 // The position of a chain.
-pub fn position_of(scheme: u32, n: u32, f: u32, d: u32, chain: Chain) -> Place
+pub fn position_of(scheme: u32, n: u32, f: u32, d: u32, chain: Chain) -> Result<u32, Refusal>
     ensures { result ≡ placed scheme n f d (numbers_of chain) }
 {
     position_of_numbers(scheme, n, f, d, chain.numbers())
