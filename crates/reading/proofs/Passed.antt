@@ -7,14 +7,14 @@ use borrow.Author.Tests.{ltb-false, lt-ltb, le-ltb}
 use Rattle.lists.proofs.Laws.{split}
 use Rattle.refusals.specs.Refusals.{unless_refused, front_written}
 use Rattle.refusals.proofs.TestLaws.{never_said}
-use Rattle.layouts.specs.Layouts.{divides, layout_tests, layout_refusal}
+use Rattle.layouts.specs.Layouts.{divides, layout_tests, layout_tested, layout_refusal}
 use Rattle.layouts.proofs.AllowedLaws.{allowed_n_is, allowed_f_is, allowed_d_is, divides_factor, layout_is}
 use Rattle.layouts.proofs.Coverage.{divisor_le}
 use Rattle.acceptance.proofs.Runs.{divides_multiple, div_whole}
-use Rattle.reading.specs.Contract.{refused_report, table_in, allowed_passed, table_tests, read_refusal, listed_in, found, readout}
+use Rattle.reading.specs.Contract.{refused_report, table_in, allowed_passed, table_tests, read_tested, read_refusal, listed_in, found, readout}
 use Rattle.reading.specs.Numbers.{last_good_day}
 use Rattle.reading.specs.Statements.{SaysNotPassed, ValidationAllowed, SameButLow, MovesLowAlone}
-use Rattle.reading.proofs.RefusalLaws.{layout_refused, passed_19, passed_none, passed_refused, table_refused}
+use Rattle.reading.proofs.RefusalLaws.{number_early, number_19, number_first, number_late, passed_none}
 use Rattle.reading.proofs.Statements.{refusal_said}
 
 -- ---- 19
@@ -27,17 +27,19 @@ allowed_not n d p (inl l) = rw (le-ltb p d l)
 allowed_not n d p (inr e) = rw e (and-false (ltb p d))
 
 pub says_not_passed : SaysNotPassed
-unfolding layout_refusal
+unfolding layout_tested
 says_not_passed s n f d p o l = (
   λ e. let q : read_refusal s n f d p o (length l) ≡ 19 = sym (refusal_said s n f d p o l) ∙ e in elim (ℕ_discrete (layout_refusal s n f d) 0) [
     | yes z ↦ elim (split (allowed_passed n d p)) [
-      | inl t ↦ absurd (never_said 19 (table_tests s n d o (length l)) refl (λ k. omega arith) (table_refused s n f d p o (length l) refl (passed_none s n f d p z t) refl ∙ q))
+      | inl t ↦ absurd (never_said 19 (table_tests s n d o (length l)) refl (λ k. omega arith) (sym (number_late s n f d p o (length l) (passed_none s n f d p z t)) ∙ q))
       | inr t ↦ (z, not_allowed n d p t)
     ]
-    | no h ↦ absurd (never_said 19 (layout_tests s n f d) refl (λ k. omega arith) (passed_refused s n f d p o (length l) (layout_refused s n f d p refl h) h ∙ q))
+    | no h ↦
+        let k = number_early s n f d p h in
+        absurd (never_said 19 (layout_tests s n f d) refl (λ k. omega arith) (sym k ∙ sym (number_first s n f d p o (length l) (λ z. h (sym k ∙ z))) ∙ q))
   ],
-  λ h. refusal_said s n f d p o l ∙
-      sym (passed_refused s n f d p o (length l) (passed_19 s n f d p refl h.0 (sym (allowed_not n d p h.1)) refl) (λ k. omega arith)),
+  λ h. let k = number_19 s n f d p h.0 (allowed_not n d p h.1) in
+      refusal_said s n f d p o l ∙ number_first s n f d p o (length l) (λ z. let q : ◌≡◌ {A = ℕ} 19 0 = sym k ∙ z in omega arith) ∙ k,
 )
 
 pub validation_allowed : ValidationAllowed
@@ -54,7 +56,7 @@ validation_allowed s n f d e =
 -- ---- two that are let pass
 
 alike : (s n f d p q : ℕ) (o : List ℕ) (places : ℕ) → allowed_passed n d p ≡ true → allowed_passed n d q ≡ true → read_refusal s n f d p o places ≡ read_refusal s n f d q o places
-unfolding read_refusal
+unfolding read_tested
 alike s n f d p q o places e h = rw (e, h)
 
 same_but_low : (r d p q good : ℕ) (F m : List ℕ) →

@@ -9,7 +9,10 @@ use Rattle.lists.specs.Lists.{keep}
 use Rattle.lists.proofs.Laws.{length-up_from}
 use Rattle.evidence.specs.Evidence.{days, listing}
 use Rattle.evidence.proofs.TableLaws.{accepted_gives, listing_within}
-use Rattle.refusals.proofs.TestLaws.{old_stays, new_stands}
+use Rattle.std.specs.Prelude.{Result, Ok, Err}
+use Rattle.refusals.specs.Refusals.{number_of}
+use Rattle.refusals.specs.declared.Refusal.{Refusal}
+use Rattle.refusals.proofs.TestLaws.{passed_number, old_stays, new_stands}
 use Rattle.layouts.specs.Layouts.{allowed_scheme, allowed_n, chains}
 use Rattle.layouts.proofs.AllowedLaws.{allowed_n_is, allowed_scheme_is}
 use Rattle.buffers.specs.Private.{Wrote}
@@ -17,7 +20,7 @@ use Rattle.acceptance.specs.Private.{Table, rules, is_listed}
 use Rattle.acceptance.proofs.{Runs.keep_length, Accepted.accepted_rules, Accepted.listing_is_listed}
 use Rattle.reading.specs.{declared.Numbers.Numbers, declared.Reading.Reading, Numbers.last_good_day}
 use Rattle.reading.specs.declared.Reading.TheVariants.{Clean, Changed, Refused}
-use Rattle.reading.specs.Contract.{refused_report, report_of, table_in, read_refusal, listed_in, found, readout}
+use Rattle.reading.specs.Contract.{refused_report, report_of, table_in, read_tested, read_refusal, listed_in, found, readout}
 use Rattle.reading.specs.Private.{Given, numbers_of}
 use Rattle.reading.proofs.{LastGood.good_first, BitLaws.bits_at}
 use Rattle.reading.proofs.RefusalLaws.{read_facts, read_enough, read_given}
@@ -96,18 +99,19 @@ module _ (s n d : ℕ) (t l : List ℕ) (G : Given s n d t (length l)) where
 
 -- ---- the call
 
-module _ (s n f d p : ℕ) (o l : List ℕ) {r : ℕ} (e : r ≡ read_refusal s n f d p o (length l)) where
-  pub report_refused : (r ≡ 0 → ⊥) → report_of d (Refused r) ≡ (readout s n f d p o l).report
-  unfolding report_of readout
-  report_refused h = ap refused_report e ∙ old_stays (read_refusal s n f d p o (length l)) _ _ e h
+module _ (s n f d p : ℕ) (o l : List ℕ) where
+  module _ {r : Refusal} (e : read_tested s n f d p o (length l) ≡ Err r) where
+    pub report_refused : report_of d (Refused r) ≡ (readout s n f d p o l).report
+    unfolding report_of readout
+    report_refused = ap (λ (x : Result Unit Refusal). refused_report (number_of x)) (sym e) ∙ sym (old_stays (read_tested s n f d p o (length l)) _ _ e)
 
-  pub list_refused : (r ≡ 0 → ⊥) → l ≡ (readout s n f d p o l).list
-  unfolding readout
-  list_refused h = old_stays (read_refusal s n f d p o (length l)) _ l e h
+    pub list_refused : l ≡ (readout s n f d p o l).list
+    unfolding readout
+    list_refused = sym (old_stays (read_tested s n f d p o (length l)) _ l e)
 
-  module _ (z : r ≡ 0) where
+  module _ (e : read_tested s n f d p o (length l) ≡ Ok tt) where
     none : read_refusal s n f d p o (length l) ≡ 0
-    none = sym e ∙ z
+    none = passed_number (read_tested s n f d p o (length l)) e
 
     pub values_need : (allowed_scheme s ≡ true) × (allowed_n n ≡ true) × (d ≤ 65536)
     values_need = let L = read_facts s n f d p o (length l) none in (L.scheme_ok, L.n_ok, L.most)
@@ -127,13 +131,13 @@ module _ (s n f d p : ℕ) (o l : List ℕ) {r : ℕ} (e : r ≡ read_refusal s 
       unfolding readout listed_in
       report_read a q =
           q ∙ ap (λ (y : List ℕ). found d p (listing (chains s n d) d y) (last_good_day s n d y)) values_part ∙
-          new_stands (read_refusal s n f d p o (length l)) _ _ e z
+          sym (new_stands (read_tested s n f d p o (length l)) _ _ e)
 
       pub list_after : {m : List ℕ} → m ≡ listing (chains s n d) d (take v o) ++ drop (length (listing (chains s n d) d (take v o))) l → m ≡ (readout s n f d p o l).list
       unfolding readout listed_in
       list_after q =
           q ∙ ap (λ (y : List ℕ). listing (chains s n d) d y ++ drop (length (listing (chains s n d) d y)) l) values_part ∙
-          new_stands (read_refusal s n f d p o (length l)) _ l e z
+          sym (new_stands (read_tested s n f d p o (length l)) _ l e)
 
 -- ---- for theorems above
 

@@ -7,13 +7,17 @@ use lib.{ListN.length, ListN.take, ListN.drop, Seq.take_at, Seq.drop_at, Seq.tak
 use Rattle.lists.proofs.Laws.{enough_read, split, true_or_false}
 use Rattle.evidence.specs.Evidence.{accepted, listing}
 use Rattle.evidence.proofs.TableLaws.{given_iff_accepted, listed_iff, listing_ascends}
-use Rattle.refusals.specs.Refusals.{first_refusal, unless_refused}
+use Rattle.refusals.specs.Refusals.{number, number_of, first_refusal, unless_refused}
+use Rattle.std.specs.Prelude.{Result, Ok, Err}
+use Rattle.refusals.specs.declared.Refusal.{Refusal}
+use Rattle.refusals.specs.declared.Refusal.TheVariants as cause
+use Rattle.refusals.proofs.TestLaws.{number_some, number_same}
 use Rattle.layouts.specs.Layouts.{chains}
 use Rattle.reading.specs.{declared.Reading.Reading, Numbers.last_good_day, Private.given_tests}
 use Rattle.reading.specs.declared.Reading.TheVariants.{Clean, Changed, Refused}
-use Rattle.reading.specs.Contract.{Report, report_of, refused_report, table_in, bits, passed_refusal, read_refusal, listed_in, found, readout}
+use Rattle.reading.specs.Contract.{Report, report_of, refused_report, table_in, bits, passed_refusal, read_tested, read_refusal, listed_in, found, readout}
 use Rattle.reading.specs.Statements.{Supplied, SomeSet, ReadIfGiven, SaysNoSet, ListsDaysOfSets, OutcomesRead, CaseOf, CaseTold, OneAnswer}
-use Rattle.reading.proofs.RefusalLaws.{passed_none, set_read, table_given, table_refused, read_given}
+use Rattle.reading.proofs.RefusalLaws.{passed_none, set_read, table_given, number_late, read_given}
 use Rattle.reading.proofs.Report.{readout_found}
 
 -- ---- what a call says, by its refusal and the days listed
@@ -56,7 +60,8 @@ module _ (s n f d p : ℕ) (o l : List ℕ) (u : Supplied s n f d p o l) where
   by_given : (readout s n f d p o l).report.refusal ≡ first_refusal (given_tests s n d (table_in s n d o))
   by_given =
       refusal_said s n f d p o l ∙
-      sym (table_refused s n f d p o (length l) refl let_pass (table_given s n d o (length l) u.places refl u.enough refl))
+      number_late s n f d p o (length l) let_pass ∙
+      sym (ap number_of (table_given s n d o (length l) u.places refl u.enough refl))
 
   set_accepted : SomeSet s n d o → accepted (chains s n d) d (table_in s n d o) ≡ true
   set_accepted h = (given_iff_accepted (chains s n d) d (table_in s n d o)).0 h
@@ -64,12 +69,16 @@ module _ (s n f d p : ℕ) (o l : List ℕ) (u : Supplied s n f d p o l) where
   accepted_set : accepted (chains s n d) d (table_in s n d o) ≡ true → SomeSet s n d o
   accepted_set e = (given_iff_accepted (chains s n d) d (table_in s n d o)).1 e
 
-passed : (b a : Bool) → ◌≡◌ {A = ℕ} (cond b (cond a 0 14) 13) 0 → a ≡ true
+-- what tests 13 14 say
+abbrev given : Bool → Bool → Result Unit Refusal
+given b a = cond b (cond a (Ok tt) (Err cause.NoSet)) (Err cause.BadOutcome)
+
+passed : (b a : Bool) → number_of (given b a) ≡ 0 → a ≡ true
 passed true true e = refl
 passed true false e = absurd (omega arith)
 passed false a e = absurd (omega arith)
 
-failed : (b a : Bool) → ◌≡◌ {A = ℕ} (cond b (cond a 0 14) 13) 14 → (b ≡ true) × (a ≡ false)
+failed : (b a : Bool) → number_of (given b a) ≡ 14 → (b ≡ true) × (a ≡ false)
 failed true true e = absurd (omega arith)
 failed true false e = (refl, refl)
 failed false a e = absurd (omega arith)
@@ -106,7 +115,7 @@ lists_days_of_sets s n f d p o l e =
 -- ---- the outcomes read
 
 pub outcomes_read : OutcomesRead
-unfolding readout read_refusal listed_in
+unfolding readout read_tested listed_in
 outcomes_read s n f d p o l =
     let k = length (chains s n d) in
     rw (take-take k k o (le_refl k), ← (enough_read k o))
@@ -121,7 +130,7 @@ case_of d Clean r K e =
     record {
       clean = (λ h. (sym z, sym k), λ h. refl);
       changed = (λ h. absurd (let y = h.1 in let q : ◌≡◌ {A = ℕ} 0 1 = cc in omega arith), λ h. absurd (omega (arith, h.1)));
-      refused = λ x. (λ h. absurd (let q : ◌≡◌ {A = ℕ} 0 1 = cc in omega arith), λ h. absurd (omega (arith, h.0, h.1)));
+      refused = λ x. (λ h. absurd (let q : ◌≡◌ {A = ℕ} 0 1 = cc in omega arith), λ h. absurd (number_some x (sym h ∙ sym z)));
     }
 case_of d (Changed m) r K e =
     let z = ap (λ (x : Report). x.refusal) e in
@@ -129,21 +138,15 @@ case_of d (Changed m) r K e =
     record {
       clean = (λ h. absurd (let q : ◌≡◌ {A = ℕ} 0 1 = cc in omega arith), λ h. absurd (omega (arith, h.1)));
       changed = (λ h. (sym z, k), λ h. (m, refl));
-      refused = λ x. (λ h. absurd (let q : ◌≡◌ {A = ℕ} 0 1 = cc in omega arith), λ h. absurd (omega (arith, h.0, h.1)));
+      refused = λ x. (λ h. absurd (let q : ◌≡◌ {A = ℕ} 0 1 = cc in omega arith), λ h. absurd (number_some x (sym h ∙ sym z)));
     }
 case_of d (Refused x) r K e =
     let z = ap (λ (y : Report). y.refusal) e in
-    let k = ap (λ (y : Report). y.listed) e in
-    let some = number x z k in
     record {
-      clean = (λ h. absurd (let q : ◌≡◌ {A = ℕ} 0 1 = cc in omega arith), λ h. absurd (omega (arith, h.0)));
-      changed = (λ h. absurd (let y = h.1 in let q : ◌≡◌ {A = ℕ} 0 1 = cc in omega arith), λ h. absurd (omega (arith, h.0)));
-      refused = λ y. (λ h. let q : x ≡ y = cc in (sym z ∙ q, omega arith), λ h. ap Refused (z ∙ h.0));
+      clean = (λ h. absurd (let q : ◌≡◌ {A = ℕ} 0 1 = cc in omega arith), λ h. absurd (number_some x (z ∙ h.0)));
+      changed = (λ h. absurd (let y = h.1 in let q : ◌≡◌ {A = ℕ} 0 1 = cc in omega arith), λ h. absurd (number_some x (z ∙ h.0)));
+      refused = λ y. (λ h. let q : x ≡ y = cc in sym z ∙ ap number q, λ h. ap (λ (w : Refusal). Refused w) (number_same x y (z ∙ h)));
     }
-  where
-    number : (y : ℕ) → y ≡ r.refusal → 0 ≡ r.listed → 1 ≤ y
-    number zero z k = let m = K (sym z) (sym (ap (λ (w : Report). w.clean) e)) in absurd (omega arith)
-    number (suc y) z k = omega arith
 
 pub case_told : CaseTold
 case_told s n f d p o l a e = case_of d a (readout s n f d p o l).report (changed_lists s n f d p o l) e

@@ -1,7 +1,9 @@
 -- 01's reading (SPEC 8), with 02's P (SPEC 19): its tests, what it says, and the list after it. Definitions only.
-use Rattle.std.specs.Prelude.{Bool, true, false, ◌&&◌, ◌||◌, List, [], ◌∷◌, ◌++◌, ℕ, eqb, leb, ltb, length, take}
+use Rattle.std.specs.Prelude.{Bool, true, false, ◌&&◌, ◌||◌, List, [], ◌∷◌, ◌++◌, ℕ, eqb, leb, ltb, length, take, Result}
 use Rattle.evidence.specs.Evidence.{listing, accepted}
-use Rattle.refusals.specs.Refusals.{Test, ◌or_refuse◌, first_refusal, unless_refused, front_written}
+use Rattle.refusals.specs.Refusals.{Test, ◌or_refuse◌, tested, number, number_of, unless_refused, front_written}
+use Rattle.refusals.specs.declared.Refusal.{Refusal}
+use Rattle.refusals.specs.declared.Refusal.TheVariants as cause
 use Rattle.layouts.specs.Layouts.{divides, layout_tests, chains}
 use Rattle.reading.specs.Numbers.{low_of, last_good_day}
 use Rattle.reading.specs.declared.Reading.{Reading}
@@ -39,7 +41,7 @@ report_of d (Changed m) =
       high = m.high;
       last_good = m.last_good;
     }
-report_of d (Refused number) = refused_report number
+report_of d (Refused refusal) = refused_report (number refusal)
 
 -- 01's five numbers (SPEC 8.6), in 01's order
 abbrev pub five_numbers : Report → List ℕ
@@ -59,14 +61,14 @@ bits (o ∷ os) = (eqb o 0 || eqb o 1) && bits os
 -- 01's tests 12 13 14 (SPEC 10.12, 10.13, 10.14)
 abbrev pub outcome_tests : ℕ → ℕ → ℕ → List ℕ → List Test
 outcome_tests scheme n d outcomes =
-    leb (length (chains scheme n d)) (length outcomes) or_refuse 12 ∷
-    bits (table_in scheme n d outcomes) or_refuse 13 ∷
-    accepted (chains scheme n d) d (table_in scheme n d outcomes) or_refuse 14 ∷
+    leb (length (chains scheme n d)) (length outcomes) or_refuse cause.FewOutcomes ∷
+    bits (table_in scheme n d outcomes) or_refuse cause.BadOutcome ∷
+    accepted (chains scheme n d) d (table_in scheme n d outcomes) or_refuse cause.NoSet ∷
     []
 
 -- 01's tests 8 12 13 14 (SPEC 10.8); places is the list's length
 abbrev pub table_tests : ℕ → ℕ → ℕ → List ℕ → ℕ → List Test
-table_tests scheme n d outcomes places = leb d places or_refuse 8 ∷ outcome_tests scheme n d outcomes
+table_tests scheme n d outcomes places = leb d places or_refuse cause.ShortBuffer ∷ outcome_tests scheme n d outcomes
 
 -- the P that 02 allows (SPEC 19.3): below D, and N divides it
 abbrev pub allowed_passed : ℕ → ℕ → ℕ → Bool
@@ -74,18 +76,24 @@ allowed_passed n d passed = ltb passed d && divides n passed
 
 -- 01's tests 1 2 3 7, then 02's test 19 (SPEC 10.19)
 abbrev pub passed_tests : ℕ → ℕ → ℕ → ℕ → ℕ → List Test
-passed_tests scheme n f d passed = layout_tests scheme n f d ++ (allowed_passed n d passed or_refuse 19 ∷ [])
+passed_tests scheme n f d passed = layout_tests scheme n f d ++ (allowed_passed n d passed or_refuse cause.BadPassed ∷ [])
 
-unfoldable pub passed_refusal : ℕ → ℕ → ℕ → ℕ → ℕ → ℕ
-passed_refusal scheme n f d passed = first_refusal (passed_tests scheme n f d passed)
+unfoldable pub passed_tested : ℕ → ℕ → ℕ → ℕ → ℕ → Result Unit Refusal
+passed_tested scheme n f d passed = tested (passed_tests scheme n f d passed)
+
+abbrev pub passed_refusal : ℕ → ℕ → ℕ → ℕ → ℕ → ℕ
+passed_refusal scheme n f d passed = number_of (passed_tested scheme n f d passed)
 
 -- tests 1 2 3 7 19 8 12 13 14 (SPEC 11.5)
 abbrev pub read_tests : ℕ → ℕ → ℕ → ℕ → ℕ → List ℕ → ℕ → List Test
 read_tests scheme n f d passed outcomes places =
     passed_tests scheme n f d passed ++ table_tests scheme n d outcomes places
 
-unfoldable pub read_refusal : ℕ → ℕ → ℕ → ℕ → ℕ → List ℕ → ℕ → ℕ
-read_refusal scheme n f d passed outcomes places = first_refusal (read_tests scheme n f d passed outcomes places)
+unfoldable pub read_tested : ℕ → ℕ → ℕ → ℕ → ℕ → List ℕ → ℕ → Result Unit Refusal
+read_tested scheme n f d passed outcomes places = tested (read_tests scheme n f d passed outcomes places)
+
+abbrev pub read_refusal : ℕ → ℕ → ℕ → ℕ → ℕ → List ℕ → ℕ → ℕ
+read_refusal scheme n f d passed outcomes places = number_of (read_tested scheme n f d passed outcomes places)
 
 -- ---- the call
 

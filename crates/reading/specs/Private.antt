@@ -3,6 +3,7 @@
 use Rattle.std.specs.Prelude.{◌≡◌, true, List, [], ◌∷◌, ℕ, ◌-◌, ◌*◌, ◌/◌, ◌≤◌, min, max, fold}
 use Rattle.evidence.specs.Evidence.{accepted}
 use Rattle.refusals.specs.Refusals.{book_limit, Test, ◌or_refuse◌}
+use Rattle.refusals.specs.declared.Refusal.TheVariants as cause
 use Rattle.layouts.specs.Layouts.{divides, allowed_scheme, allowed_n, chains}
 use Rattle.acceptance.specs.Private.{Table}
 use Rattle.reading.specs.Numbers.{low_of}
@@ -26,7 +27,8 @@ least t = fold min 1 t
 
 -- 01's tests 13 14, of a table
 abbrev pub given_tests : ℕ → ℕ → ℕ → List ℕ → List Test
-given_tests scheme n d t = bits t or_refuse 13 ∷ accepted (chains scheme n d) d t or_refuse 14 ∷ []
+given_tests scheme n d t =
+    bits t or_refuse cause.BadOutcome ∷ accepted (chains scheme n d) d t or_refuse cause.NoSet ∷ []
 
 -- what no refusal leaves: a table that some set gives, and places for its days
 pub record Given (scheme n d : ℕ) (t : List ℕ) (places : ℕ) : Type 0 where

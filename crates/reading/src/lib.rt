@@ -5,15 +5,17 @@ pub mod answers;
 
 ghost use Rattle.std.specs.Prelude.{◌≡◌, ◌++◌, ◌≤◌, length, drop};
 ghost use Rattle.evidence.specs.Evidence.{listing};
-ghost use Rattle.refusals.specs.Refusals.{first_refusal};
+ghost use Rattle.refusals.specs.Refusals.{tested};
 ghost use Rattle.layouts.specs.Layouts.{chains};
 ghost use Rattle.acceptance.specs.Private.{Table};
 ghost use Rattle.reading.specs.Numbers.{last_good_day};
 ghost use Rattle.reading.specs.Contract as answer;
-ghost use Rattle.reading.specs.Contract.{report_of, allowed_passed, passed_refusal, table_tests, read_refusal};
+ghost use Rattle.reading.specs.Contract.{report_of, allowed_passed, passed_tested, table_tests, read_tested};
 ghost use Rattle.reading.specs.Contract.{found, readout};
 ghost use Rattle.reading.specs.Private.{Layout, given_tests, Given, numbers_of};
 ghost use Rattle.reading.specs.Private as private;
+
+use refusals::Refusal;
 
 // 01's numbers of a changed table.
 #[derive(Clone, Copy, Default)]
@@ -29,7 +31,7 @@ pub struct Numbers {
 pub enum Reading {
     Clean,
     Changed(Numbers),
-    Refused(u32),
+    Refused(Refusal),
 }
 
 // ---- the tests
@@ -56,35 +58,42 @@ fn bits(t: &[u8]) -> bool
 
 // Tests 13 14. A table of passes, the usual one, needs no other test.
 #[tactic(auto, using(crate::proofs::RefusalLaws::given_laws))]
-fn given_refusal(scheme: u32, n: u32, d: u32, t: &[u8]) -> u32
+fn test_given(scheme: u32, n: u32, d: u32, t: &[u8]) -> Result<(), Refusal>
     requires { Table scheme n d t.now }
-    ensures { result ≡ first_refusal (given_tests scheme n d t.now) }
+    ensures { result ≡ tested (given_tests scheme n d t.now) }
 {
     if !bits(t) {
-        return 13;
+        return Err(Refusal::BadOutcome);
     }
     if least(t) == 1 {
-        return 0;
+        return Ok(());
     }
     if !acceptance::accepts(scheme, n, d, t) {
-        return 14;
+        return Err(Refusal::NoSet);
     }
-    0
+    Ok(())
 }
 
-// Tests 8 12 13 14, for a layout that is allowed: the number of the first that finds its cause, or 0.
-pub fn table_refusal(scheme: u32, n: u32, d: u32, outcomes: &[u8], places: usize) -> u32
+// Tests 8 12 13 14, for a layout that is allowed.
+#[tactic(auto, using(crate::proofs::RefusalLaws::table_laws))]
+pub fn test_table(
+    scheme: u32,
+    n: u32,
+    d: u32,
+    outcomes: &[u8],
+    places: usize,
+) -> Result<(), Refusal>
     requires { Layout scheme n d }
-    ensures { result ≡ first_refusal (table_tests scheme n d outcomes.now places) }
+    ensures { result ≡ tested (table_tests scheme n d outcomes.now places) }
 {
     if places < d as usize {
-        return 8;
+        return Err(Refusal::ShortBuffer);
     }
     let values = layouts::values_through(scheme, n, d) as usize;
     if outcomes.len() < values {
-        return 12;
+        return Err(Refusal::FewOutcomes);
     }
-    given_refusal(scheme, n, d, &outcomes[..values])
+    test_given(scheme, n, d, &outcomes[..values])
 }
 
 // P is below d, and n divides it.
@@ -96,28 +105,32 @@ fn allowed_passed(n: u32, d: u32, passed: u32) -> bool
 }
 
 // Tests 1 2 3 7 19.
-pub fn passed_refusal(scheme: u32, n: u32, f: u32, d: u32, passed: u32) -> u32
-    ensures { result ≡ passed_refusal scheme n f d passed }
+#[tactic(auto, using(crate::proofs::RefusalLaws::passed_laws))]
+pub fn test_passed(scheme: u32, n: u32, f: u32, d: u32, passed: u32) -> Result<(), Refusal>
+    ensures { result ≡ passed_tested scheme n f d passed }
 {
-    let r = layouts::layout_refusal(scheme, n, f, d);
-    if r != 0 {
-        return r;
-    }
+    layouts::test_layout(scheme, n, f, d)?;
     if !allowed_passed(n, d, passed) {
-        return 19;
+        return Err(Refusal::BadPassed);
     }
-    0
+    Ok(())
 }
 
 // Tests 1 2 3 7 19 8 12 13 14 (SPEC 11.5).
-fn refusal(scheme: u32, n: u32, f: u32, d: u32, passed: u32, outcomes: &[u8], places: usize) -> u32
-    ensures { result ≡ read_refusal scheme n f d passed outcomes.now places }
+#[tactic(auto, using(crate::proofs::RefusalLaws::read_laws))]
+fn test(
+    scheme: u32,
+    n: u32,
+    f: u32,
+    d: u32,
+    passed: u32,
+    outcomes: &[u8],
+    places: usize,
+) -> Result<(), Refusal>
+    ensures { result ≡ read_tested scheme n f d passed outcomes.now places }
 {
-    let r = passed_refusal(scheme, n, f, d, passed);
-    if r != 0 {
-        return r;
-    }
-    table_refusal(scheme, n, d, outcomes, places)
+    test_passed(scheme, n, f, d, passed)?;
+    test_table(scheme, n, d, outcomes, places)
 }
 
 // ---- the answer
@@ -166,9 +179,8 @@ pub fn read(
     ensures list_after { list.new ≡
         (readout scheme n f d passed outcomes.now list.old).list }
 {
-    let r = refusal(scheme, n, f, d, passed, outcomes, list.len());
-    if r != 0 {
-        return Reading::Refused(r);
+    if let Err(refusal) = test(scheme, n, f, d, passed, outcomes, list.len()) {
+        return Reading::Refused(refusal);
     }
     let values = layouts::values_through(scheme, n, d) as usize;
     read_table(scheme, n, d, passed, &outcomes[..values], list)

@@ -1,10 +1,10 @@
 -- Laws of the tests of a call: the first that fails, none that fails; and of what a refusal leaves.
 use mathlib.Core.{Path.◌≡◌, Path.refl, Path.sym, Path.ap, Path.◌∙◌, Bool.Bool, Bool.true, Bool.false, Bool.not, Bool.◌&&◌}
 use mathlib.Core.List.{List, [], ◌∷◌, ◌++◌}
-use Prim.Native.Nat.{ℕ, zero, suc}
+use Prim.Native.Nat.{ℕ, zero, suc, pred}
 use native.Mathlib.{Decide.ℕ_discrete, Omega.arith}
 use borrow.Author.Tests.{not-true, not-false, eq-eqb}
-use lib.{Dec.eqb, ListN.length, ListN.drop}
+use lib.{Dec.eqb, ListN.length, ListN.drop, ListN.get_or}
 use Rattle.std.specs.Prelude.{Result, Ok, Err}
 use Rattle.lists.proofs.Laws.{true_or_false, and_both}
 use Rattle.refusals.specs.declared.Refusal.{Refusal}
@@ -46,6 +46,59 @@ number_some cause.NotInBook e = omega arith
 number_some cause.BadPassed e = omega arith
 number_some cause.NotTree e = omega arith
 number_some cause.BadCount e = omega arith
+
+-- a number says its cause
+causes : List Refusal
+causes =
+    cause.BadScheme ∷
+    cause.BadN ∷
+    cause.BadF ∷
+    cause.LongDay ∷
+    cause.LastSeasonFull ∷
+    cause.BadRecord ∷
+    cause.BadD ∷
+    cause.ShortBuffer ∷
+    cause.FewEnds ∷
+    cause.BadEnd ∷
+    cause.ShortBook ∷
+    cause.FewOutcomes ∷
+    cause.BadOutcome ∷
+    cause.NoSet ∷
+    cause.BadText ∷
+    cause.FewLengths ∷
+    cause.LongLength ∷
+    cause.NotInBook ∷
+    cause.BadPassed ∷
+    cause.NotTree ∷
+    cause.BadCount ∷
+    []
+
+at_cause : (r : Refusal) → get_or causes (pred (number r)) cause.BadScheme ≡ r
+unfolding causes
+at_cause cause.BadScheme = refl
+at_cause cause.BadN = refl
+at_cause cause.BadF = refl
+at_cause cause.LongDay = refl
+at_cause cause.LastSeasonFull = refl
+at_cause cause.BadRecord = refl
+at_cause cause.BadD = refl
+at_cause cause.ShortBuffer = refl
+at_cause cause.FewEnds = refl
+at_cause cause.BadEnd = refl
+at_cause cause.ShortBook = refl
+at_cause cause.FewOutcomes = refl
+at_cause cause.BadOutcome = refl
+at_cause cause.NoSet = refl
+at_cause cause.BadText = refl
+at_cause cause.FewLengths = refl
+at_cause cause.LongLength = refl
+at_cause cause.NotInBook = refl
+at_cause cause.BadPassed = refl
+at_cause cause.NotTree = refl
+at_cause cause.BadCount = refl
+
+pub number_same : (a b : Refusal) → number a ≡ number b → a ≡ b
+number_same a b e = sym (at_cause a) ∙ ap (λ (x : ℕ). get_or causes (pred x) cause.BadScheme) e ∙ at_cause b
 
 -- ---- none fails
 
