@@ -35,12 +35,12 @@ module _ (s n f d : ℕ) (ends : List ℕ) (size room : ℕ) where
     unfolding ledger_refusal seal_refusal
     ledger_refuses h = refused_before (ledger_tests s n f d ends size) last_test e h
 
-    module _ (z : x ≡ 0) {k u : ℕ} (c : k ≡ length (chains s n d)) (v : u ≡ k) where
-      pub book_short : room < 32 * u → 8 ≡ seal_refusal s n f d ends size room
+    module _ (z : x ≡ 0) {k : ℕ} (c : k ≡ length (chains s n d)) where
+      pub book_short : room < 32 * k → 8 ≡ seal_refusal s n f d ends size room
       unfolding ledger_refusal seal_refusal
       book_short h = last_fails (ledger_tests s n f d ends size) (leb (32 * length (chains s n d)) room) 8 refl e z (lt-leb (32 * length (chains s n d)) room (omega arith))
 
-      pub none_refuses : 32 * u ≤ room → 0 ≡ seal_refusal s n f d ends size room
+      pub none_refuses : 32 * k ≤ room → 0 ≡ seal_refusal s n f d ends size room
       unfolding ledger_refusal seal_refusal
       none_refuses h = last_passes (ledger_tests s n f d ends size) (leb (32 * length (chains s n d)) room) 8 refl e z (le-leb (32 * length (chains s n d)) room (omega arith))
 
@@ -95,9 +95,6 @@ module _ {s n f d : ℕ} {ledger ends old : List ℕ} (ok : Sealable s n f d led
       omega (arith, sealed_length i, ok.room)
 
   module _ {i at : ℕ} {r : Record} {book : List ℕ} (t : Through s n f ledger ends old i at r book) where
-    pub place_within : i ≤ d → at ≤ length book
-    place_within h = omega (arith, sealed_fits i h, t.at_is, t.same_length)
-
     pub all_sealed : i ≡ d → book ≡ front_written 0 (book_of s n (sealed d)) old
     all_sealed e =
         t.book_is ∙ ap₂ (λ (x y : ℕ). book_of s n (sealed x) ++ drop y old) e (t.at_is ∙ ap (λ (x : ℕ). length (book_of s n (sealed x))) e)
@@ -152,16 +149,16 @@ module _ {s n f d : ℕ} {ledger ends old : List ℕ} (ok : Sealable s n f d led
       during_kept : Keeps s n f during (added r day).state
       during_kept = taken_add t.keeps day add_taken
 
-      pub day_sealed : (bytes next : List ℕ) (c : Closed) (k w : ℕ) → bytes ≡ day → c ≡ (closing (added r bytes).state rest).result →
-          next ≡ (closing (added r bytes).state rest).part → k ≡ count_of c.answer → w ≡ k →
-          (at + 32 * w ≤ length old) × Through s n f ledger ends old (i + 1) (at + 32 * w) c.state (put_mid at (length book - at) book next)
-      day_sealed bytes next c k w eb ec en ek ew = (rw count_is room_left, rw (count_is, add-one i) after)
+      pub day_sealed : (bytes next : List ℕ) (c : Closed) (k : ℕ) → bytes ≡ day → c ≡ (closing (added r bytes).state rest).result →
+          next ≡ (closing (added r bytes).state rest).part → k ≡ count_of c.answer →
+          Through s n f ledger ends old (i + 1) (at + 32 * k) c.state (put_mid at (length book - at) book next)
+      day_sealed bytes next c k eb ec en ek = rw (count_is, add-one i) after
         where
           closed_is : c ≡ (closing (added r day).state rest).result
           closed_is = ec ∙ ap (λ (x : List ℕ). (closing (added r x).state rest).result) eb
 
-          count_is : w ≡ day_count
-          count_is = ew ∙ ek ∙ ap (λ (x : Closed). count_of x.answer) closed_is ∙ taken_count during_kept rest close_taken
+          count_is : k ≡ day_count
+          count_is = ek ∙ ap (λ (x : Closed). count_of x.answer) closed_is ∙ taken_count during_kept rest close_taken
 
           next_is : next ≡ day_values ++ drop (32 * day_count) rest
           next_is = en ∙ ap (λ (x : List ℕ). (closing (added r x).state rest).part) eb ∙ taken_part during_kept rest close_taken

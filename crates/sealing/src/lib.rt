@@ -19,7 +19,7 @@ fn seal_refusal(scheme: u32, n: u32, f: u32, d: u32, ends: &[u32], size: usize, 
         return x;
     }
     let k = layouts::values_through(scheme, n, d);
-    if room < 32 * buffers::wide(k) {
+    if room < 32 * k as usize {
         return 8;
     }
     0
@@ -32,23 +32,14 @@ fn seal_days(scheme: u32, n: u32, f: u32, d: u32, ledger: &[u8], ends: &[u32], b
     ensures { book.new ≡
         front_written 0 (book_of scheme n (days_of ledger.now ends.now d)) book.old }
 {
-    let opened = service::open(scheme, n, f);
-    let mut state = opened.state;
-    let mut at = 0usize;
-    let mut i = 0usize;
-    let days = buffers::wide(d);
-    while i < days {
-        let a = ledger::start_of(ends, i);
-        let e = ledger::end_of(ends, i);
-        let x = service::add(state, &ledger[a..e]);
-        let grown = x.state;
-        let c = service::close(grown, &mut book[at..]);
-        let answer = c.answer;
-        let next = c.state;
-        state = next;
-        let k = service::count_of(answer);
-        at = at + 32 * buffers::wide(k);
-        i += 1;
+    let mut state = service::open(scheme, n, f).state;
+    let mut at = 0;
+    for i in 0..d as usize {
+        let day = &ledger[ledger::start_of(ends, i)..ledger::end_of(ends, i)];
+        let added = service::add(state, day);
+        let closed = service::close(added.state, &mut book[at..]);
+        state = closed.state;
+        at += 32 * service::count_of(closed.answer) as usize;
     }
 }
 

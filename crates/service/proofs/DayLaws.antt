@@ -7,7 +7,7 @@ use native.Mathlib.Numerals.{add-one}
 use native.Mathlib.Omega.{arith}
 use lib.ListN.{length, get_or, take, length-append}
 use lib.Seq.{take-suc}
-use Rattle.refusals.specs.Refusals.{book_limit}
+use Rattle.refusals.specs.Refusals.{book_limit, day_limit}
 use Rattle.buffers.specs.Private.{Wrote}
 use Rattle.buffers.proofs.Writes.{wrote_join}
 use Rattle.sha256_words.specs.Words.{bytes_of}
@@ -37,6 +37,12 @@ day_asks r o =
     let u = setup_asks r (allowed_is r o.allowed) in
     (u.0, u.1, omega arith, omega (arith, o.day_left))
 
+pub open_bytes : (r : Record) → Open r → r.bytes ≤ day_limit
+open_bytes r o = (allowed_is r o.allowed).bytes_most
+
+pub open_n : (r : Record) → Open r → allowed_n r.n ≡ true
+open_n r o = (day_asks r o).1
+
 -- ---- the chains with the day linked, by scheme
 
 module _ (r : Record) {h : List ℕ} {b : Value} (eh : h ≡ digest_of r) (eb : b ≡ linked r.black h) where
@@ -57,6 +63,8 @@ module _ (r : Record) {h : List ℕ} {b : Value} (eh : h ≡ digest_of r) (eb : 
       let s = allowed_scheme_is r.scheme a in
       let one : r.scheme ≡ 1 = omega (arith, x, y) in
       slots_of (e ∙ rw one (black_slots r.n (r.days + 1) h r.running))
+
+pub ruleset day_links = (open_bytes, open_n, tiles_linked, levels_linked_lem, black_linked)
 
 -- ---- the day's values, the record after it
 

@@ -1,12 +1,13 @@
 -- Tests 6 and 5 of a record: what they say, and which of them refuses; the turn to the next season.
 use mathlib.Core.Path.{◌≡◌, refl, sym, ap, ◌∙◌}
 use mathlib.Core.Logic.{inl, inr}
-use mathlib.Core.Bool.{Bool, true, false, not, ◌&&◌, ◌||◌, cond}
+use Rattle.std.specs.Prelude.{◌≢◌}
+use mathlib.Core.Bool.{Bool, true, false, ◌&&◌, ◌||◌, cond}
 use Prim.Native.Nat.{ℕ, ◌≤◌, ◌<◌}
 use native.Mathlib.Omega.{arith}
 use lib.Dec.{eqb, leb, ltb}
 use lib.ListN.{length}
-use borrow.Author.Tests.{leb-true, le-leb, lt-leb, ltb-true, ltb-false, lt-ltb, le-ltb, eqb-true, eq-eqb, not-true, not-false}
+use borrow.Author.Tests.{leb-true, le-leb, lt-leb, ltb-true, ltb-false, lt-ltb, le-ltb, eqb-true, eq-eqb}
 use Rattle.lists.proofs.Laws.{split, and_both, or_split}
 use Rattle.refusals.specs.Refusals.{book_limit, day_limit, last_season}
 use Rattle.refusals.proofs.TestLaws.{none_fails, all_pass}
@@ -64,6 +65,9 @@ module _ (r : Record) {x : ℕ} (e : x ≡ setup_refusal r.scheme r.n r.f) (z : 
   pub allowed_before : r.days < book_limit → true ≡ allowed_record r
   allowed_before l = ap (λ (y : Bool). y || eqb r.bytes 0) (sym (lt-ltb r.days book_limit l)) ∙ last_decides
 
+  pub before_decides : r.days < book_limit → ltb r.days book_limit ≡ allowed_record r
+  before_decides l = lt-ltb r.days book_limit l ∙ allowed_before l
+
   pub allowed_full : book_limit ≤ r.days → eqb r.bytes 0 ≡ allowed_record r
   allowed_full l = ap (λ (y : Bool). y || eqb r.bytes 0) (sym (le-ltb r.days book_limit l)) ∙ last_decides
 
@@ -81,6 +85,21 @@ not_allowed r h = go (allowed_record r) refl
     go : (b : Bool) → allowed_record r ≡ b → false ≡ b
     go true e = absurd (h (allowed_is r e))
     go false e = refl
+
+module _ (r : Record) where
+  pub setup_refused : setup_refusal r.scheme r.n r.f ≢ 0 → allowed_record r ≡ false
+  setup_refused h = sym (not_allowed r (λ a. h a.setup))
+
+  pub days_refused : book_limit < r.days → allowed_record r ≡ false
+  days_refused h = sym (not_allowed r (λ a. omega (arith, a.days_most)))
+
+  pub bytes_refused : day_limit < r.bytes → allowed_record r ≡ false
+  bytes_refused h = sym (not_allowed r (λ a. omega (arith, a.bytes_most)))
+
+  pub season_refused : last_season < r.season → allowed_record r ≡ false
+  season_refused h = sym (not_allowed r (λ a. omega (arith, a.season_most)))
+
+pub ruleset test_6 = (before_decides, allowed_full, setup_refused, days_refused, bytes_refused, season_refused)
 
 -- ---- the turn
 
@@ -162,38 +181,26 @@ current_days r t = ap (λ (q : Record). q.days) (current_turned r refl t) ∙ tu
 
 -- ---- tests 6 5
 
-module _ (r : Record) {b : Bool} (e : b ≡ allowed_record r) where
-  pub record_6 : not b ≡ true → 6 ≡ record_refusal r
-  unfolding record_refusal
-  record_6 t = rw (← e, not-true b t)
-
-  module _ (t : not b ≡ false) where
-    pub record_5 : book_limit ≤ r.days → last_season ≤ r.season → 5 ≡ record_refusal r
-    unfolding record_refusal
-    record_5 d l = rw (← e, not-false b t, current_same r refl (stays_last r l), le-ltb r.days book_limit d)
-
-    passes : (current r).days < book_limit → 0 ≡ record_refusal r
-    unfolding record_refusal
-    passes h = rw (← e, not-false b t, lt-ltb (current r).days book_limit h)
-
-    pub record_turns : book_limit ≤ r.days → r.season < last_season → 0 ≡ record_refusal r
-    record_turns d l = passes (let q = current_days r (turns_full r d l) in omega (arith, q))
-
-    pub record_0 : r.days < book_limit → 0 ≡ record_refusal r
-    record_0 h = passes (rw (current_before r h) h)
-
--- the same, told by the test itself
 pub refused_6 : (r : Record) → allowed_record r ≡ false → 6 ≡ record_refusal r
-refused_6 r e = record_6 r refl (rw e)
+unfolding record_refusal
+refused_6 r e = rw e
 
-pub refused_5 : (r : Record) → allowed_record r ≡ true → book_limit ≤ r.days → last_season ≤ r.season → 5 ≡ record_refusal r
-refused_5 r e = record_5 r refl (rw e)
+module _ (r : Record) (e : allowed_record r ≡ true) where
+  pub refused_5 : book_limit ≤ r.days → last_season ≤ r.season → 5 ≡ record_refusal r
+  unfolding record_refusal
+  refused_5 d l = rw (e, current_same r refl (stays_last r l), le-ltb r.days book_limit d)
 
-pub turns_on : (r : Record) → allowed_record r ≡ true → book_limit ≤ r.days → r.season < last_season → 0 ≡ record_refusal r
-turns_on r e = record_turns r refl (rw e)
+  passes : (current r).days < book_limit → 0 ≡ record_refusal r
+  unfolding record_refusal
+  passes h = rw (e, lt-ltb (current r).days book_limit h)
 
-pub refused_0 : (r : Record) → allowed_record r ≡ true → r.days < book_limit → 0 ≡ record_refusal r
-refused_0 r e = record_0 r refl (rw e)
+  pub turns_on : book_limit ≤ r.days → r.season < last_season → 0 ≡ record_refusal r
+  turns_on d l = passes (let q = current_days r (turns_full r d l) in omega (arith, q))
+
+  pub refused_0 : r.days < book_limit → 0 ≡ record_refusal r
+  refused_0 h = passes (rw (current_before r h) h)
+
+pub ruleset tests_6_5 = (refused_6, refused_5, turns_on, refused_0)
 
 -- what no refusal says
 pub record_passes : (r : Record) {x : ℕ} → x ≡ record_refusal r → x ≡ 0 → Allowed r × ((current r).days < book_limit)
@@ -210,16 +217,17 @@ record_open r e z =
 
 -- ---- the values so far: test 6, and what it leaves
 
-module _ (r : Record) {b : Bool} (e : b ≡ allowed_record r) where
-  pub so_far_6 : not b ≡ true → Refused 6 ≡ written_so_far r
-  unfolding written_so_far
-  so_far_6 t = rw (← e, not-true b t)
+pub so_far_6 : (r : Record) → allowed_record r ≡ false → Refused 6 ≡ written_so_far r
+unfolding written_so_far
+so_far_6 r e = rw e
 
-  pub so_far_asks : not b ≡ false → (allowed_scheme r.scheme ≡ true) × (allowed_n r.n ≡ true) × (r.days ≤ book_limit)
-  so_far_asks t =
-      let a = allowed_is r (sym e ∙ not-false b t) in
-      let u = setup_is r.scheme r.n r.f a.setup in (u.scheme_ok, u.n_ok, a.days_most)
+pub so_far_asks : (r : Record) → allowed_record r ≡ true → (allowed_scheme r.scheme ≡ true) × (allowed_n r.n ≡ true) × (r.days ≤ book_limit)
+so_far_asks r e =
+    let a = allowed_is r e in
+    let u = setup_is r.scheme r.n r.f a.setup in (u.scheme_ok, u.n_ok, a.days_most)
 
-  pub so_far_0 : not b ≡ false → (k : ℕ) → k ≡ length (chains r.scheme r.n r.days) → Wrote k ≡ written_so_far r
-  unfolding written_so_far
-  so_far_0 t k q = rw (← e, not-false b t, q)
+pub so_far_0 : (r : Record) → allowed_record r ≡ true → (k : ℕ) → k ≡ length (chains r.scheme r.n r.days) → Wrote k ≡ written_so_far r
+unfolding written_so_far
+so_far_0 r e k q = rw (e, q)
+
+pub ruleset so_far = (so_far_6, so_far_asks, so_far_0)

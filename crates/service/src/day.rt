@@ -3,38 +3,38 @@ ghost use Rattle.std.specs.Prelude.{◌≡◌, ◌+◌, ◌*◌, ◌≤◌, leng
 ghost use Rattle.refusals.specs.Refusals.{day_limit};
 ghost use Rattle.buffers.specs.Private.{Wrote};
 ghost use Rattle.chains.specs.Step.{value_bytes};
-ghost use Rattle.service.specs.Contract.{grown, digest_of, next_day};
-ghost use Rattle.service.specs.Private.{Open, After};
+ghost use Rattle.service.specs.Contract.{open_day, grown, digest_of, next_day};
+ghost use Rattle.service.specs.Private.{Open, Linked, After};
 
 use crate::Record;
 use chains::Value;
 use hasher::Hasher;
 
+// What the bytes of the open day have come to.
+fn so_far(state: Record) -> Hasher
+    ensures { result ≡ open_day state }
+{
+    let Record {
+        hash: words,
+        block,
+        ..
+    } = state;
+    Hasher { words, block }
+}
+
 // The record with the piece in its open day.
+#[tactic(auto, unfolding(crate::specs::Contract::grown))]
 pub fn grow(state: Record, piece: &[u8]) -> Record
     requires { state.bytes + length piece.now ≤ day_limit }
     ensures { result ≡ grown state piece.now }
 {
-    let words = state.hash;
-    let held = state.block;
-    let day = hasher::absorb(Hasher { words, block: held }, state.bytes as u64 + 1, piece);
-    let hash = day.words;
-    let block = day.block;
-    let black = state.black;
-    let running = state.running;
-    let start = state.start;
+    let count = u64::from(state.bytes) + 1;
+    let Hasher { words: hash, block } = hasher::absorb(so_far(state), count, piece);
     Record {
-        scheme: state.scheme,
-        n: state.n,
-        f: state.f,
-        days: state.days,
         bytes: state.bytes + piece.len() as u32,
         hash,
         block,
-        black,
-        running,
-        start,
-        season: state.season,
+        ..state
     }
 }
 
@@ -42,9 +42,29 @@ pub fn digest(state: Record) -> [u32; 8]
     requires { state.bytes ≤ day_limit }
     ensures { result ≡ digest_of state }
 {
-    let words = state.hash;
-    let block = state.block;
-    hasher::finish(Hasher { words, block }, state.bytes as u64 + 1)
+    hasher::finish(so_far(state), u64::from(state.bytes) + 1)
+}
+
+// Black and the slots with the open day linked. `chains::step` is not called for it: it would copy the slots twice more.
+#[tactic(auto, using(crate::proofs::DayLaws::day_links))]
+pub fn linked(state: Record) -> (Value, [Value; 17])
+    requires { Open state }
+    ensures { Linked state result.0 result.1 }
+{
+    let h = digest(state);
+    let slots = state.running;
+    match state.scheme {
+        2 => {
+            let t = links::tail(h);
+            let tiles = chains::link_tiles(state.n, state.days + 1, slots, h, &t);
+            (chains::link_by(state.black, h, &t), tiles)
+        }
+        3 => (
+            chains::link_value(state.black, h),
+            chains::link_levels(slots, h),
+        ),
+        _ => (chains::link_value(state.black, h), slots),
+    }
 }
 
 // Writes the first k values to the front of the part.
@@ -52,13 +72,8 @@ pub fn write(part: &mut [u8], values: [Value; 17], k: u32)
     requires { (k ≤ 17) × (32 * k ≤ length part.old) }
     ensures { Wrote 0 (value_bytes (take k values)) part.old (32 * k) part.new }
 {
-    let mut i = 0u32;
-    while i < k {
-        let v = values[i as usize];
-        let w = v.words;
-        let b = sha256_words::bytes(w);
-        buffers::put(part, 32 * buffers::wide(i), &b);
-        i += 1;
+    for i in 0..k as usize {
+        buffers::put(part, 32 * i, &sha256_words::bytes(values[i].words));
     }
 }
 
@@ -67,21 +82,14 @@ pub fn next(state: Record, black: Value, running: [Value; 17]) -> Record
     requires { Open state × After state black running }
     ensures { result ≡ next_day state }
 {
-    let day = hasher::begin(0);
-    let hash = day.words;
-    let block = day.block;
-    let start = state.start;
+    let Hasher { words: hash, block } = hasher::begin(0);
     Record {
-        scheme: state.scheme,
-        n: state.n,
-        f: state.f,
         days: state.days + 1,
         bytes: 0,
         hash,
         block,
         black,
         running,
-        start,
-        season: state.season,
+        ..state
     }
 }

@@ -104,7 +104,7 @@ fn add_refusal(state: Record, size: usize) -> u32
     if x != 0 {
         return x;
     }
-    if buffers::wide(refusals::DAY_LIMIT - state.bytes) < size {
+    if size > (refusals::DAY_LIMIT - state.bytes) as usize {
         return 4;
     }
     0
@@ -138,52 +138,29 @@ fn close_refusal(state: Record, size: usize) -> u32
         return x;
     }
     let k = layouts::values_of_day(state.scheme, state.n, records::open_day(state));
-    if size < 32 * buffers::wide(k) {
+    if size < 32 * k as usize {
         return 8;
     }
     0
 }
 
-// The open day closed. Its digest is linked to the record's own chains, with no step between: a step would copy the
-// slots twice more. Most days of black and of tiles have no values.
+// The open day closed. Most days of black and of tiles have no values.
 fn close_day(state: Record, part: &mut [u8]) -> Closed
     requires { Open state × (32 * day_count state ≤ length part.old) }
     ensures { ClosedDay state part.old result part.new }
 {
     let g = state.days + 1;
     let k = layouts::values_of_day(state.scheme, state.n, g);
-    let h = day::digest(state);
-    let old = state.black;
-    let mut black = old;
-    let mut running = state.running;
-    if state.scheme == 2 {
-        let t = links::tail(h);
-        let b = chains::link_by(old, h, &t);
-        let r = chains::link_tiles(state.n, g, running, h, &t);
-        black = b;
-        running = r;
-    } else {
-        let b = chains::link_value(old, h);
-        black = b;
+    let (black, mut running) = day::linked(state);
+    if k > 0 {
+        let values = chains::day_values(state.scheme, state.n, g, k, black, running);
+        day::write(part, values, k);
+        let again = chains::restart_slots(state.scheme, state.n, g, state.start, running);
+        running = again;
     }
-    if state.scheme == 3 {
-        let r = chains::link_levels(running, h);
-        running = r;
-    }
-    if k == 0 {
-        return Closed {
-            answer: Writing::Wrote(0),
-            state: day::next(state, black, running),
-            blocks: blocks::of_close(state),
-        };
-    }
-    let values = chains::day_values(state.scheme, state.n, g, k, black, running);
-    day::write(part, values, k);
-    let start = state.start;
-    let again = chains::restart_slots(state.scheme, state.n, g, start, running);
     Closed {
         answer: Writing::Wrote(k),
-        state: day::next(state, black, again),
+        state: day::next(state, black, running),
         blocks: blocks::of_close(state),
     }
 }
@@ -206,6 +183,7 @@ pub fn close(state: Record, part: &mut [u8]) -> Closed
 }
 
 // Our own call: the number of values of the days closed. Test 6 (SPEC 15.5).
+#[tactic(auto, using(crate::proofs::RecordLaws::so_far))]
 pub fn values_so_far(state: Record) -> Writing
     ensures { result ≡ written_so_far state }
 {

@@ -8,15 +8,14 @@ ghost use Rattle.service.specs.Private.{record_refusal};
 
 use crate::Record;
 use chains::Value;
+use hasher::Hasher;
 
-pub fn fresh(scheme: u32, n: u32, f: u32) -> Record
-    requires { setup_refusal scheme n f ≡ 0 }
-    ensures { result ≡ spec.fresh scheme n f }
+// Day 1 of a season: no day closed, no byte in the open day, each chain at the start.
+#[tactic(auto, unfolding(crate::specs::Contract::at_start))]
+fn at_start(scheme: u32, n: u32, f: u32, start: Value, season: u32) -> Record
+    ensures { result ≡ spec.at_start scheme n f start season }
 {
-    let day = hasher::begin(0);
-    let hash = day.words;
-    let block = day.block;
-    let start = chains::start(scheme, n);
+    let Hasher { words: hash, block } = hasher::begin(0);
     Record {
         scheme,
         n,
@@ -28,10 +27,19 @@ pub fn fresh(scheme: u32, n: u32, f: u32) -> Record
         black: start,
         running: [start; 17],
         start,
-        season: 0,
+        season,
     }
 }
 
+#[tactic(auto, unfolding(crate::specs::Contract::fresh))]
+pub fn fresh(scheme: u32, n: u32, f: u32) -> Record
+    requires { setup_refusal scheme n f ≡ 0 }
+    ensures { result ≡ spec.fresh scheme n f }
+{
+    at_start(scheme, n, f, chains::start(scheme, n), 0)
+}
+
+#[tactic(auto, unfolding(crate::specs::Contract::zeros, crate::specs::Contract::no_value))]
 pub fn zeros() -> Record
     ensures { result ≡ spec.zeros }
 {
@@ -52,39 +60,30 @@ pub fn zeros() -> Record
 }
 
 // Test 6.
+#[tactic(auto, using(crate::proofs::RecordLaws::test_6))]
 pub fn allowed(state: Record) -> bool
     ensures { result ≡ allowed_record state }
 {
-    if layouts::setup_refusal(state.scheme, state.n, state.f) != 0 {
+    if layouts::setup_refusal(state.scheme, state.n, state.f) != 0
+        || state.days > refusals::BOOK_LIMIT
+        || state.bytes > refusals::DAY_LIMIT
+        || state.season > refusals::LAST_SEASON
+    {
         return false;
     }
-    if refusals::BOOK_LIMIT < state.days {
-        return false;
-    }
-    if refusals::DAY_LIMIT < state.bytes {
-        return false;
-    }
-    if refusals::LAST_SEASON < state.season {
-        return false;
-    }
-    if state.days < refusals::BOOK_LIMIT {
-        return true;
-    }
-    state.bytes == 0
+    state.days < refusals::BOOK_LIMIT || state.bytes == 0
 }
 
 // Tests 6 5.
-#[tactic(auto, using(crate::proofs::RecordLaws::refused_6, crate::proofs::RecordLaws::refused_5, crate::proofs::RecordLaws::turns_on, crate::proofs::RecordLaws::refused_0))]
+#[tactic(auto, using(crate::proofs::RecordLaws::tests_6_5))]
 pub fn refusal(state: Record) -> u32
     ensures { result ≡ record_refusal state }
 {
     if !allowed(state) {
         return 6;
     }
-    if refusals::BOOK_LIMIT <= state.days {
-        if refusals::LAST_SEASON <= state.season {
-            return 5;
-        }
+    if refusals::BOOK_LIMIT <= state.days && refusals::LAST_SEASON <= state.season {
+        return 5;
     }
     0
 }
@@ -95,36 +94,24 @@ pub fn refusal(state: Record) -> u32
 pub fn turns(state: Record) -> bool
     ensures { result ≡ spec.turns state }
 {
-    if state.days < refusals::BOOK_LIMIT {
-        return false;
-    }
-    state.season < refusals::LAST_SEASON
+    refusals::BOOK_LIMIT <= state.days && state.season < refusals::LAST_SEASON
 }
 
 // The next season: as an open gives it, with the record's own start.
+#[tactic(auto, unfolding(crate::specs::Contract::turned))]
 pub fn turned(state: Record) -> Record
     requires { state.season < last_season }
     ensures { result ≡ spec.turned state }
 {
-    let empty = hasher::begin(0);
-    let hash = empty.words;
-    let block = empty.block;
-    let black = state.start;
-    let slot = state.start;
-    let start = state.start;
-    Record {
-        scheme: state.scheme,
-        n: state.n,
-        f: state.f,
-        days: 0,
-        bytes: 0,
-        hash,
-        block,
-        black,
-        running: [slot; 17],
+    let Record {
+        scheme,
+        n,
+        f,
         start,
-        season: state.season + 1,
-    }
+        season,
+        ..
+    } = state;
+    at_start(scheme, n, f, start, season + 1)
 }
 
 // The day that a close closes.
@@ -132,18 +119,13 @@ pub fn open_day(state: Record) -> u32
     requires { record_refusal state ≡ 0 }
     ensures { result ≡ suc (spec.current state).days }
 {
-    if turns(state) {
-        return 1;
-    }
-    state.days + 1
+    if turns(state) { 1 } else { state.days + 1 }
 }
 
 // The record that a call is made on.
+#[tactic(auto, unfolding(crate::specs::Contract::current))]
 pub fn current(state: Record) -> Record
     ensures { result ≡ spec.current state }
 {
-    if turns(state) {
-        return turned(state);
-    }
-    state
+    if turns(state) { turned(state) } else { state }
 }

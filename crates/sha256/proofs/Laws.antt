@@ -14,14 +14,6 @@ use Rattle.sha256.specs.Sha256.{summed, compress, chunks, blocks, wide, padding,
 drop_more : (n : ℕ) (l : List ℕ) → drop (n * 64) (drop 64 l) ≡ drop (suc n * 64) l
 drop_more n l = let e : suc n * 64 ≡ 64 + n * 64 = omega (arith, suc-mul n 64) in rw e (drop-drop (n * 64) 64 l)
 
--- n blocks and one more, at the end
-pub chunks_snoc : (n : ℕ) (h l : List ℕ) → chunks (suc n) h l ≡ compress (chunks n h l) (words (take 64 (drop (n * 64) l)))
-unfolding chunks
-chunks_snoc zero h l = refl
-chunks_snoc (suc n) h l =
-    chunks_snoc n (compress h (words (take 64 l))) (drop 64 l)
-    ∙ ap (λ (k : List ℕ). compress (chunks n (compress h (words (take 64 l))) (drop 64 l)) (words (take 64 k))) (drop_more n l)
-
 -- what stands after the blocks is not read
 pub chunks_append : (n : ℕ) (h l r : List ℕ) → n * 64 ≤ length l → chunks n h (l ++ r) ≡ chunks n h l
 unfolding chunks

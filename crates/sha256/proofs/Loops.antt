@@ -1,24 +1,10 @@
--- The steps of the loops over the blocks of a slice and the words of a hash value.
+-- The loops over the blocks of a slice and the words of a hash value.
 -- Assumes nothing.
-use Prim.Native.Nat.{ℕ, ◌+◌, ◌-◌, ◌*◌, ◌/◌}
-use mathlib.Core.{Path.◌≡◌, Path.refl, Path.ap, Path.◌∙◌, List.List}
-use native.Mathlib.{Omega.arith, Numerals.add-one}
-use lib.ListN.{length, take, drop}
-use Rattle.sha256_words.specs.Words.{words}
-use Rattle.sha256.specs.Sha256.{compress, chunks, blocks}
-use Rattle.sha256.proofs.Laws.{chunks_snoc}
+use Rattle.std.proofs.Common.{◌≡◌, ℕ, ◌<◌, List, length, get_or}
+use Rattle.std.proofs.lemmas.List.FromFn.{fill_by_all}
+use Rattle.sha256_words.specs.Words.{add32}
+use Rattle.sha256.specs.Sha256.{summed}
 
-pub blocks_none : (h s : List ℕ) → h ≡ chunks 0 h s
-unfolding chunks
-blocks_none h s = refl
-
-pub blocks_step : (h s v m y : List ℕ) (i : ℕ) → v ≡ chunks i h s → m ≡ words (take (i * 64 + 64 - i * 64) (drop (i * 64) s)) → y ≡ compress v m → y ≡ chunks (i + 1) h s
-blocks_step h s v m y i ev em ey =
-    let e : i * 64 + 64 - i * 64 ≡ 64 = omega arith in
-    rw (add-one, chunks_snoc, ← ev) (ey ∙ ap (compress v) (rw e at em))
-
-pub blocks_whole : (h s v : List ℕ) (i : ℕ) → i ≡ length s / 64 → v ≡ chunks i h s → v ≡ blocks h s
-unfolding blocks
-blocks_whole h s v i e ev = rw (← e) ev
-
--- ---- words as bytes
+pub summed_of : (h v r : List ℕ) → length r ≡ 8 → ((k : ℕ) → k < 8 → get_or r k 0 ≡ add32 (get_or h k 0) (get_or v k 0)) → r ≡ summed h v
+unfolding summed
+summed_of h v r e each = fill_by_all (λ k. add32 (get_or h k 0) (get_or v k 0)) r 8 0 e each

@@ -1,6 +1,6 @@
 -- The schedule's recursion, and the window that slides over it, up to a block's compression.
 -- Assumes nothing.
-use Prim.Native.Nat.{ℕ, zero, suc, ◌+◌, ◌-◌, ◌%◌, ◌≤◌, ◌<◌}
+use Prim.Native.Nat.{ℕ, zero, suc, ◌*◌, ◌+◌, ◌-◌, ◌%◌, ◌≤◌, ◌<◌}
 use mathlib.Core.{Path.◌≡◌, Path.refl, Path.sym, Path.ap, Path.◌∙◌, List.List, List.[], List.◌∷◌, Logic.⊎_elim}
 use native.Mathlib.{Omega.arith, Nat.add-suc, Nat.add-zero, Nat.eq-or-lt_of_le, Nat.le_of_suc-le-suc}
 use borrow.Author.Tests.{lt-ltb, le-ltb}
@@ -124,46 +124,33 @@ rounds_window h w t zero l = rw add-zero
 rounds_window h w t (suc n) l =
     rw (add-suc, at_window w t n l) (ap (λ (v : List ℕ). round v (get_or k_table (t + n) 0) (get_or w (t + n) 0)) (rounds_window h w t n (omega arith)))
 
--- ---- the four groups of sixteen rounds
+-- ---- the four turns of sixteen rounds
 
 abbrev all : List ℕ → List ℕ
 all m = schedule m 64
 
--- what holds before round t
-pub record Before (h m : List ℕ) (t : ℕ) (v w : List ℕ) : Type 0 where
-  pub within : t ≤ 64
-  pub sixteens : t % 16 ≡ 0
-  pub value : v ≡ rounds h (all m) t
-  pub words_are : t < 64 → w ≡ window (all m) t
+-- what holds before a turn
+pub record Before (h m : List ℕ) (turn : ℕ) (v w : List ℕ) : Type 0 where
+  pub value : v ≡ rounds h (all m) (16 * turn)
+  pub words_are : turn < 4 → w ≡ window (all m) (16 * turn)
 
 pub before_first : (h m : List ℕ) → length m ≡ 16 → Before h m 0 h m
 unfolding rounds
 before_first h m l =
     record {
-      within = omega arith;
-      sixteens = refl;
       value = refl;
       words_are = λ t. sym (take_all 16 m (omega arith)) ∙ sym (begins m 16 l (omega arith)) ∙ sym (before m 16 64 (omega arith));
     }
 
-group : (h m : List ℕ) (t : ℕ) {v w k u : List ℕ} → Before h m t v w → t < 64 → k ≡ k_table → u ≡ rounds_on v w k t 16 → u ≡ rounds h (all m) (t + 16)
-group h m t b l ek eu = eu ∙ rw (ek, b.words_are l, b.value) (rounds_window h (all m) t 16 (omega arith))
-
-along : (h m : List ℕ) (t : ℕ) {v w x : List ℕ} → Before h m t v w → t < 48 → x ≡ slides 16 w → x ≡ window (all m) (t + 16)
-along h m t b l ex = ex ∙ rw (b.words_are (omega arith)) (slides_window m 64 t (let s = b.sixteens in omega arith))
-
-pub before_next : (h m : List ℕ) (t : ℕ) {v w k u : List ℕ} → Before h m t v w → t < 64 → k ≡ k_table → u ≡ rounds_on v w k t 16
-    → (x : List ℕ) → (t < 48 → x ≡ slides 16 w) → Before h m (t + 16) u x
-before_next h m t b l ek eu x ex =
+pub before_next : (h m : List ℕ) (turn : ℕ) {v w k u x : List ℕ} → Before h m turn v w → turn < 4 → k ≡ k_table → u ≡ rounds_on v w k (16 * turn) 16
+    → (turn < 3 → x ≡ slides 16 w) → Before h m (turn + 1) u x
+before_next h m turn b l ek eu ex =
+    let next : 16 * (turn + 1) ≡ 16 * turn + 16 = omega arith in
     record {
-      within = let s = b.sixteens in omega arith;
-      sixteens = let s = b.sixteens in omega arith;
-      value = group h m t b l ek eu;
-      words_are = λ q. along h m t b (let s = b.sixteens in omega arith) (ex (let s = b.sixteens in omega arith));
+      value = rw next (eu ∙ rw (ek, b.words_are l, b.value) (rounds_window h (all m) (16 * turn) 16 (omega arith)));
+      words_are = λ t. rw next (ex (omega arith) ∙ rw (b.words_are l) (slides_window m 64 (16 * turn) (omega arith)));
     }
 
-pub compressed : (h m : List ℕ) (t : ℕ) {v w r : List ℕ} → Before h m t v w → 64 ≤ t → r ≡ summed h v → r ≡ compress h m
+pub compressed : (h m : List ℕ) (turn : ℕ) {v w r : List ℕ} → Before h m turn v w → turn ≡ 4 → r ≡ summed h v → r ≡ compress h m
 unfolding compress
-compressed h m t b l er =
-    let e : t ≡ 64 = let w = b.within in omega arith in
-    er ∙ ap (summed h) (b.value ∙ ap (rounds h (all m)) e)
+compressed h m turn b e er = er ∙ ap (summed h) (b.value ∙ ap (λ (n : ℕ). rounds h (all m) (16 * n)) e)

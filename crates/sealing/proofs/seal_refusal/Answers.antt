@@ -9,12 +9,12 @@ returns-then-x-ne0 c = ledger_refuses _ _ _ _ _ _ _ c.ledger_refusal-x.ensures c
 pub values_through-k-requires : goal.values_through-k-requires
 values_through-k-requires c = ledger_asks _ _ _ _ _ _ c.ledger_refusal-x.ensures c.if-x-ne0.false
 
-pub returns-then-room-wide : goal.returns-then-room-wide
-returns-then-room-wide c = book_short _ _ _ _ _ _ _ c.ledger_refusal-x.ensures
-    c.if-x-ne0.false c.values_through-k.ensures c.wide.ensures
-    c.if-room-wide.true
+pub returns-then-room-k : goal.returns-then-room-k
+returns-then-room-k c = book_short _ _ _ _ _ _ _ c.ledger_refusal-x.ensures
+    c.if-x-ne0.false c.values_through-k.ensures
+    c.if-room-k.true
 
 pub returns : goal.returns
 returns c = none_refuses _ _ _ _ _ _ _ c.ledger_refusal-x.ensures
-    c.if-x-ne0.false c.values_through-k.ensures c.wide.ensures
-    c.if-room-wide.false
+    c.if-x-ne0.false c.values_through-k.ensures
+    c.if-room-k.false

@@ -1,5 +1,5 @@
 -- `service::close_refusal` meets its contract.
-use mathlib.Core.Path.{sym, ◌∙◌}
+use mathlib.Core.Path.{refl, sym, ◌∙◌}
 use native.Mathlib.Omega.{arith}
 use Rattle.service.proofs.RecordLaws.{record_passes}
 use Rattle.service.proofs.CallLaws.{close_early, close_8, close_0}
@@ -18,12 +18,12 @@ values_of_day-k-requires c =
     let a = setup_asks c.args.state p.0 in
     (a.0, a.1, omega (arith, c.open_day.ensures), omega (arith, c.open_day.ensures, p.1))
 
-pub returns-then-size-wide : goal.returns-then-size-wide
-returns-then-size-wide c =
+pub returns-then-size-k : goal.returns-then-size-k
+returns-then-size-k c =
     close_8 c.args.state _ c.refusal-x.ensures c.if-x-ne0.false c.open_day.ensures c.values_of_day-k.ensures
-    c.wide.ensures c.if-size-wide.true
+    refl c.if-size-k.true
 
 pub returns : goal.returns
 returns c =
     close_0 c.args.state _ c.refusal-x.ensures c.if-x-ne0.false c.open_day.ensures c.values_of_day-k.ensures
-    c.wide.ensures c.if-size-wide.false
+    refl c.if-size-k.false

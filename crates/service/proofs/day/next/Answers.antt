@@ -7,4 +7,4 @@ pub overflow_add-result : goal.overflow_add-result
 overflow_add-result c = let a = day_asks c.args.state c.requires.0 in omega (arith, a.3)
 
 pub returns : goal.returns
-returns c = after_next c.args.state c.requires.1 c.begin-day.ensures
+returns c = after_next c.args.state c.requires.1 c.begin.ensures

@@ -13,7 +13,7 @@ pub overflow_add-result : goal.overflow_add-result
 overflow_add-result c =
     record { fits = omega (arith, (record_passes c.args.state refl c.requires).0.days_most) }
 
-pub returns : goal.returns
-returns c =
+pub returns-else-turns : goal.returns-else-turns
+returns-else-turns c =
     let e = ap (λ (r : Record). r.days) (current_same c.args.state c.turns.ensures c.if-turns.false) in
     omega (arith, e)
