@@ -5,7 +5,7 @@ use Prim.Native.Nat.{ℕ, zero, suc, pred}
 use native.Mathlib.{Decide.ℕ_discrete, Omega.arith}
 use borrow.Author.Tests.{not-true, not-false, eq-eqb}
 use lib.{Dec.eqb, ListN.length, ListN.drop, ListN.get_or}
-use Rattle.std.specs.Prelude.{Result, Ok, Err}
+use Rattle.std.specs.Prelude.{Result, Ok, Err, is_err}
 use Rattle.lists.proofs.Laws.{true_or_false, and_both}
 use Rattle.refusals.specs.declared.Refusal.{Refusal}
 use Rattle.refusals.specs.declared.Refusal.TheVariants as cause
@@ -206,3 +206,12 @@ new_stands t new old e = rw e
 pub front_stands : {u : Unit {0}} (t : Result Unit Refusal) (new buffer next : List ℕ) (k : ℕ) → t ≡ Ok u → length new ≡ k →
     next ≡ new ++ drop k buffer → next ≡ front_written (number_of t) new buffer
 front_stands t new buffer next k e l q = rw (e, l) q
+
+-- a test of what tests said
+pub no_err : (t : Result Unit Refusal) → is_err t ≡ false → t ≡ Ok tt
+no_err (Ok u) e = refl
+no_err (Err r) e = absurd (true_or_false refl e)
+
+pub some_err : (t : Result Unit Refusal) → is_err t ≡ true → number_of t ≡ 0 → ⊥
+some_err (Ok u) e z = true_or_false e refl
+some_err (Err r) e z = number_some r z

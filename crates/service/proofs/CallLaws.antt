@@ -1,148 +1,168 @@
--- The refusals of add and close by their tests, and what open, add and close give by the refusal found.
+-- What the tests of add and close say, and what open, add and close give by it.
 use mathlib.Core.Path.{◌≡◌, refl, sym, ap, ap₂, ◌∙◌}
-use mathlib.Core.List.{List}
-use Prim.Native.Nat.{ℕ, zero, suc, ◌+◌, ◌-◌, ◌*◌, ◌≤◌, ◌<◌}
+use mathlib.Core.List.{List, [], ◌∷◌}
+use Prim.Native.Nat.{ℕ, suc, ◌+◌, ◌-◌, ◌*◌, ◌≤◌, ◌<◌}
 use native.Mathlib.Omega.{arith}
 use lib.Dec.{leb}
-use lib.ListN.{length, drop}
+use lib.ListN.{length}
 use borrow.Author.Tests.{le-leb, lt-leb, leb-true}
-use Rattle.refusals.specs.declared.Answer.TheVariants.{Done, Refused}
-use Rattle.refusals.specs.Refusals.{day_limit, number_of, answer_of, unless_refused}
-use Rattle.refusals.proofs.TestLaws.{last_fails, last_passes, none_fails, refused_before, answer_refused, answer_done, old_stays, new_stands, front_stands}
-use Rattle.layouts.specs.Layouts.{setup_refusal, chains_of_day}
+use Rattle.std.specs.Prelude.{Ok, Err}
+use Rattle.refusals.specs.declared.Refusal.{Refusal}
+use Rattle.refusals.specs.declared.Refusal.TheVariants as cause
+use Rattle.refusals.specs.Refusals.{day_limit, ◌or_refuse◌, number_of, tested, answered}
+use Rattle.refusals.proofs.TestLaws.{none_fails, passed_number, refused_before, passed_before, number_answered, old_stays, front_stands}
+use Rattle.layouts.specs.Layouts.{setup_tested, setup_refusal, chains_of_day}
 use Rattle.service.specs.declared.Record.{Record}
-use Rattle.service.specs.declared.Writing.TheVariants as writing
-use Rattle.service.specs.declared.Opened.{Opened}
-use Rattle.service.specs.declared.Added.{Added}
 use Rattle.service.specs.declared.Closed.{Closed}
-use Rattle.service.specs.Contract.{fresh, zeros, opened, current, record_tests, add_tests, add_refusal, grown, grown_blocks, added, day_count, close_tests, close_refusal}
-use Rattle.service.specs.Contract.{day_bytes, writing_of, writing_number, closing}
-use Rattle.service.specs.Private.{record_refusal, Open, ClosedDay}
+use Rattle.service.specs.Contract.{fresh, opened, current, record_tests, add_tests, add_tested, add_refusal, grown, grown_blocks, added}
+use Rattle.service.specs.Contract.{day_count, close_tests, close_tested, close_refusal, day_bytes, both_of, closing}
+use Rattle.service.specs.Private.{record_tested, Open, ClosedDay}
 use Rattle.service.proofs.RecordLaws.{record_passes, record_open, current_bytes, current_scheme, current_n}
 
 -- ---- add
 
-module _ (r : Record) (size : ℕ) {x : ℕ} (e : x ≡ record_refusal r) where
-  pub add_early : (x ≡ 0 → ⊥) → x ≡ add_refusal r size
-  unfolding record_refusal add_refusal
-  add_early h = refused_before (record_tests r) (drop 2 (add_tests r size)) e h
+module _ (r : Record) (size : ℕ) where
+  pub add_early : {x : Refusal} → record_tested r ≡ Err x → Err x ≡ add_tested r size
+  unfolding record_tested add_tested
+  add_early e = sym (refused_before (record_tests r) (leb ((current r).bytes + size) day_limit or_refuse cause.LongDay ∷ []) e)
 
-  -- the bytes that are left are those of the record handed in: at a turn it has none open
-  module _ (z : x ≡ 0) {left : ℕ} (q : left ≡ day_limit - r.bytes) where
+  module _ (e : record_tested r ≡ Ok tt) where
+    pub bytes_within : r.bytes ≤ day_limit
+    bytes_within = (record_passes r e).0.bytes_most
+
+    -- the bytes that are left are those of the record handed in: at a turn it has none open
     same_bytes : (current r).bytes ≡ r.bytes
-    same_bytes = current_bytes r (record_passes r e z).0
+    same_bytes = current_bytes r (record_passes r e).0
 
-    pub add_4 : left < size → 4 ≡ add_refusal r size
-    unfolding record_refusal add_refusal
-    add_4 h = last_fails (record_tests r) (leb ((current r).bytes + size) day_limit) 4 refl e z (lt-leb ((current r).bytes + size) day_limit (omega (arith, same_bytes)))
+    last_test : add_tested r size ≡ tested (leb ((current r).bytes + size) day_limit or_refuse cause.LongDay ∷ [])
+    unfolding record_tested add_tested
+    last_test = passed_before (record_tests r) (leb ((current r).bytes + size) day_limit or_refuse cause.LongDay ∷ []) e
 
-    pub add_0 : size ≤ left → 0 ≡ add_refusal r size
-    unfolding record_refusal add_refusal
-    add_0 h =
-        let b = (record_passes r e z).0.bytes_most in
-        last_passes (record_tests r) (leb ((current r).bytes + size) day_limit) 4 refl e z (le-leb ((current r).bytes + size) day_limit (omega (arith, same_bytes)))
+    pub add_4 : day_limit - r.bytes < size → Err cause.LongDay ≡ add_tested r size
+    add_4 h = rw (last_test, lt-leb ((current r).bytes + size) day_limit (omega (arith, same_bytes))) refl
+
+    pub add_passed : size ≤ day_limit - r.bytes → Ok tt ≡ add_tested r size
+    add_passed h =
+        rw (last_test, le-leb ((current r).bytes + size) day_limit (omega (arith, same_bytes, bytes_within))) refl
 
 -- what no refusal says, of the record that the call is made on
-pub add_fits : (r : Record) (size : ℕ) {x : ℕ} → x ≡ add_refusal r size → x ≡ 0 → {made : Record} → made ≡ current r → made.bytes + size ≤ day_limit
-unfolding add_refusal
-add_fits r size e z m = rw m (leb-true ((current r).bytes + size) day_limit (none_fails (add_tests r size) refl (sym e ∙ z)).1.1.0)
+pub add_fits : (r : Record) (size : ℕ) → add_tested r size ≡ Ok tt → {made : Record} → made ≡ current r → made.bytes + size ≤ day_limit
+unfolding add_tested
+add_fits r size e m =
+    rw m (leb-true ((current r).bytes + size) day_limit (none_fails (add_tests r size) (passed_number (tested (add_tests r size)) e)).1.1.0)
 
 -- ---- close
 
-module _ (r : Record) (size : ℕ) {x : ℕ} (e : x ≡ record_refusal r) where
-  pub close_early : (x ≡ 0 → ⊥) → x ≡ close_refusal r size
-  unfolding record_refusal close_refusal
-  close_early h = refused_before (record_tests r) (drop 2 (close_tests r size)) e h
+module _ (r : Record) (size : ℕ) where
+  pub close_early : {x : Refusal} → record_tested r ≡ Err x → Err x ≡ close_tested r size
+  unfolding record_tested close_tested
+  close_early e = sym (refused_before (record_tests r) (leb (32 * day_count (current r)) size or_refuse cause.ShortBuffer ∷ []) e)
 
-  module _ (z : x ≡ 0) {g k w : ℕ} (d : g ≡ suc (current r).days) (c : k ≡ length (chains_of_day r.scheme r.n g)) (q : w ≡ k) where
-    count_is : w ≡ day_count (current r)
+  module _ (e : record_tested r ≡ Ok tt) {g k : ℕ} (d : g ≡ suc (current r).days) (c : k ≡ length (chains_of_day r.scheme r.n g)) where
+    count_is : k ≡ day_count (current r)
     count_is =
-        q ∙ c ∙ ap (λ (y : ℕ). length (chains_of_day r.scheme r.n y)) d ∙
+        c ∙ ap (λ (y : ℕ). length (chains_of_day r.scheme r.n y)) d ∙
         ap₂ (λ (s n : ℕ). length (chains_of_day s n (suc (current r).days))) (sym (current_scheme r)) (sym (current_n r))
 
-    pub close_8 : size < 32 * w → 8 ≡ close_refusal r size
-    unfolding record_refusal close_refusal
-    close_8 h = last_fails (record_tests r) (leb (32 * day_count (current r)) size) 8 refl e z (lt-leb (32 * day_count (current r)) size (omega (arith, count_is)))
+    last_room : close_tested r size ≡ tested (leb (32 * day_count (current r)) size or_refuse cause.ShortBuffer ∷ [])
+    unfolding record_tested close_tested
+    last_room = passed_before (record_tests r) (leb (32 * day_count (current r)) size or_refuse cause.ShortBuffer ∷ []) e
 
-    pub close_0 : 32 * w ≤ size → 0 ≡ close_refusal r size
-    unfolding record_refusal close_refusal
-    close_0 h = last_passes (record_tests r) (leb (32 * day_count (current r)) size) 8 refl e z (le-leb (32 * day_count (current r)) size (omega (arith, count_is)))
+    pub close_8 : size < 32 * k → Err cause.ShortBuffer ≡ close_tested r size
+    close_8 h = rw (last_room, lt-leb (32 * day_count (current r)) size (omega (arith, count_is))) refl
+
+    pub close_passed : 32 * k ≤ size → Ok tt ≡ close_tested r size
+    close_passed h = rw (last_room, le-leb (32 * day_count (current r)) size (omega (arith, count_is))) refl
 
 -- what no refusal says, of the record that the call is made on
-module _ (r : Record) (size : ℕ) {x : ℕ} (e : x ≡ close_refusal r size) (z : x ≡ 0) {made : Record} (m : made ≡ current r) where
+module _ (r : Record) (size : ℕ) (e : close_tested r size ≡ Ok tt) {made : Record} (m : made ≡ current r) where
   pub close_open : Open made
-  unfolding record_refusal close_refusal
-  close_open = let p = none_fails (close_tests r size) refl (sym e ∙ z) in rw m (record_open r refl (rw (p.0, p.1.0)))
+  unfolding record_tested close_tested
+  close_open =
+      let p = none_fails (close_tests r size) (passed_number (tested (close_tests r size)) e) in
+      rw m (record_open r (rw (p.0, p.1.0) refl))
 
   pub close_room : 32 * day_count made ≤ size
-  unfolding close_refusal
-  close_room = rw m (leb-true (32 * day_count (current r)) size (none_fails (close_tests r size) refl (sym e ∙ z)).1.1.0)
+  unfolding close_tested
+  close_room =
+      let p = none_fails (close_tests r size) (passed_number (tested (close_tests r size)) e) in
+      rw m (leb-true (32 * day_count (current r)) size p.1.1.0)
 
 -- ---- what a call gives, refused and not
 
-module _ (s n f : ℕ) {x : ℕ} {state : Record} (e : x ≡ setup_refusal s n f) where
-  pub opened_refused : (x ≡ 0 → ⊥) → state ≡ zeros → record { answer = Refused x; state = state } ≡ opened s n f
+module _ (s n f : ℕ) where
+  pub opened_refused : {x : Refusal} → setup_tested s n f ≡ Err x → Err x ≡ answered (opened s n f).answer (opened s n f).state
   unfolding opened
-  opened_refused h q = ap₂ {C = Opened} (λ a t. record { answer = a; state = t }) (answer_refused (setup_refusal s n f) e h) (q ∙ old_stays (setup_refusal s n f) (fresh s n f) zeros e h)
+  opened_refused e = rw e refl
 
-  pub opened_done : x ≡ 0 → state ≡ fresh s n f → record { answer = Done; state = state } ≡ opened s n f
+  pub opened_done : setup_tested s n f ≡ Ok tt → Ok (fresh s n f) ≡ answered (opened s n f).answer (opened s n f).state
   unfolding opened
-  opened_done z q = ap₂ {C = Opened} (λ a t. record { answer = a; state = t }) (answer_done (setup_refusal s n f) e z) (q ∙ new_stands (setup_refusal s n f) (fresh s n f) zeros e z)
+  opened_done e = rw e refl
 
-module _ (r : Record) (piece : List ℕ) {x : ℕ} (e : x ≡ add_refusal r (length piece)) where
-  pub added_refused : (x ≡ 0 → ⊥) → record { answer = Refused x; state = r; blocks = 0 } ≡ added r piece
-  unfolding added
-  added_refused h = rw (← e) (refused x h _ _)
-    where
-      refused : (x : ℕ) → (x ≡ 0 → ⊥) → (state : Record) (k : ℕ) →
-          ◌≡◌ {A = Added} record { answer = Refused x; state = r; blocks = 0 } record { answer = answer_of x; state = unless_refused x state r; blocks = unless_refused x k 0 }
-      refused zero h state k = absurd (h refl)
-      refused (suc x) h state k = refl
+module _ (r : Record) (piece : List ℕ) where
+  module _ {x : Refusal} (e : add_tested r (length piece) ≡ Err x) where
+    pub added_refused : Err x ≡ answered (added r piece).answer (added r piece).blocks
+    unfolding added
+    added_refused = rw e refl
 
-  pub added_done : {made state : Record} {k : ℕ} → x ≡ 0 → made ≡ current r → state ≡ grown made piece → k ≡ grown_blocks made piece →
-      record { answer = Done; state = state; blocks = k } ≡ added r piece
-  unfolding added
-  added_done z m q b = rw (← e, z, q, b, m)
+    pub added_left : r ≡ (added r piece).state
+    unfolding added
+    added_left = sym (old_stays (add_tested r (length piece)) (grown (current r) piece) r e)
 
-module _ (r : Record) (part : List ℕ) {x : ℕ} (e : x ≡ close_refusal r (length part)) where
-  pub closing_refused : (x ≡ 0 → ⊥) → (record { answer = writing.Refused x; state = r; blocks = 0 } ≡ (closing r part).result) × (part ≡ (closing r part).part)
-  unfolding closing
-  closing_refused h = (
-    rw (← e) (refused x h _ _ _),
-    old_stays (close_refusal r (length part)) _ part e h,
-  )
-    where
-      refused : (x : ℕ) → (x ≡ 0 → ⊥) → (count : ℕ) (state : Record) (k : ℕ) →
-          ◌≡◌ {A = Closed} record { answer = writing.Refused x; state = r; blocks = 0 } record { answer = writing_of x count; state = unless_refused x state r; blocks = unless_refused x k 0 }
-      refused zero h count state k = absurd (h refl)
-      refused (suc x) h count state k = refl
+  module _ (e : add_tested r (length piece) ≡ Ok tt) {made : Record} (m : made ≡ current r) where
+    pub added_done : {k : ℕ} → k ≡ grown_blocks made piece → Ok k ≡ answered (added r piece).answer (added r piece).blocks
+    unfolding added
+    added_done q = rw (e, q, m) refl
 
-  pub closing_done : {made : Record} {c : Closed} {next : List ℕ} → x ≡ 0 → made ≡ current r → ClosedDay made part c next → (c ≡ (closing r part).result) × (next ≡ (closing r part).part)
-  unfolding closing
-  closing_done {made = made} {next = next} z p d =
-      let w = rw p at d.part_is in (
-        d.result_is ∙ rw (← e, z, p),
-        front_stands (close_refusal r (length part)) (day_bytes (current r)) part next (32 * day_count (current r)) e z (omega (arith, w.count)) w.list,
-      )
+    pub added_state : {state : Record} → state ≡ grown made piece → state ≡ (added r piece).state
+    unfolding added
+    added_state q = rw (e, q, m) refl
+
+module _ (r : Record) (part : List ℕ) where
+  module _ {x : Refusal} (e : close_tested r (length part) ≡ Err x) where
+    pub closing_refused : Err x ≡ both_of (closing r part).result.answer (closing r part).result.blocks
+    unfolding closing
+    closing_refused = rw e refl
+
+    pub closing_left : r ≡ (closing r part).result.state
+    unfolding closing
+    closing_left = sym (old_stays (close_tested r (length part)) _ r e)
+
+    pub closing_part : part ≡ (closing r part).part
+    unfolding closing
+    closing_part = sym (old_stays (close_tested r (length part)) _ part e)
+
+  module _ (e : close_tested r (length part) ≡ Ok tt) {made : Record} (m : made ≡ current r) {c : Closed} {state : Record} {next : List ℕ} (d : ClosedDay made part c state next) where
+    pub closing_done : Ok c ≡ both_of (closing r part).result.answer (closing r part).result.blocks
+    unfolding closing
+    closing_done = rw (e, d.result_is, m) refl
+
+    pub closing_state : state ≡ (closing r part).result.state
+    unfolding closing
+    closing_state = rw (e, d.state_is, m) refl
+
+    pub closing_written : next ≡ (closing r part).part
+    unfolding closing
+    closing_written =
+        let w = rw m at d.part_is in
+        front_stands (close_tested r (length part)) (day_bytes (current r)) part next (32 * day_count (current r)) e (omega (arith, w.count)) w.list
 
 -- ---- the number of each answer is the refusal's
 
-answer_number : (x : ℕ) → number_of (answer_of x) ≡ x
-answer_number zero = refl
-answer_number (suc x) = refl
-
-writing_number_lem : (x count : ℕ) → writing_number (writing_of x count) ≡ x
-writing_number_lem zero count = refl
-writing_number_lem (suc x) count = refl
-
 pub opened_number : (s n f : ℕ) → number_of (opened s n f).answer ≡ setup_refusal s n f
 unfolding opened
-opened_number s n f = answer_number (setup_refusal s n f)
+opened_number s n f = refl
 
 pub added_number : (r : Record) (piece : List ℕ) → number_of (added r piece).answer ≡ add_refusal r (length piece)
 unfolding added
-added_number r piece = answer_number (add_refusal r (length piece))
+added_number r piece = refl
 
-pub closing_number : (r : Record) (part : List ℕ) → writing_number (closing r part).result.answer ≡ close_refusal r (length part)
+pub closing_number : (r : Record) (part : List ℕ) → number_of (closing r part).result.answer ≡ close_refusal r (length part)
 unfolding closing
-closing_number r part = writing_number_lem (close_refusal r (length part)) (day_count (current r))
+closing_number r part = number_answered (close_tested r (length part)) (day_count (current r))
+
+-- ---- what functions of the code are proved by
+
+pub ruleset open_laws = (opened_refused, opened_done)
+
+pub ruleset add_laws = (add_early, bytes_within, add_4, add_passed)

@@ -22,7 +22,6 @@ use Rattle.chains.proofs.Slots.{black_slots, none_restarted}
 use Rattle.chains.proofs.Levels.{tree_linked}
 use Rattle.chains.proofs.Values.{day_few, chains_of_day-length, quiet_values}
 use Rattle.service.specs.declared.Record.{Record}
-use Rattle.service.specs.declared.Writing.TheVariants as writing
 use Rattle.service.specs.Contract.{day_count, digest_of, linked_of, day_bytes, next_day, closed_blocks}
 use Rattle.service.specs.Private.{Open, Linked, After, ClosedDay}
 use Rattle.service.proofs.RecordLaws.{Allowed, allowed_is}
@@ -104,8 +103,8 @@ quiet_written r part z =
     rw (z, e) (record { count = refl; list = refl })
 
 pub closed_of : (r : Record) {k m : ℕ} {state : Record} {old part : List ℕ} → k ≡ day_count r → state ≡ next_day r → m ≡ closed_blocks r → Wrote 0 (day_bytes r) old (32 * k) part →
-    ClosedDay r old (record { answer = writing.Wrote k; state = state; blocks = m }) part
-closed_of r ek es em w = record { result_is = rw (ek, es, em); part_is = rw ek at w }
+    ClosedDay r old (record { values = k; blocks = m }) state part
+closed_of r ek es em w = record { result_is = rw (ek, em); state_is = es; part_is = rw ek at w }
 
 pub after_next : (r : Record) {b : Value} {slots : List Value} → After r b slots → {h : Hasher} → h ≡ begun (0 ∷ []) →
     record { scheme = r.scheme; n = r.n; f = r.f; days = r.days + 1; bytes = 0; hash = h.words; block = h.block; black = b; running = slots; start = r.start; season = r.season } ≡ next_day r

@@ -1,7 +1,7 @@
 -- Tests 6 and 5 of a record: what they say, and which of them refuses; the turn to the next season.
 use mathlib.Core.Path.{◌≡◌, refl, sym, ap, ◌∙◌}
 use mathlib.Core.Logic.{inl, inr}
-use Rattle.std.specs.Prelude.{◌≢◌}
+use Rattle.std.specs.Prelude.{Ok, Err, is_err}
 use mathlib.Core.Bool.{Bool, true, false, ◌&&◌, ◌||◌, cond}
 use Prim.Native.Nat.{ℕ, ◌≤◌, ◌<◌}
 use native.Mathlib.Omega.{arith}
@@ -9,15 +9,15 @@ use lib.Dec.{eqb, leb, ltb}
 use lib.ListN.{length}
 use borrow.Author.Tests.{leb-true, le-leb, lt-leb, ltb-true, ltb-false, lt-ltb, le-ltb, eqb-true, eq-eqb}
 use Rattle.lists.proofs.Laws.{split, and_both, or_split}
-use Rattle.refusals.specs.Refusals.{book_limit, day_limit, last_season}
-use Rattle.refusals.proofs.TestLaws.{none_fails, all_pass}
+use Rattle.refusals.specs.Refusals.{book_limit, day_limit, last_season, tested}
+use Rattle.refusals.specs.declared.Refusal.TheVariants as cause
+use Rattle.refusals.proofs.TestLaws.{none_fails, no_refusal, no_err, some_err, passed_number, number_passed}
 use Rattle.hasher.specs.Hasher.{rest, filled, onward, begun}
-use Rattle.layouts.specs.Layouts.{allowed_scheme, allowed_n, allowed_f, setup_tests, setup_refusal, chains}
+use Rattle.layouts.specs.Layouts.{allowed_scheme, allowed_n, allowed_f, setup_tests, setup_tested, setup_refusal, chains}
 use Rattle.layouts.proofs.AllowedLaws.{setup_is}
 use Rattle.service.specs.declared.Record.{Record}
-use Rattle.service.specs.declared.Writing.TheVariants.{Wrote, Refused}
 use Rattle.service.specs.Contract.{at_start, allowed_record, turns, turned, current, record_tests, written_so_far}
-use Rattle.service.specs.Private.{record_refusal, Open}
+use Rattle.service.specs.Private.{record_tested, Open}
 
 -- ---- test 6
 
@@ -29,7 +29,7 @@ pub record Allowed (r : Record) : Type 0 where
   pub full_empty : book_limit ≤ r.days → r.bytes ≡ 0
 
 pub allowed_is : (r : Record) → allowed_record r ≡ true → Allowed r
-unfolding setup_refusal
+unfolding setup_tested
 allowed_is r e =
     let s = allowed_scheme r.scheme in
     let n = allowed_n r.n in
@@ -45,7 +45,7 @@ allowed_is r e =
     let p₂ = and_both (s && n) f p₃.0 in
     let p₁ = and_both s n p₂.0 in
     record {
-      setup = all_pass (setup_tests r.scheme r.n r.f) (p₁.0, (p₁.1, (p₂.1, tt)));
+      setup = no_refusal (setup_tests r.scheme r.n r.f) (p₁.0, (p₁.1, (p₂.1, tt)));
       days_most = leb-true r.days book_limit p₃.1;
       bytes_most = leb-true r.bytes day_limit p₄.1;
       season_most = leb-true r.season last_season p₅.1;
@@ -56,10 +56,10 @@ allowed_is r e =
     }
 
 -- with all limits tested, the last test decides
-module _ (r : Record) {x : ℕ} (e : x ≡ setup_refusal r.scheme r.n r.f) (z : x ≡ 0) (d : r.days ≤ book_limit) (b : r.bytes ≤ day_limit) (t : r.season ≤ last_season) where
+module _ (r : Record) (z : is_err (setup_tested r.scheme r.n r.f) ≡ false) (d : r.days ≤ book_limit) (b : r.bytes ≤ day_limit) (t : r.season ≤ last_season) where
   last_decides : (ltb r.days book_limit || eqb r.bytes 0) ≡ allowed_record r
   last_decides =
-      let u = setup_is r.scheme r.n r.f (sym e ∙ z) in
+      let u = setup_is r.scheme r.n r.f (passed_number (setup_tested r.scheme r.n r.f) (no_err (setup_tested r.scheme r.n r.f) z)) in
       rw (u.scheme_ok, u.n_ok, u.f_ok, le-leb r.days book_limit d, le-leb r.bytes day_limit b, le-leb r.season last_season t)
 
   pub allowed_before : r.days < book_limit → true ≡ allowed_record r
@@ -71,12 +71,15 @@ module _ (r : Record) {x : ℕ} (e : x ≡ setup_refusal r.scheme r.n r.f) (z : 
   pub allowed_full : book_limit ≤ r.days → eqb r.bytes 0 ≡ allowed_record r
   allowed_full l = ap (λ (y : Bool). y || eqb r.bytes 0) (sym (le-ltb r.days book_limit l)) ∙ last_decides
 
+set_up : {r : Record} → Allowed r → is_err (setup_tested r.scheme r.n r.f) ≡ false
+set_up {r} a = rw (number_passed (setup_tested r.scheme r.n r.f) a.setup) refl
+
 pub is_allowed : (r : Record) → Allowed r → allowed_record r ≡ true
 is_allowed r a = elim (split (ltb r.days book_limit)) [
-  | inl l ↦ sym (allowed_before r refl a.setup a.days_most a.bytes_most a.season_most (ltb-true r.days book_limit l))
+  | inl l ↦ sym (allowed_before r (set_up a) a.days_most a.bytes_most a.season_most (ltb-true r.days book_limit l))
   | inr l ↦
       let full = ltb-false r.days book_limit l in
-      sym (allowed_full r refl a.setup a.days_most a.bytes_most a.season_most full) ∙ eq-eqb r.bytes 0 (a.full_empty full)
+      sym (allowed_full r (set_up a) a.days_most a.bytes_most a.season_most full) ∙ eq-eqb r.bytes 0 (a.full_empty full)
 ]
 
 pub not_allowed : (r : Record) → (Allowed r → ⊥) → false ≡ allowed_record r
@@ -87,8 +90,8 @@ not_allowed r h = go (allowed_record r) refl
     go false e = refl
 
 module _ (r : Record) where
-  pub setup_refused : setup_refusal r.scheme r.n r.f ≢ 0 → allowed_record r ≡ false
-  setup_refused h = sym (not_allowed r (λ a. h a.setup))
+  pub setup_refused : is_err (setup_tested r.scheme r.n r.f) ≡ true → allowed_record r ≡ false
+  setup_refused h = sym (not_allowed r (λ a. some_err (setup_tested r.scheme r.n r.f) h a.setup))
 
   pub days_refused : book_limit < r.days → allowed_record r ≡ false
   days_refused h = sym (not_allowed r (λ a. omega (arith, a.days_most)))
@@ -181,53 +184,53 @@ current_days r t = ap (λ (q : Record). q.days) (current_turned r refl t) ∙ tu
 
 -- ---- tests 6 5
 
-pub refused_6 : (r : Record) → allowed_record r ≡ false → 6 ≡ record_refusal r
-unfolding record_refusal
-refused_6 r e = rw e
+pub refused_6 : (r : Record) → allowed_record r ≡ false → Err cause.BadRecord ≡ record_tested r
+unfolding record_tested
+refused_6 r e = rw e refl
 
 module _ (r : Record) (e : allowed_record r ≡ true) where
-  pub refused_5 : book_limit ≤ r.days → last_season ≤ r.season → 5 ≡ record_refusal r
-  unfolding record_refusal
-  refused_5 d l = rw (e, current_same r refl (stays_last r l), le-ltb r.days book_limit d)
+  pub refused_5 : book_limit ≤ r.days → last_season ≤ r.season → Err cause.LastSeasonFull ≡ record_tested r
+  unfolding record_tested
+  refused_5 d l = rw (e, current_same r refl (stays_last r l), le-ltb r.days book_limit d) refl
 
-  passes : (current r).days < book_limit → 0 ≡ record_refusal r
-  unfolding record_refusal
-  passes h = rw (e, lt-ltb (current r).days book_limit h)
+  passes : (current r).days < book_limit → Ok tt ≡ record_tested r
+  unfolding record_tested
+  passes h = rw (e, lt-ltb (current r).days book_limit h) refl
 
-  pub turns_on : book_limit ≤ r.days → r.season < last_season → 0 ≡ record_refusal r
+  pub turns_on : book_limit ≤ r.days → r.season < last_season → Ok tt ≡ record_tested r
   turns_on d l = passes (let q = current_days r (turns_full r d l) in omega (arith, q))
 
-  pub refused_0 : r.days < book_limit → 0 ≡ record_refusal r
+  pub refused_0 : r.days < book_limit → Ok tt ≡ record_tested r
   refused_0 h = passes (rw (current_before r h) h)
 
 pub ruleset tests_6_5 = (refused_6, refused_5, turns_on, refused_0)
 
 -- what no refusal says
-pub record_passes : (r : Record) {x : ℕ} → x ≡ record_refusal r → x ≡ 0 → Allowed r × ((current r).days < book_limit)
-unfolding record_refusal
-record_passes r e z =
-    let p = none_fails (record_tests r) refl (sym e ∙ z) in
+pub record_passes : (r : Record) → record_tested r ≡ Ok tt → Allowed r × ((current r).days < book_limit)
+unfolding record_tested
+record_passes r e =
+    let p = none_fails (record_tests r) (passed_number (tested (record_tests r)) e) in
     (allowed_is r p.0, ltb-true (current r).days book_limit p.1.0)
 
 -- the day of the call can be closed
-pub record_open : (r : Record) {x : ℕ} → x ≡ record_refusal r → x ≡ 0 → Open (current r)
-record_open r e z =
-    let p = record_passes r e z in
+pub record_open : (r : Record) → record_tested r ≡ Ok tt → Open (current r)
+record_open r e =
+    let p = record_passes r e in
     record { allowed = is_allowed (current r) (current_allowed r p.0); day_left = p.1 }
 
 -- ---- the values so far: test 6, and what it leaves
 
-pub so_far_6 : (r : Record) → allowed_record r ≡ false → Refused 6 ≡ written_so_far r
+pub so_far_6 : (r : Record) → allowed_record r ≡ false → Err cause.BadRecord ≡ written_so_far r
 unfolding written_so_far
-so_far_6 r e = rw e
+so_far_6 r e = rw e refl
 
 pub so_far_asks : (r : Record) → allowed_record r ≡ true → (allowed_scheme r.scheme ≡ true) × (allowed_n r.n ≡ true) × (r.days ≤ book_limit)
 so_far_asks r e =
     let a = allowed_is r e in
     let u = setup_is r.scheme r.n r.f a.setup in (u.scheme_ok, u.n_ok, a.days_most)
 
-pub so_far_0 : (r : Record) → allowed_record r ≡ true → (k : ℕ) → k ≡ length (chains r.scheme r.n r.days) → Wrote k ≡ written_so_far r
+pub so_far_0 : (r : Record) → allowed_record r ≡ true → (k : ℕ) → k ≡ length (chains r.scheme r.n r.days) → Ok k ≡ written_so_far r
 unfolding written_so_far
-so_far_0 r e k q = rw (e, q)
+so_far_0 r e k q = rw (e, q) refl
 
 pub ruleset so_far = (so_far_6, so_far_asks, so_far_0)

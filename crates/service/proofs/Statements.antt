@@ -8,9 +8,11 @@ use native.Mathlib.Omega.{arith}
 use lib.Dec.{leb, ltb}
 use borrow.Author.Tests.{le-ltb, ltb-true, ltb-false}
 use Rattle.lists.proofs.Laws.{split, true_or_false}
-use Rattle.refusals.specs.Refusals.{book_limit, day_limit, last_season, ◌or_refuse◌, first_refusal}
+use Rattle.refusals.specs.Refusals.{book_limit, day_limit, last_season, ◌or_refuse◌, number, first_refusal}
+use Rattle.refusals.specs.declared.Refusal.{Refusal}
+use Rattle.refusals.specs.declared.Refusal.TheVariants as cause
 use Rattle.service.specs.declared.Record.{Record}
-use Rattle.service.specs.Contract.{allowed_record, turns, current, record_tests, add_refusal, day_count, close_refusal}
+use Rattle.service.specs.Contract.{allowed_record, turns, current, record_tests, add_tested, day_count, close_tested}
 use Rattle.service.specs.Statements.{LastFull, SaysLastFull}
 use Rattle.service.proofs.RecordLaws.{allowed_is, turns_full, stays_last, current_same, current_days}
 
@@ -38,7 +40,7 @@ module _ (r : Record) where
       le-ltb (current r).days book_limit (omega (arith, d, f.full))
 
   -- whatever the last test is, if its number is another
-  five_told : (b : Bool) (x : ℕ) → (x ≡ 5 → ⊥) → (first_refusal (record_tests r ++ (b or_refuse x ∷ [])) ≡ 5) ↔ LastFull r
+  five_told : (b : Bool) (x : Refusal) → (number x ≡ 5 → ⊥) → (first_refusal (record_tests r ++ (b or_refuse x ∷ [])) ≡ 5) ↔ LastFull r
   five_told b x other = (
     λ e. elim (split (allowed_record r)) [
       | inl a ↦ elim (split (ltb (current r).days book_limit)) [
@@ -55,8 +57,8 @@ module _ (r : Record) where
       passed false e = other e
 
 pub says_last_full : SaysLastFull
-unfolding add_refusal close_refusal
+unfolding add_tested close_tested
 says_last_full r size = (
-  five_told r (leb ((current r).bytes + size) day_limit) 4 (λ e. omega arith),
-  five_told r (leb (32 * day_count (current r)) size) 8 (λ e. omega arith),
+  five_told r (leb ((current r).bytes + size) day_limit) cause.LongDay (λ e. omega arith),
+  five_told r (leb (32 * day_count (current r)) size) cause.ShortBuffer (λ e. omega arith),
 )

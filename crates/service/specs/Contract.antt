@@ -1,19 +1,18 @@
 -- What open, add and close answer, give back and write, for every record, whatever its words, block bytes and start
 -- (SPEC 5.1). Definitions only.
-use Rattle.std.specs.Prelude.{Bool, ◌&&◌, ◌||◌, cond, List, [], ◌∷◌, ◌++◌, ℕ, zero, suc, ◌+◌, ◌*◌, eqb, leb, ltb, length, replicate}
-use Rattle.refusals.specs.Refusals.{book_limit, day_limit, last_season, Test, ◌or_refuse◌, first_refusal, answer_of}
+use Rattle.std.specs.Prelude.{Bool, ◌&&◌, ◌||◌, cond, List, [], ◌∷◌, ◌++◌, ℕ, suc, ◌+◌, ◌*◌, eqb, leb, ltb, length, replicate}
+use Rattle.std.specs.Prelude.{Result, Ok, Err}
+use Rattle.refusals.specs.Refusals.{book_limit, day_limit, last_season, Test, ◌or_refuse◌, tested, number_of, answered}
 use Rattle.refusals.specs.Refusals.{unless_refused, front_written}
+use Rattle.refusals.specs.declared.Refusal.{Refusal}
+use Rattle.refusals.specs.declared.Refusal.TheVariants as cause
 use Rattle.hasher.specs.declared.Hasher.{Hasher}
 use Rattle.hasher.specs.Hasher.{begun, absorbed, absorbed_blocks, finished, finished_blocks}
-use Rattle.layouts.specs.Layouts.{allowed_scheme, allowed_n, allowed_f, setup_refusal, chains_of_day, chains}
+use Rattle.layouts.specs.Layouts.{allowed_scheme, allowed_n, allowed_f, setup_tested, setup_refusal, chains_of_day, chains}
 use Rattle.chains.specs.declared.Value.{Value}
 use Rattle.chains.specs.Step.{start_value, linked, link_blocks, linked_slots, slot_blocks, restarted, day_values}
 use Rattle.chains.specs.Step.{value_bytes}
 use Rattle.service.specs.declared.Record.{Record}
-use Rattle.service.specs.declared.Writing.{Writing}
-use Rattle.service.specs.declared.Writing.TheVariants.{Wrote, Refused}
-use Rattle.service.specs.declared.Opened.{Opened}
-use Rattle.service.specs.declared.Added.{Added}
 use Rattle.service.specs.declared.Closed.{Closed}
 
 -- ---- open (SPEC 5.2): 01's tests 1 2 3 (SPEC 11.1)
@@ -59,11 +58,15 @@ zeros =
       season = 0;
     }
 
--- what open gives
+-- what open gives, and the record that stands after it
+pub record Opened : Type 0 where
+  pub answer : Result Unit Refusal
+  pub state : Record
+
 unfoldable pub opened : ℕ → ℕ → ℕ → Opened
 opened scheme n f =
     let refusal = setup_refusal scheme n f in
-    record { answer = answer_of refusal; state = unless_refused refusal (fresh scheme n f) zeros }
+    record { answer = setup_tested scheme n f; state = unless_refused refusal (fresh scheme n f) zeros }
 
 -- ---- the turn (02, SPEC 23.2)
 
@@ -92,14 +95,17 @@ allowed_record r =
 -- the tests with which add and close begin: 6 of the record handed in; then 5 (SPEC 10.5), and all others, of the one
 -- that the call is made on
 abbrev pub record_tests : Record → List Test
-record_tests r = allowed_record r or_refuse 6 ∷ ltb (current r).days book_limit or_refuse 5 ∷ []
+record_tests r = allowed_record r or_refuse cause.BadRecord ∷ ltb (current r).days book_limit or_refuse cause.LastSeasonFull ∷ []
 
 -- then test 4 (SPEC 10.4), for a piece of size bytes
 abbrev pub add_tests : Record → ℕ → List Test
-add_tests r size = record_tests r ++ (leb ((current r).bytes + size) day_limit or_refuse 4 ∷ [])
+add_tests r size = record_tests r ++ (leb ((current r).bytes + size) day_limit or_refuse cause.LongDay ∷ [])
 
-unfoldable pub add_refusal : Record → ℕ → ℕ
-add_refusal r size = first_refusal (add_tests r size)
+unfoldable pub add_tested : Record → ℕ → Result Unit Refusal
+add_tested r size = tested (add_tests r size)
+
+abbrev pub add_refusal : Record → ℕ → ℕ
+add_refusal r size = number_of (add_tested r size)
 
 -- the running hash of the open day: of byte 00 and the day's bytes so far, r.bytes + 1 in all
 abbrev pub open_day : Record → Hasher
@@ -126,12 +132,18 @@ grown r piece =
 unfoldable pub grown_blocks : Record → List ℕ → ℕ
 grown_blocks r piece = absorbed_blocks (open_day r) (r.bytes + 1) piece
 
--- what add gives; a refusal gives back the record handed in, its season too
+-- what add gives, the record after it and the blocks that it compressed; a refusal leaves the record handed in, its
+-- season too
+pub record Added : Type 0 where
+  pub answer : Result Unit Refusal
+  pub state : Record
+  pub blocks : ℕ
+
 unfoldable pub added : Record → List ℕ → Added
 added r piece =
     let refusal = add_refusal r (length piece) in
     record {
-      answer = answer_of refusal;
+      answer = add_tested r (length piece);
       state = unless_refused refusal (grown (current r) piece) r;
       blocks = unless_refused refusal (grown_blocks (current r) piece) 0;
     }
@@ -144,10 +156,13 @@ day_count r = length (chains_of_day r.scheme r.n (suc r.days))
 
 -- then test 8 (SPEC 10.8), for a part of size bytes
 abbrev pub close_tests : Record → ℕ → List Test
-close_tests r size = record_tests r ++ (leb (32 * day_count (current r)) size or_refuse 8 ∷ [])
+close_tests r size = record_tests r ++ (leb (32 * day_count (current r)) size or_refuse cause.ShortBuffer ∷ [])
 
-unfoldable pub close_refusal : Record → ℕ → ℕ
-close_refusal r size = first_refusal (close_tests r size)
+unfoldable pub close_tested : Record → ℕ → Result Unit Refusal
+close_tested r size = tested (close_tests r size)
+
+abbrev pub close_refusal : Record → ℕ → ℕ
+close_refusal r size = number_of (close_tested r size)
 
 -- 01's digest of the open day (SPEC 3.3), as words
 abbrev pub digest_of : Record → List ℕ
@@ -185,23 +200,25 @@ closed_blocks r =
     finished_blocks (open_day r) (r.bytes + 1) + link_blocks r.black (digest_of r)
     + slot_blocks r.scheme r.n (suc r.days) (digest_of r) 0 r.running
 
--- the answer of close: the number of values written, or the refusal
-abbrev pub writing_of : ℕ → ℕ → Writing
-writing_of zero count = Wrote count
-writing_of (suc x) count = Refused (suc x)
+-- the number of values written, 0 after a refusal
+abbrev pub count_of : Result ℕ Refusal → ℕ
+count_of (Ok count) = count
+count_of (Err refusal) = 0
 
--- 01's number for each answer (SPEC 14.4), and the number of values written
-abbrev pub writing_number : Writing → ℕ
-writing_number (Wrote count) = 0
-writing_number (Refused number) = number
+-- what close gives: the number of values written, the record after it and the blocks that it compressed
+pub record ClosedTo : Type 0 where
+  pub answer : Result ℕ Refusal
+  pub state : Record
+  pub blocks : ℕ
 
-abbrev pub count_of : Writing → ℕ
-count_of (Wrote count) = count
-count_of (Refused number) = 0
+-- the number of values and the blocks, as the call returns them
+abbrev pub both_of : Result ℕ Refusal → ℕ → Result Closed Refusal
+both_of (Ok count) blocks = Ok (record { values = count; blocks = blocks })
+both_of (Err refusal) blocks = Err refusal
 
--- what close gives, and the part as it leaves it: the day's values at its front
+-- and the part as it leaves it: the day's values at its front
 pub record Closing : Type 0 where
-  pub result : Closed
+  pub result : ClosedTo
   pub part : List ℕ
 
 unfoldable pub closing : Record → List ℕ → Closing
@@ -210,7 +227,7 @@ closing r part =
     record {
       result =
           record {
-            answer = writing_of refusal (day_count (current r));
+            answer = answered (close_tested r (length part)) (day_count (current r));
             state = unless_refused refusal (next_day (current r)) r;
             blocks = unless_refused refusal (closed_blocks (current r)) 0;
           };
@@ -219,6 +236,6 @@ closing r part =
 
 -- ---- our own call (SPEC 15.5): the number of values of the days closed in the season; test 6
 
-unfoldable pub written_so_far : Record → Writing
+unfoldable pub written_so_far : Record → Result ℕ Refusal
 written_so_far r =
-    writing_of (first_refusal (allowed_record r or_refuse 6 ∷ [])) (length (chains r.scheme r.n r.days))
+    answered (tested (allowed_record r or_refuse cause.BadRecord ∷ [])) (length (chains r.scheme r.n r.days))

@@ -1,14 +1,15 @@
 // A record: fresh, of zeros, its tests 6 and 5, and the turn to the next season.
-ghost use Rattle.std.specs.Prelude.{◌≡◌, suc, ◌<◌};
+ghost use Rattle.std.specs.Prelude.{◌≡◌, suc, ◌<◌, Ok};
 ghost use Rattle.refusals.specs.Refusals.{last_season};
-ghost use Rattle.layouts.specs.Layouts.{setup_refusal};
+ghost use Rattle.layouts.specs.Layouts.{setup_tested};
 ghost use Rattle.service.specs.Contract as spec;
 ghost use Rattle.service.specs.Contract.{allowed_record};
-ghost use Rattle.service.specs.Private.{record_refusal};
+ghost use Rattle.service.specs.Private.{record_tested};
 
 use crate::Record;
 use chains::Value;
 use hasher::Hasher;
+use refusals::Refusal;
 
 // Day 1 of a season: no day closed, no byte in the open day, each chain at the start.
 #[tactic(auto, unfolding(crate::specs::Contract::at_start))]
@@ -33,7 +34,7 @@ fn at_start(scheme: u32, n: u32, f: u32, start: Value, season: u32) -> Record
 
 #[tactic(auto, unfolding(crate::specs::Contract::fresh))]
 pub fn fresh(scheme: u32, n: u32, f: u32) -> Record
-    requires { setup_refusal scheme n f ≡ 0 }
+    requires { setup_tested scheme n f ≡ Ok tt }
     ensures { result ≡ spec.fresh scheme n f }
 {
     at_start(scheme, n, f, chains::start(scheme, n), 0)
@@ -64,7 +65,7 @@ pub fn zeros() -> Record
 pub fn allowed(state: Record) -> bool
     ensures { result ≡ allowed_record state }
 {
-    if layouts::setup_refusal(state.scheme, state.n, state.f) != 0
+    if layouts::test_setup(state.scheme, state.n, state.f).is_err()
         || state.days > refusals::BOOK_LIMIT
         || state.bytes > refusals::DAY_LIMIT
         || state.season > refusals::LAST_SEASON
@@ -76,16 +77,16 @@ pub fn allowed(state: Record) -> bool
 
 // Tests 6 5.
 #[tactic(auto, using(crate::proofs::RecordLaws::tests_6_5))]
-pub fn refusal(state: Record) -> u32
-    ensures { result ≡ record_refusal state }
+pub fn test(state: Record) -> Result<(), Refusal>
+    ensures { result ≡ record_tested state }
 {
     if !allowed(state) {
-        return 6;
+        return Err(Refusal::BadRecord);
     }
     if refusals::BOOK_LIMIT <= state.days && refusals::LAST_SEASON <= state.season {
-        return 5;
+        return Err(Refusal::LastSeasonFull);
     }
-    0
+    Ok(())
 }
 
 // ---- the turn (SPEC 23.2)
@@ -116,7 +117,7 @@ pub fn turned(state: Record) -> Record
 
 // The day that a close closes.
 pub fn open_day(state: Record) -> u32
-    requires { record_refusal state ≡ 0 }
+    requires { record_tested state ≡ Ok tt }
     ensures { result ≡ suc (spec.current state).days }
 {
     if turns(state) { 1 } else { state.days + 1 }

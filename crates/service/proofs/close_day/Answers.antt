@@ -10,15 +10,15 @@ use Rattle.service.proofs.close_day.Goals.{then-k-gt0, else-k-gt0}
 
 pub day_values-values-requires : goal.day_values-values-requires
 day_values-values-requires c =
-    let a = day_asks c.args.state c.requires.0 in
+    let a = day_asks c.args.state.now c.requires.0 in
     (a.0, a.1, a.2, a.3, c.values_of_day-k.ensures ∙ chains_of_day-length _ _ _)
 
 pub write-requires : goal.write-requires
-write-requires c = day_fits c.args.state _ (count_is c.args.state c.values_of_day-k.ensures) c.requires.0 c.requires.1
+write-requires c = day_fits c.args.state.now _ (count_is c.args.state.now c.values_of_day-k.ensures) c.requires.0 c.requires.1
 
 pub next-requires : goal.next-requires
 next-requires c =
-    let r = c.args.state in (
+    let r = c.args.state.now in (
       c.requires.0,
       elim c.if-k-gt0.branch [
         | then-k-gt0 w ↦ rw w.running-is (restarted_after r c.linked.ensures w.restart_slots-again.ensures)
@@ -28,7 +28,7 @@ next-requires c =
 
 pub returns : goal.returns
 returns c =
-    let r = c.args.state in
+    let r = c.args.state.now in
     let many = count_is r c.values_of_day-k.ensures in
     closed_of r many c.next.ensures c.of_close.ensures (elim c.if-k-gt0.branch [
       | then-k-gt0 w ↦ rw w.part-is (wrote_as (day_bytes r) (day_bytes_lem r c.linked.ensures _ _ w.day_values-values.ensures) w.write.ensures)

@@ -1,5 +1,5 @@
 -- `service::records::open_day` meets its contract.
-use mathlib.Core.Path.{refl, sym, ap, ◌∙◌}
+use mathlib.Core.Path.{sym, ap, ◌∙◌}
 use Prim.Native.Nat.{suc}
 use native.Mathlib.Omega.{arith}
 use Rattle.service.specs.declared.Record.{Record}
@@ -11,7 +11,7 @@ returns-then-turns c = sym (ap suc (current_days c.args.state (sym c.turns.ensur
 
 pub overflow_add-result : goal.overflow_add-result
 overflow_add-result c =
-    record { fits = omega (arith, (record_passes c.args.state refl c.requires).0.days_most) }
+    record { fits = omega (arith, (record_passes c.args.state c.requires).0.days_most) }
 
 pub returns-else-turns : goal.returns-else-turns
 returns-else-turns c =
