@@ -1,6 +1,7 @@
 -- 01's three layouts (SPEC 4): what is allowed; the chains in book order, their number and places; refusals 1 2 3 7.
 -- Definitions only.
-use Rattle.std.specs.Prelude.{Bool, true, false, not, ◌&&◌, ◌||◌, cond, ℕ, zero, suc, pred, ◌+◌, ◌-◌, ◌*◌, ◌/◌, ◌%◌, ◌^◌, eqb, leb}
+use Rattle.std.specs.Prelude.{Bool, true, false, not, ◌&&◌, ◌||◌, cond, ℕ, zero, suc, pred, ◌+◌, ◌-◌, ◌*◌, ◌/◌, ◌%◌}
+use Rattle.std.specs.Prelude.{◌^◌, eqb, leb}
 use Rattle.std.specs.Prelude.{Result}
 use mathlib.Core.List.{List, [], ◌∷◌, ◌++◌, map, flat_map}
 use Rattle.std.specs.Int.Count.{ones}
@@ -77,8 +78,10 @@ stores_black_of_tree n g = divides n g && not (stored_once g)
 abbrev pub names_of_day : ℕ → ℕ → ℕ → List Name
 names_of_day zero n g = []
 names_of_day (suc zero) n g = cond (divides n g) (black g ∷ []) []
-names_of_day (suc (suc zero)) n g = cond (divides n g) (map (λ i. tile i g) (up_from 0 (suc (lg n))) ++ (black g ∷ [])) []
-names_of_day (suc (suc (suc zero))) n g = map (λ l. tree l g) (levels g) ++ cond (stores_black_of_tree n g) (black g ∷ []) []
+names_of_day (suc (suc zero)) n g =
+    cond (divides n g) (map (λ i. tile i g) (up_from 0 (suc (lg n))) ++ (black g ∷ [])) []
+names_of_day (suc (suc (suc zero))) n g =
+    map (λ l. tree l g) (levels g) ++ cond (stores_black_of_tree n g) (black g ∷ []) []
 names_of_day (suc (suc (suc (suc s)))) n g = []
 
 -- 01's book order (SPEC 4.10): the names of the values over d days

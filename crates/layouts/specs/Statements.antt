@@ -6,7 +6,8 @@ use Rattle.layouts.specs.Layouts.{allowed_n, lg, covers, layout_refusal, chains,
 
 -- 01's number of values (SPEC 4.12) is the number of the layout's chains, wherever 01 allows the number of days
 abbrev pub ValuesCounted : Type 0
-ValuesCounted = (scheme n f d : ℕ) → layout_refusal scheme n f d ≡ 0 → value_count scheme n d ≡ length (chains scheme n d)
+ValuesCounted =
+    (scheme n f d : ℕ) → layout_refusal scheme n f d ≡ 0 → value_count scheme n d ≡ length (chains scheme n d)
 
 -- the values of fewer days are the front of a book (SPEC 4.10)
 abbrev pub BookFront : Type 0

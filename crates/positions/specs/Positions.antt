@@ -58,7 +58,8 @@ located scheme n f d position =
 -- 02's test 18, after 1 2 3 7: a chain of the book has these four
 abbrev pub chain_tests : ℕ → ℕ → ℕ → List ℕ → List Test
 chain_tests scheme n d numbers =
-    leb (suc (first_place numbers (book_numbers scheme n d))) (length (book_numbers scheme n d)) or_refuse cause.NotInBook ∷ []
+    leb (suc (first_place numbers (book_numbers scheme n d))) (length (book_numbers scheme n d))
+    or_refuse cause.NotInBook ∷ []
 
 -- what position_of gives
 unfoldable pub placed : ℕ → ℕ → ℕ → ℕ → List ℕ → Result ℕ Refusal

@@ -1,5 +1,6 @@
 -- 01's reading (SPEC 8), with 02's P (SPEC 19): its tests, what it says, and the list after it. Definitions only.
-use Rattle.std.specs.Prelude.{Bool, true, false, ◌&&◌, ◌||◌, List, [], ◌∷◌, ◌++◌, ℕ, eqb, leb, ltb, length, take, Result}
+use Rattle.std.specs.Prelude.{Bool, true, false, ◌&&◌, ◌||◌, List, [], ◌∷◌, ◌++◌, ℕ, eqb, leb, ltb, length, take}
+use Rattle.std.specs.Prelude.{Result}
 use Rattle.evidence.specs.Evidence.{listing, accepted}
 use Rattle.refusals.specs.Refusals.{Test, ◌or_refuse◌, tested, number, number_of, unless_refused, front_written}
 use Rattle.refusals.specs.declared.Refusal.{Refusal}
@@ -76,7 +77,8 @@ allowed_passed n d passed = ltb passed d && divides n passed
 
 -- 01's tests 1 2 3 7, then 02's test 19 (SPEC 10.19)
 abbrev pub passed_tests : ℕ → ℕ → ℕ → ℕ → ℕ → List Test
-passed_tests scheme n f d passed = layout_tests scheme n f d ++ (allowed_passed n d passed or_refuse cause.BadPassed ∷ [])
+passed_tests scheme n f d passed =
+    layout_tests scheme n f d ++ (allowed_passed n d passed or_refuse cause.BadPassed ∷ [])
 
 unfoldable pub passed_tested : ℕ → ℕ → ℕ → ℕ → ℕ → Result Unit Refusal
 passed_tested scheme n f d passed = tested (passed_tests scheme n f d passed)

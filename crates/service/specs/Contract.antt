@@ -1,6 +1,7 @@
 -- What open, add and close answer, give back and write, for every record, whatever its words, block bytes and start
 -- (SPEC 5.1). Definitions only.
-use Rattle.std.specs.Prelude.{Bool, ◌&&◌, ◌||◌, cond, List, [], ◌∷◌, ◌++◌, ℕ, suc, ◌+◌, ◌*◌, eqb, leb, ltb, length, replicate}
+use Rattle.std.specs.Prelude.{Bool, ◌&&◌, ◌||◌, cond, List, [], ◌∷◌, ◌++◌, ℕ, suc, ◌+◌, ◌*◌, eqb, leb, ltb, length}
+use Rattle.std.specs.Prelude.{replicate}
 use Rattle.std.specs.Prelude.{Result, Ok, Err}
 use Rattle.refusals.specs.Refusals.{book_limit, day_limit, last_season, Test, ◌or_refuse◌, tested, number_of, answered}
 use Rattle.refusals.specs.Refusals.{unless_refused, front_written}
@@ -8,7 +9,8 @@ use Rattle.refusals.specs.declared.Refusal.{Refusal}
 use Rattle.refusals.specs.declared.Refusal.TheVariants as cause
 use Rattle.hasher.specs.declared.Hasher.{Hasher}
 use Rattle.hasher.specs.Hasher.{begun, absorbed, absorbed_blocks, finished, finished_blocks}
-use Rattle.layouts.specs.Layouts.{allowed_scheme, allowed_n, allowed_f, setup_tested, setup_refusal, chains_of_day, chains}
+use Rattle.layouts.specs.Layouts.{allowed_scheme, allowed_n, allowed_f, setup_tested, setup_refusal, chains_of_day}
+use Rattle.layouts.specs.Layouts.{chains}
 use Rattle.chains.specs.declared.Value.{Value}
 use Rattle.chains.specs.Step.{start_value, linked, link_blocks, linked_slots, slot_blocks, restarted, day_values}
 use Rattle.chains.specs.Step.{value_bytes}
@@ -95,7 +97,8 @@ allowed_record r =
 -- the tests with which add and close begin: 6 of the record handed in; then 5 (SPEC 10.5), and all others, of the one
 -- that the call is made on
 abbrev pub record_tests : Record → List Test
-record_tests r = allowed_record r or_refuse cause.BadRecord ∷ ltb (current r).days book_limit or_refuse cause.LastSeasonFull ∷ []
+record_tests r =
+    allowed_record r or_refuse cause.BadRecord ∷ ltb (current r).days book_limit or_refuse cause.LastSeasonFull ∷ []
 
 -- then test 4 (SPEC 10.4), for a piece of size bytes
 abbrev pub add_tests : Record → ℕ → List Test

@@ -45,7 +45,8 @@ pub fn digest(state: Record) -> [u32; 8]
     hasher::finish(so_far(state), u64::from(state.bytes) + 1)
 }
 
-// Black and the slots with the open day linked. `chains::step` is not called for it: it would copy the slots twice more.
+// Black and the slots with the open day linked. `chains::step` is not called for it: it would copy the slots twice
+// more.
 #[tactic(auto, using(crate::proofs::DayLaws::day_links))]
 pub fn linked(state: Record) -> (Value, [Value; 17])
     requires { Open state }

@@ -1,4 +1,5 @@
-// The service: open, add to the open day, close the day. A refused call leaves the record as it was. Where a season is full and not the last, add and close are made on the next (SPEC 23.2).
+// The service: open, add to the open day, close the day. A refused call leaves the record as it was. Where a season is
+// full and not the last, add and close are made on the next (SPEC 23.2).
 #![tactic(auto)]
 
 mod blocks;
