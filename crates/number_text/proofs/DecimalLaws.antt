@@ -1,29 +1,20 @@
 -- Laws of writing numbers: decimals, numbers after commas.
-use mathlib.Core.{Path.◌≡◌, Path.refl, Path.sym, Path.ap, Logic.inl, Logic.inr}
+use mathlib.Core.{Path.◌≡◌, Path.refl, Logic.inl, Logic.inr}
 use mathlib.Core.List.{List, [], ◌∷◌, ◌++◌, append_assoc, append-nil}
 use Prim.Native.Nat.{ℕ, zero, suc, ◌+◌, ◌-◌, ◌*◌, ◌/◌, ◌%◌, ◌≤◌, ◌<◌}
 use native.Mathlib.{Numerals.add-one, Omega.arith}
 use lib.{Dec.ltb, ListN.length, ListN.get_or, ListN.set, ListN.take, ListN.length-append}
-use lib.Seq.{take_all, take-suc, length-take-le}
+use lib.Seq.{take-suc, length-take-le}
 use borrow.Author.Tests.{lt-ltb, le-ltb}
 use Rattle.lists.proofs.Laws.{split}
 use Rattle.buffers.specs.Private.{Wrote}
-use Rattle.buffers.proofs.Writes.{wrote_none, wrote_one, wrote_as, wrote_byte, wrote_join}
+use Rattle.buffers.proofs.Writes.{wrote_none, wrote_one, wrote_byte, wrote_join}
 use Rattle.number_text.specs.Numbers.{decimal_in, decimal, comma_numbers}
 
 -- ---- decimals
 
-pub not_zero : (k : ℕ) → (k ≡ 0 → ⊥) → 1 ≤ k
-not_zero k f = omega arith
-
 pub place_within : (at k n : ℕ) → (k ≡ 0 → ⊥) → at + k ≤ n → at < n
 place_within at k n f h = omega arith
-
-pub digits_left : (k t at n : ℕ) → k ≡ t → (k ≡ 0 → ⊥) → at + k ≤ n → (k - 1 < t) × (at + (k - 1) ≤ n)
-digits_left k t at n e f h = omega arith
-
-pub decimal_none : (k x : ℕ) → k ≡ 0 → decimal_in k x ≡ []
-decimal_none k x e = rw e
 
 pub decimal_one : (k x : ℕ) → (k ≡ 0 → ⊥) → x < 10 → decimal_in k x ≡ (48 + x) ∷ []
 decimal_one zero x n h = absurd (n refl)
@@ -86,6 +77,3 @@ numbers_next at i r t xs l m k h b w v =
     let q = length-take-le (i + 1) xs (omega arith) in
     let f = numbers_most (take (i + 1) xs) in
     wrote_join at (comma_numbers (take (i + 1) xs)) (comma_numbers (take i xs)) (44 ∷ decimal (get_or xs i 0)) l m k r t (numbers_snoc xs i h) (omega arith) w v
-
-pub numbers_all : (at i r : ℕ) (xs l m : List ℕ) → i ≡ length xs → Wrote at (comma_numbers (take i xs)) l r m → Wrote at (comma_numbers xs) l r m
-numbers_all at i r xs l m h w = wrote_as (comma_numbers xs) (ap comma_numbers (sym (take_all i xs (omega arith)))) w

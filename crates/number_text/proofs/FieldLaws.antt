@@ -1,41 +1,26 @@
 -- Laws of reading numbers: digits, numbers, marks, fields.
-use mathlib.Core.{Path.◌≡◌, Path.refl, Path.sym, Path.ap, Path.ap₂, Path.◌∙◌, Logic.inl, Logic.inr, Bool.Bool}
-use mathlib.Core.{Bool.true, Bool.false, Bool.not, Bool.◌&&◌, Bool.◌||◌, List.List, List.[], List.◌∷◌, List.◌++◌}
-use Prim.Native.Nat.{ℕ, zero, suc, ◌+◌, ◌-◌, ◌*◌, ◌≤◌, ◌<◌, ◌^◌}
+use mathlib.Core.{Path.◌≡◌, Path.refl, Path.sym, Path.ap, Path.◌∙◌, Logic.inl, Logic.inr, Bool.Bool}
+use mathlib.Core.{Bool.true, Bool.false, Bool.cond, Bool.not, Bool.◌&&◌, Bool.◌||◌, Bool.and-true, List.List, List.[], List.◌∷◌, List.◌++◌}
+use Prim.Native.Nat.{ℕ, zero, suc, ◌+◌, ◌*◌, ◌≤◌, ◌<◌}
 use native.Mathlib.{Numerals.add-one, Omega.arith}
-use lib.{Dec.eqb, Dec.leb, Seq.take_all, Seq.take-suc, Seq.drop-cons, Seq.drop-drop, Seq.drop-append_seam}
-use lib.ListN.{length, get_or, take, drop, length-drop, drop_of_length-le, take-append-drop}
-use borrow.Author.Tests.{eq-eqb, eqb-true, ne_eqb, le-leb, lt-leb, leb-true, not-true, not-false}
+use lib.{Dec.eqb, Dec.leb, Seq.take_all, Seq.take-suc, Seq.drop-append_seam}
+use lib.ListN.{length, get_or, take, drop, take-append-drop}
+use Rattle.std.proofs.lemmas.Bool.Decides.{nat_tests}
+use borrow.Author.Tests.{eq-eqb, eqb-true, leb-true}
 use Rattle.lists.proofs.Laws.{split, true_or_false, and_both, up_from_mem, every_at}
 use Rattle.lists.specs.Lists.{up_from}
+use Rattle.std.specs.Prelude.{Some, None}
+use Rattle.std.specs.List.{take_while}
+use Rattle.std.specs.List as list
+use Rattle.std.proofs.lemmas.List.Sums.{take_while-cons}
 use Rattle.number_text.specs.Numbers.{is_digit, digit_of, digits, after_digits, is_number, number_from, Number, starts_with, is_field, value_in, after_field}
-use Rattle.number_text.specs.Private.{FieldAt}
 
 -- ---- digits
 
--- how many digits stand from a place on
-abbrev run : List ℕ → ℕ → ℕ
-run s i = length (digits (drop i s))
-
-run_more : (s : List ℕ) (i : ℕ) → i < length s → is_digit (get_or s i 0) ≡ true → run s i ≡ suc (run s (i + 1))
-run_more s i l e = ap (λ (x : List ℕ). length (digits x)) (drop-cons s i 0 l) ∙ rw (e, add-one i)
-
-run_stop : (s : List ℕ) (i : ℕ) → i < length s → is_digit (get_or s i 0) ≡ false → run s i ≡ 0
-run_stop s i l e = ap (λ (x : List ℕ). length (digits x)) (drop-cons s i 0 l) ∙ rw e
-
-run_past : (s : List ℕ) (i : ℕ) → length s ≤ i → run s i ≡ 0
-run_past s i l = ap (λ (x : List ℕ). length (digits x)) (drop_of_length-le s l)
-
-pub digits_next : (s : List ℕ) (at i : ℕ) {b : Bool} → i < length s → b ≡ is_digit (get_or s i 0) → not b ≡ false → at + length (digits (drop at s)) ≡ i + length (digits (drop i s)) →
-    at + length (digits (drop at s)) ≡ i + 1 + length (digits (drop (i + 1) s))
-digits_next s at i {b} l e n h = let w = run_more s i l (sym e ∙ not-false b n) in omega arith
-
-pub digits_found : (s : List ℕ) (at i : ℕ) {b : Bool} → i < length s → b ≡ is_digit (get_or s i 0) → not b ≡ true → at + length (digits (drop at s)) ≡ i + length (digits (drop i s)) →
-    i ≡ at + length (digits (drop at s))
-digits_found s at i {b} l e n h = let w = run_stop s i l (sym e ∙ not-true b n) in omega arith
-
-pub digits_all : (s : List ℕ) (at i : ℕ) → length s ≤ i → at + length (digits (drop at s)) ≡ i + length (digits (drop i s)) → i ≡ at + length (digits (drop at s))
-digits_all s at i l h = let w = run_past s i l in omega arith
+-- what is taken while digits stand
+taken_lem : (s : List ℕ) → take_while is_digit s ≡ digits s
+taken_lem [] = refl
+taken_lem (b ∷ s) = take_while-cons is_digit b s ∙ ap (λ (r : List ℕ). cond (is_digit b) (b ∷ r) []) (taken_lem s)
 
 pub digits_take : (s : List ℕ) → take (length (digits s)) s ≡ digits s
 digits_take [] = refl
@@ -45,30 +30,30 @@ digits_most : (s : List ℕ) → length (digits s) ≤ length s
 digits_most [] = omega arith
 digits_most (b ∷ s) = let h = digits_most s in elim (split (is_digit b)) [ inl e ↦ rw e (omega arith) | inr e ↦ rw e (omega arith) ]
 
--- the part from a place to where its digits end
-pub digits_part : (s : List ℕ) (at end : ℕ) → end ≡ at + length (digits (drop at s)) → take (end - at) (drop at s) ≡ digits (drop at s)
-digits_part s at end e = let w : end - at ≡ length (digits (drop at s)) = omega arith in rw w (digits_take (drop at s))
+-- digits and what follows them, by their count
+module _ (s : List ℕ) {k : ℕ} (e : k ≡ length (take_while is_digit s)) where
+  count_is : k ≡ length (digits s)
+  count_is = e ∙ ap length (taken_lem s)
 
-pub digits_within : (s : List ℕ) (at end : ℕ) → at ≤ length s → end ≡ at + length (digits (drop at s)) → (at ≤ end) × (end ≤ length s)
-digits_within s at end h e = let w = digits_most (drop at s) in let l = length-drop at s in omega arith
+  pub count_within : k ≤ length s
+  count_within = omega (arith, count_is, digits_most s)
+
+  pub count_front : take k s ≡ digits s
+  count_front = ap (λ (i : ℕ). take i s) count_is ∙ digits_take s
+
+  pub count_back : drop k s ≡ after_digits s
+  unfolding after_digits
+  count_back = ap (λ (i : ℕ). drop i s) count_is
+
+pub ruleset by_count = (count_within, count_front, count_back)
 
 -- ---- a number
 
-pub number_more : (ds : List ℕ) → (length ds ≡ 0 → ⊥) → length ds ≤ 5 → (length ds ≡ 1 → ⊥) → not (eqb (get_or ds 0 0) 48) ≡ is_number ds
+pub number_short : (ds : List ℕ) → is_number ds ≡ true → length ds ≤ 5
 unfolding is_number
-number_more ds z h n = rw (le-leb 1 (length ds) (omega arith), le-leb (length ds) 5 h, ne_eqb (length ds) 1 n)
-
-pub number_none : (ds : List ℕ) → length ds ≡ 0 → false ≡ is_number ds
-unfolding is_number
-number_none ds z = rw z
-
-pub number_long : (ds : List ℕ) → 5 < length ds → false ≡ is_number ds
-unfolding is_number
-number_long ds h = rw (le-leb 1 (length ds) (omega arith), lt-leb (length ds) 5 h)
-
-pub number_one : (ds : List ℕ) → length ds ≡ 1 → true ≡ is_number ds
-unfolding is_number
-number_one ds e = rw e
+number_short ds e =
+    let h = (and_both (leb 1 (length ds) && leb (length ds) 5) (eqb (length ds) 1 || not (eqb (get_or ds 0 0) 48)) e).0 in
+    leb-true (length ds) 5 (and_both (leb 1 (length ds)) (leb (length ds) 5) h).1
 
 pub number_snoc : (v : ℕ) (ds : List ℕ) (b : ℕ) → number_from v (ds ++ (b ∷ [])) ≡ 10 * number_from v ds + digit_of b
 number_snoc v [] b = refl
@@ -76,9 +61,6 @@ number_snoc v (x ∷ ds) b = number_snoc (10 * v + digit_of x) ds b
 
 pub number_next : (ds : List ℕ) (i v : ℕ) {x y : ℕ} → i < length ds → v ≡ number_from 0 (take i ds) → y ≡ digit_of (get_or ds i 0) → x ≡ y → 10 * v + x ≡ number_from 0 (take (i + 1) ds)
 number_next ds i v l e f g = rw (e, g, f, add-one i, take-suc ds i 0 l) (sym (number_snoc 0 (take i ds) (get_or ds i 0)))
-
-pub number_done : (ds : List ℕ) (i v : ℕ) → length ds ≤ i → v ≡ number_from 0 (take i ds) → v ≡ number_from 0 ds
-number_done ds i v l e = e ∙ ap (number_from 0) (take_all i ds l)
 
 -- with bytes for digits it stays below this
 abbrev pub most : ℕ → ℕ
@@ -88,44 +70,34 @@ most (suc i) = 10 * most i
 most_in : (i : ℕ) → i < 5 → most i ≤ 290000
 most_in i h = leb-true (most i) 290000 (every_at (λ i. leb (most i) 290000) {g = i} {xs = up_from 0 5} (up_from_mem 0 5 i (omega arith) h) refl)
 
-pub number_fits : (i v k : ℕ) {x : ℕ} → v + 29 ≤ most i → i < k → k ≤ 5 → x < 256 → 10 * v + x < 2 ^ 32
-number_fits i v k h l m n = let w = most_in i (omega arith) in omega arith
-
-pub number_stays : (i v : ℕ) {x : ℕ} → v + 29 ≤ most i → x < 256 → 10 * v + x + 29 ≤ most (i + 1)
-number_stays i v h n = rw (add-one i) (omega arith)
-
-pub value_short : (ds : List ℕ) {r : ℕ} → length ds ≤ 5 → r ≡ number_from 0 ds → r ≡ number_from 0 (take 5 ds)
-value_short ds h e = e ∙ ap (number_from 0) (sym (take_all 5 ds h))
-
--- ---- marks
-
-pub starts_at : (s : List ℕ) (at mark : ℕ) → at < length s → eqb (get_or s at 0) mark ≡ starts_with mark (drop at s)
-starts_at s at mark l = rw (drop-cons s at 0 l)
-
-pub starts_past : (s : List ℕ) (at mark : ℕ) → length s ≤ at → false ≡ starts_with mark (drop at s)
-starts_past s at mark l = ap (starts_with mark) (sym (drop_of_length-le s l))
-
-pub after_byte : (s : List ℕ) (end : ℕ) → drop (end + 1) s ≡ drop 1 (drop end s)
-after_byte s end = sym (drop-drop 1 end s)
-
-pub after_past : (s : List ℕ) (end : ℕ) → length s ≤ end → drop end s ≡ drop 1 (drop end s)
-after_past s end l = rw (drop_of_length-le s l)
+pub number_small : (i v k : ℕ) → v + 29 ≤ most i → i < k → k ≤ 5 → v ≤ 290000
+number_small i v k h l m = let w = most_in i (omega arith) in omega arith
 
 -- ---- a field
 
-pub field_is : (s : List ℕ) (at mark : ℕ) {end r x : ℕ} {n m b : Bool} → end ≡ at + length (digits (drop at s)) → n ≡ is_number (take (end - at) (drop at s)) →
-    x ≡ number_from 0 (take 5 (take (end - at) (drop at s))) → m ≡ starts_with mark (drop end s) → b ≡ n && m → (drop r s ≡ drop 1 (drop end s)) × (r ≤ length s) →
-    FieldAt s at mark (record { ok = b; value = x; next = r })
-unfolding is_field value_in after_field after_digits
-field_is s at mark {end} {r} {x} {n} {m} {b} e f g h k l =
-    let p : take (end - at) (drop at s) ≡ digits (drop at s) = digits_part s at end e in
-    let q : drop end s ≡ drop (length (digits (drop at s))) (drop at s) = ap (λ (i : ℕ). drop i s) e ∙ sym (drop-drop (length (digits (drop at s))) at s) in
-    record {
-      ok_is = k ∙ ap₂ ◌&&◌ (f ∙ ap is_number p) (h ∙ ap (starts_with mark) q);
-      value_is = g ∙ ap (λ (y : List ℕ). number_from 0 (take 5 y)) p;
-      rest_is = l.0 ∙ ap (drop 1) q;
-      within = l.1;
-    }
+same_either_way : (m b : ℕ) → eqb m b ≡ eqb b m
+same_either_way m b = grind (arith, nat_tests)
+
+starts_lem : (m : ℕ) (t : List ℕ) → list.starts_with eqb t (m ∷ []) ≡ starts_with m t
+starts_lem m [] = refl
+starts_lem m (b ∷ t) = and-true (eqb m b) ∙ same_either_way m b
+
+-- its number, where it is as laid out
+module _ (m : ℕ) (s : List ℕ) where
+  pub field_some : is_number (digits s) ≡ true → list.starts_with eqb (after_digits s) (m ∷ []) ≡ true →
+      Some (number_from 0 (digits s)) ≡ cond (is_field m s) (Some (value_in s)) None
+  unfolding is_field value_in
+  field_some h k = rw (h, sym (starts_lem m (after_digits s)) ∙ k, take_all 5 (digits s) (number_short (digits s) h))
+
+  pub field_none : {b : Bool} → b ≡ is_number (digits s) → b ≡ false → None ≡ cond (is_field m s) (Some (value_in s)) None
+  unfolding is_field
+  field_none e f = rw (sym e ∙ f)
+
+  pub field_unmarked : is_number (digits s) ≡ true → list.starts_with eqb (after_digits s) (m ∷ []) ≡ false → None ≡ cond (is_field m s) (Some (value_in s)) None
+  unfolding is_field
+  field_unmarked h k = rw (h, sym (starts_lem m (after_digits s)) ∙ k)
+
+pub ruleset field_laws = (number_short, field_some, field_none, field_unmarked)
 
 -- ---- a field that is laid out
 
@@ -140,12 +112,6 @@ digits_before (b ∷ ds) m r e n = let h = first_digit b ds e in rw (h.0, digits
 pub after_before : (ds : List ℕ) (m : ℕ) (r : List ℕ) → digits ds ≡ ds → is_digit m ≡ false → after_digits (ds ++ (m ∷ r)) ≡ m ∷ r
 unfolding after_digits
 after_before ds m r e n = ap (λ (x : List ℕ). drop (length x) (ds ++ (m ∷ r))) (digits_before ds m r e n) ∙ drop-append_seam ds (m ∷ r)
-
-number_short : (ds : List ℕ) → is_number ds ≡ true → length ds ≤ 5
-unfolding is_number
-number_short ds e =
-    let h = (and_both (leb 1 (length ds) && leb (length ds) 5) (eqb (length ds) 1 || not (eqb (get_or ds 0 0) 48)) e).0 in
-    leb-true (length ds) 5 (and_both (leb 1 (length ds)) (leb (length ds) 5) h).1
 
 module _ (ds : List ℕ) (m : ℕ) (r : List ℕ) (k : Number ds) (n : is_digit m ≡ false) where
   pub laid_field : is_field m (ds ++ (m ∷ r)) ≡ true

@@ -36,10 +36,8 @@ pub fn put_numbers(out: &mut [u8], at: usize, numbers: &[u32]) -> usize
     ensures { Wrote at (comma_numbers numbers.now) out.old result out.new }
 {
     let mut next = at;
-    let mut i = 0usize;
-    while i < numbers.len() {
-        next = put_number(out, next, numbers[i]);
-        i += 1;
+    for x in numbers {
+        next = put_number(out, next, *x);
     }
     next
 }

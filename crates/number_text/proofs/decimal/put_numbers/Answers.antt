@@ -1,26 +1,12 @@
 -- `number_text::decimal::put_numbers` meets its contract.
-use Rattle.number_text.proofs.DecimalLaws.{numbers_none, numbers_room, numbers_next, numbers_all}
-use borrow.Author.Rules.{rules}
-use mathlib.Core.Path.{refl}
+use Rattle.number_text.proofs.DecimalLaws.{numbers_none, numbers_room, numbers_next}
 use Rattle.number_text.proofs.decimal.put_numbers.Goals as goal
 
-pub loop-i-init : goal.loop-i-init
-loop-i-init c = (search rules, refl, numbers_none _ c.args.numbers.now _)
+pub loop-x-init : goal.loop-x-init
+loop-x-init c = numbers_none c.args.at c.args.numbers.now c.args.out.now
 
 pub put_number-next-requires : goal.put_number-next-requires
-put_number-next-requires c =
-    let l = c.loop-i in
-    numbers_room _ _ _ _ _ _ _ c.loop-i-test.true c.requires l.invariant.1 l.invariant.2
+put_number-next-requires c = numbers_room _ _ _ _ _ _ _ c.loop-x-test.true c.requires c.loop-x.auto.out c.loop-x.invariant
 
-pub loop-i-preserved : goal.loop-i-preserved
-loop-i-preserved c = (
-  search rules,
-  search rules,
-  numbers_next _ _ _ _ _ _ _ _ c.loop-i-test.true
-      c.requires c.loop-i.invariant.2 c.put_number-next.ensures,
-)
-
-pub returns : goal.returns
-returns c =
-    let a = c.args in let l = c.loop-i in
-    numbers_all a.at l.i l.next a.numbers.now a.out.now l.out (search rules) l.invariant.2
+pub loop-x-preserved : goal.loop-x-preserved
+loop-x-preserved c = numbers_next _ _ _ _ _ _ _ _ c.loop-x-test.true c.requires c.loop-x.invariant c.put_number-next.ensures
