@@ -1,24 +1,16 @@
--- Laws of outcomes taken in turn: their greatest and least, tables of 0 and 1, tables of passes.
+-- Laws of outcomes: their greatest and least, tables of 0 and 1, tables of passes.
 use mathlib.Core.{Path.◌≡◌, Path.refl, Path.sym, Path.ap, Path.◌∙◌, Logic.inl, Logic.inr, List.List, List.[], List.◌∷◌}
 use mathlib.Core.Bool.{true, ◌&&◌, ◌||◌, and-true, and-false}
-use Prim.Native.Nat.{ℕ, zero, suc, ◌+◌, ◌≤◌, ◌<◌, min, max}
-use native.Mathlib.{Numerals.add-one, Omega.arith}
-use lib.{Dec.eqb, Dec.leb, ListN.length, ListN.get_or, ListN.drop, Seq.drop-cons, Seq.drop-length}
+use Prim.Native.Nat.{ℕ, zero, suc, ◌≤◌, min, max}
+use native.Mathlib.{Omega.arith}
+use lib.{Dec.eqb, Dec.leb, ListN.length}
 use borrow.Author.Tests.{eqb-true, ne_eqb, le-leb, lt-leb, leb-true}
 use Rattle.evidence.specs.Evidence.{table_of, accepted}
 use Rattle.lists.proofs.Laws.{true_or_false, or_split, and_both, bool_ext, mem_has}
 use Rattle.evidence.proofs.TableLaws.{none_met, given_iff_accepted}
 use Rattle.acceptance.specs.Private.{Bits}
-use Rattle.reading.specs.{Contract.bits, Private.in_turn, Private.greatest, Private.least}
-
--- ---- one more in turn
-
-pub turn_next : (join : ℕ → ℕ → ℕ) (t : List ℕ) (i v w x : ℕ) → i < length t → in_turn join v (drop i t) ≡ x → w ≡ join v (get_or t i 0) →
-    in_turn join w (drop (i + 1) t) ≡ x
-turn_next join t i v w x l e h = rw (add-one, h) (sym (ap (in_turn join v) (drop-cons t i 0 l)) ∙ e)
-
-pub turn_last : (join : ℕ → ℕ → ℕ) (t : List ℕ) (i v x : ℕ) → i ≡ length t → in_turn join v (drop i t) ≡ x → v ≡ x
-turn_last join t i v x l e = rw (l, drop-length t) at e
+use Rattle.std.specs.List.{fold}
+use Rattle.reading.specs.{Contract.bits, Private.greatest, Private.least}
 
 -- ---- 0 and 1
 
@@ -28,7 +20,7 @@ bits_at (o ∷ t) e zero = elim (or_split (eqb o 0) (eqb o 1) (and_both (eqb o 0
 bits_at (o ∷ t) e (suc p) = bits_at t (and_both (eqb o 0 || eqb o 1) (bits t) e).1 p
 
 -- the greatest of v and the outcomes is at most 1 exactly if v is and each of them is 0 or 1
-bits_from : (t : List ℕ) (v : ℕ) → leb (in_turn max v t) 1 ≡ leb v 1 && bits t
+bits_from : (t : List ℕ) (v : ℕ) → leb (fold max v t) 1 ≡ leb v 1 && bits t
 bits_from [] v = sym (and-true (leb v 1))
 bits_from (o ∷ t) v = bits_from t (max v o) ∙ go o
   where
@@ -47,7 +39,7 @@ bits_by t = bits_from t 0
 
 -- ---- passes
 
-least_most : (t : List ℕ) (v : ℕ) → in_turn min v t ≤ v
+least_most : (t : List ℕ) (v : ℕ) → fold min v t ≤ v
 least_most [] v = omega arith
 least_most (o ∷ t) v = let e = least_most t (min v o) in omega arith
 

@@ -46,6 +46,8 @@ given_14_plain s n d t T e k = given_14 s n d t T refl (rw e) refl (rw k)
 pub given_0_plain : (s n d : ℕ) (t : List ℕ) → Table s n d t → bits t ≡ true → rules s n d t ≡ true → 0 ≡ first_refusal (given_tests s n d t)
 given_0_plain s n d t T e k = given_0 s n d t T refl (rw e) refl (rw k)
 
+pub ruleset given_laws = (given_13_plain, given_passes_plain, given_14_plain, given_0_plain)
+
 -- ---- tests 8 12 13 14
 
 pub layout_table : (s n d : ℕ) (t : List ℕ) → Layout s n d → length t ≡ length (chains s n d) → Table s n d t
@@ -53,22 +55,21 @@ layout_table s n d t L h =
     record { scheme_ok = L.scheme_ok; n_ok = L.n_ok; some = L.some; most = L.most; whole = L.whole; size = h }
 
 module _ (s n d : ℕ) (o : List ℕ) (places : ℕ) where
-  pub table_8 : {w : ℕ} → w ≡ d → places < w → 8 ≡ first_refusal (table_tests s n d o places)
-  table_8 h l = rw (lt-leb d places (omega arith))
+  pub table_8 : places < d → 8 ≡ first_refusal (table_tests s n d o places)
+  table_8 l = rw (lt-leb d places l)
 
-  pub table_12 : {w v x : ℕ} → w ≡ d → w ≤ places → v ≡ length (chains s n d) → x ≡ v → length o < x → 12 ≡ first_refusal (table_tests s n d o places)
-  table_12 h l q k m = rw (le-leb d places (omega arith), lt-leb (length (chains s n d)) (length o) (omega arith))
+  pub table_12 : {v : ℕ} → d ≤ places → v ≡ length (chains s n d) → length o < v → 12 ≡ first_refusal (table_tests s n d o places)
+  table_12 l q m = rw (le-leb d places l, lt-leb (length (chains s n d)) (length o) (omega arith))
 
-  pub table_given : {w v x p : ℕ} → w ≡ d → w ≤ places → v ≡ length (chains s n d) → x ≡ v → x ≤ length o → p ≡ first_refusal (given_tests s n d (take x o)) →
+  pub table_given : {v p : ℕ} → d ≤ places → v ≡ length (chains s n d) → v ≤ length o → p ≡ first_refusal (given_tests s n d (take v o)) →
       p ≡ first_refusal (table_tests s n d o places)
-  table_given h l q k m y =
-      rw (le-leb d places (omega arith), le-leb (length (chains s n d)) (length o) (omega arith), ← q, ← k) y
+  table_given l q m y = rw (le-leb d places l, le-leb (length (chains s n d)) (length o) (omega arith), ← q) y
 
 pub part_length : (x : ℕ) (o : List ℕ) → x ≤ length o → x ≡ length (take x o)
 part_length x o m = sym (length-take-le x o m)
 
-pub table_part : (s n d : ℕ) (o : List ℕ) {v x : ℕ} → Layout s n d → v ≡ length (chains s n d) → x ≡ v → x ≤ length o → Table s n d (take x o)
-table_part s n d o {v} {x} L q k m = layout_table s n d (take x o) L (length-take-le x o m ∙ k ∙ q)
+pub table_part : (s n d : ℕ) (o : List ℕ) {v : ℕ} → Layout s n d → v ≡ length (chains s n d) → v ≤ length o → Table s n d (take v o)
+table_part s n d o {v} L q m = layout_table s n d (take v o) L (length-take-le v o m ∙ q)
 
 -- ---- tests 1 2 3 7 19
 

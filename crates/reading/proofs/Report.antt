@@ -2,8 +2,8 @@
 use mathlib.Core.{Path.◌≡◌, Path.refl, Path.sym, Path.ap, Path.◌∙◌, Bool.true}
 use mathlib.Core.List.Memᴰ
 use mathlib.Core.List.{List, [], ◌∷◌, ◌++◌}
-use Prim.Native.Nat.{ℕ, ◌-◌, ◌*◌, ◌/◌, ◌^◌, ◌≤◌, ◌<◌}
-use native.Mathlib.{Nat.div-mul-le_self, Omega.arith}
+use Prim.Native.Nat.{ℕ, ◌-◌, ◌*◌, ◌/◌, ◌≤◌, ◌<◌}
+use native.Mathlib.{Omega.arith}
 use lib.ListN.{length, get_or, take, drop}
 use Rattle.lists.specs.Lists.{keep}
 use Rattle.lists.proofs.Laws.{length-up_from}
@@ -15,7 +15,7 @@ use Rattle.layouts.proofs.AllowedLaws.{allowed_n_is, allowed_scheme_is}
 use Rattle.buffers.specs.Private.{Wrote}
 use Rattle.acceptance.specs.Private.{Table, rules, is_listed}
 use Rattle.acceptance.proofs.{Runs.keep_length, Accepted.accepted_rules, Accepted.listing_is_listed}
-use Rattle.reading.specs.{declared.Numbers.Numbers, declared.Reading.Reading, Numbers.low_of, Numbers.last_good_day}
+use Rattle.reading.specs.{declared.Numbers.Numbers, declared.Reading.Reading, Numbers.last_good_day}
 use Rattle.reading.specs.declared.Reading.TheVariants.{Clean, Changed, Refused}
 use Rattle.reading.specs.Contract.{refused_report, report_of, table_in, read_refusal, listed_in, found, readout}
 use Rattle.reading.specs.Private.{Given, numbers_of}
@@ -23,13 +23,6 @@ use Rattle.reading.proofs.{LastGood.good_first, BitLaws.bits_at}
 use Rattle.reading.proofs.RefusalLaws.{read_facts, read_enough, read_given}
 
 -- ---- the numbers of a changed table
-
-pub numbers_by : (n d p c g : ℕ) {w : ℕ} {a : Numbers} → w ≡ low_of p g → a ≡ record { listed = c; first = g; low = w; high = d; last_good = (g - 1) / n * n } → a ≡ numbers_of n d p c g
-unfolding numbers_of
-numbers_by n d p c g e h = h ∙ rw e
-
-pub good_fits : (n g : ℕ) → g < 2 ^ 32 → (g - 1) / n * n < 2 ^ 32
-good_fits n g l = let b = div-mul-le_self (g - 1) n in omega arith
 
 changed_is : (n d p g : ℕ) (gs : List ℕ) → report_of d (Changed (numbers_of n d p (length (g ∷ gs)) g)) ≡ found d p (g ∷ gs) ((g - 1) / n * n)
 unfolding report_of found numbers_of
@@ -89,15 +82,15 @@ module _ (s n d : ℕ) (t l : List ℕ) (G : Given s n d t (length l)) where
           let b = listing_within (chains s n d) d t (get_or m 0 0) (rw first_is.1 (Memᴰ.head refl)) in
           ((allowed_n_is n G.table.n_ok).some, b.0)
 
-      pub report_changed : (p : ℕ) {c : ℕ} {a : Numbers} → c ≡ k → a ≡ numbers_of n d p c (get_or m 0 0) → report_of d (Changed a) ≡ found d p (listing (chains s n d) d t) (last_good_day s n d t)
-      report_changed p i j =
+      pub report_changed : (p : ℕ) {a : Numbers} → a ≡ numbers_of n d p k (get_or m 0 0) → report_of d (Changed a) ≡ found d p (listing (chains s n d) d t) (last_good_day s n d t)
+      report_changed p j =
           let F = listing (chains s n d) d t in
           let u = first_is in
           let b = allowed_scheme_is s G.table.scheme_ok in
           let w = allowed_n_is n G.table.n_ok in
           let g : last_good_day s n d t ≡ (get_or m 0 0 - 1) / n * n =
           good_first s n d F t (get_or m 0 0) u.0 b.0 b.1 w.some (accepted_gives (chains s n d) d t G.accepted_ok) u.1 in
-          ap (λ (y : Numbers). report_of d (Changed y)) (j ∙ ap (λ (y : ℕ). numbers_of n d p y (get_or m 0 0)) (i ∙ count_is ∙ ap length u.1)) ∙
+          ap (λ (y : Numbers). report_of d (Changed y)) (j ∙ ap (λ (y : ℕ). numbers_of n d p y (get_or m 0 0)) (count_is ∙ ap length u.1)) ∙
           changed_is n d p (get_or m 0 0) u.0 ∙
           sym (ap (λ (y : List ℕ). found d p y (last_good_day s n d t)) u.1 ∙ ap (found d p (get_or m 0 0 ∷ u.0)) g)
 
@@ -119,24 +112,24 @@ module _ (s n f d p : ℕ) (o l : List ℕ) {r : ℕ} (e : r ≡ read_refusal s 
     pub values_need : (allowed_scheme s ≡ true) × (allowed_n n ≡ true) × (d ≤ 65536)
     values_need = let L = read_facts s n f d p o (length l) none in (L.scheme_ok, L.n_ok, L.most)
 
-    module _ {x v : ℕ} (h : v ≡ length (chains s n d)) (k : x ≡ v) where
-      pub values_within : x ≤ length o
+    module _ {v : ℕ} (h : v ≡ length (chains s n d)) where
+      pub values_within : v ≤ length o
       values_within = omega (arith, read_enough s n f d p o (length l) none)
 
       -- the outcomes read are the table
-      values_part : take x o ≡ table_in s n d o
-      values_part = ap (λ (i : ℕ). take i o) (k ∙ h)
+      values_part : take v o ≡ table_in s n d o
+      values_part = ap (λ (i : ℕ). take i o) h
 
-      pub values_given : Given s n d (take x o) (length l)
+      pub values_given : Given s n d (take v o) (length l)
       values_given = rw values_part (read_given s n f d p o (length l) none)
 
-      pub report_read : (a : Reading) → report_of d a ≡ found d p (listing (chains s n d) d (take x o)) (last_good_day s n d (take x o)) → report_of d a ≡ (readout s n f d p o l).report
+      pub report_read : (a : Reading) → report_of d a ≡ found d p (listing (chains s n d) d (take v o)) (last_good_day s n d (take v o)) → report_of d a ≡ (readout s n f d p o l).report
       unfolding readout listed_in
       report_read a q =
           q ∙ ap (λ (y : List ℕ). found d p (listing (chains s n d) d y) (last_good_day s n d y)) values_part ∙
           new_stands (read_refusal s n f d p o (length l)) _ _ e z
 
-      pub list_after : {m : List ℕ} → m ≡ listing (chains s n d) d (take x o) ++ drop (length (listing (chains s n d) d (take x o))) l → m ≡ (readout s n f d p o l).list
+      pub list_after : {m : List ℕ} → m ≡ listing (chains s n d) d (take v o) ++ drop (length (listing (chains s n d) d (take v o))) l → m ≡ (readout s n f d p o l).list
       unfolding readout listed_in
       list_after q =
           q ∙ ap (λ (y : List ℕ). listing (chains s n d) d y ++ drop (length (listing (chains s n d) d y)) l) values_part ∙

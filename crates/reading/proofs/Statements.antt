@@ -56,7 +56,7 @@ module _ (s n f d p : ℕ) (o l : List ℕ) (u : Supplied s n f d p o l) where
   by_given : (readout s n f d p o l).report.refusal ≡ first_refusal (given_tests s n d (table_in s n d o))
   by_given =
       refusal_said s n f d p o l ∙
-      sym (table_refused s n f d p o (length l) refl let_pass (table_given s n d o (length l) refl u.places refl refl u.enough refl))
+      sym (table_refused s n f d p o (length l) refl let_pass (table_given s n d o (length l) u.places refl u.enough refl))
 
   set_accepted : SomeSet s n d o → accepted (chains s n d) d (table_in s n d o) ≡ true
   set_accepted h = (given_iff_accepted (chains s n d) d (table_in s n d o)).0 h

@@ -1,6 +1,6 @@
--- What the private contracts say: outcomes taken in turn, a table that is read, the numbers of a changed one as they
+-- What the private contracts say: the greatest and the least outcome, a table that is read, the numbers of a changed one as they
 -- are worked out. Definitions only; the laws `bits_by`, `given_passes` and `report_changed` lead them back to 01's.
-use Rattle.std.specs.Prelude.{◌≡◌, true, List, [], ◌∷◌, ℕ, ◌-◌, ◌*◌, ◌/◌, ◌≤◌, min, max}
+use Rattle.std.specs.Prelude.{◌≡◌, true, List, [], ◌∷◌, ℕ, ◌-◌, ◌*◌, ◌/◌, ◌≤◌, min, max, fold}
 use Rattle.evidence.specs.Evidence.{accepted}
 use Rattle.refusals.specs.Refusals.{book_limit, Test, ◌or_refuse◌}
 use Rattle.layouts.specs.Layouts.{divides, allowed_scheme, allowed_n, chains}
@@ -17,17 +17,12 @@ pub record Layout (scheme n d : ℕ) : Type 0 where
   pub most : d ≤ book_limit
   pub whole : divides n d ≡ true
 
--- each outcome in turn joins what the ones before it gave
-abbrev pub in_turn : (ℕ → ℕ → ℕ) → ℕ → List ℕ → ℕ
-in_turn join v [] = v
-in_turn join v (o ∷ os) = in_turn join (join v o) os
-
 -- the greatest outcome, and the least of them and 1
 abbrev pub greatest : List ℕ → ℕ
-greatest t = in_turn max 0 t
+greatest t = fold max 0 t
 
 abbrev pub least : List ℕ → ℕ
-least t = in_turn min 1 t
+least t = fold min 1 t
 
 -- 01's tests 13 14, of a table
 abbrev pub given_tests : ℕ → ℕ → ℕ → List ℕ → List Test

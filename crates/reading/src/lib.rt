@@ -3,12 +3,12 @@
 
 pub mod answers;
 
-ghost use Rattle.std.specs.Prelude.{◌≡◌, ◌++◌, ◌≤◌, min, max, length, drop};
+ghost use Rattle.std.specs.Prelude.{◌≡◌, ◌++◌, ◌≤◌, length, drop};
 ghost use Rattle.evidence.specs.Evidence.{listing};
-ghost use Rattle.refusals.specs.Refusals.{book_limit, first_refusal};
+ghost use Rattle.refusals.specs.Refusals.{first_refusal};
 ghost use Rattle.layouts.specs.Layouts.{chains};
 ghost use Rattle.acceptance.specs.Private.{Table};
-ghost use Rattle.reading.specs.Numbers.{low_of, last_good_day};
+ghost use Rattle.reading.specs.Numbers.{last_good_day};
 ghost use Rattle.reading.specs.Contract as answer;
 ghost use Rattle.reading.specs.Contract.{report_of, allowed_passed, passed_refusal, table_tests, read_refusal};
 ghost use Rattle.reading.specs.Contract.{found, readout};
@@ -16,7 +16,7 @@ ghost use Rattle.reading.specs.Private.{Layout, given_tests, Given, numbers_of};
 ghost use Rattle.reading.specs.Private as private;
 
 // 01's numbers of a changed table.
-#[derive(Clone, Copy)]
+#[derive(Clone, Copy, Default)]
 pub struct Numbers {
     pub listed: u32,
     pub first: u32,
@@ -34,48 +34,18 @@ pub enum Reading {
 
 // ---- the tests
 
-fn larger(a: u8, b: u8) -> u8
-    ensures { result ≡ max a b }
-{
-    if a < b {
-        return b;
-    }
-    a
-}
-
-fn smaller(a: u8, b: u8) -> u8
-    ensures { result ≡ min a b }
-{
-    if b < a {
-        return b;
-    }
-    a
-}
-
 // The greatest outcome. No early end, so that the compiler takes many at a time.
 fn greatest(t: &[u8]) -> u8
     ensures { result ≡ private.greatest t.now }
 {
-    let mut m = 0u8;
-    let mut i = 0;
-    while i < t.len() {
-        m = larger(m, t[i]);
-        i += 1;
-    }
-    m
+    t.iter().fold(0, |m, o| m.max(*o))
 }
 
-// The least of the outcomes and 1.
+// The least of the outcomes and 1, in the same way.
 fn least(t: &[u8]) -> u8
     ensures { result ≡ private.least t.now }
 {
-    let mut m = 1u8;
-    let mut i = 0;
-    while i < t.len() {
-        m = smaller(m, t[i]);
-        i += 1;
-    }
-    m
+    t.iter().fold(1, |m, o| m.min(*o))
 }
 
 fn bits(t: &[u8]) -> bool
@@ -85,7 +55,7 @@ fn bits(t: &[u8]) -> bool
 }
 
 // Tests 13 14. A table of passes, the usual one, needs no other test.
-#[tactic(auto, using(crate::proofs::RefusalLaws::given_13_plain, crate::proofs::RefusalLaws::given_passes_plain, crate::proofs::RefusalLaws::given_14_plain, crate::proofs::RefusalLaws::given_0_plain))]
+#[tactic(auto, using(crate::proofs::RefusalLaws::given_laws))]
 fn given_refusal(scheme: u32, n: u32, d: u32, t: &[u8]) -> u32
     requires { Table scheme n d t.now }
     ensures { result ≡ first_refusal (given_tests scheme n d t.now) }
@@ -107,10 +77,10 @@ pub fn table_refusal(scheme: u32, n: u32, d: u32, outcomes: &[u8], places: usize
     requires { Layout scheme n d }
     ensures { result ≡ first_refusal (table_tests scheme n d outcomes.now places) }
 {
-    if places < buffers::wide(d) {
+    if places < d as usize {
         return 8;
     }
-    let values = buffers::wide(layouts::values_through(scheme, n, d));
+    let values = layouts::values_through(scheme, n, d) as usize;
     if outcomes.len() < values {
         return 12;
     }
@@ -122,10 +92,7 @@ fn allowed_passed(n: u32, d: u32, passed: u32) -> bool
     requires { 1 ≤ n }
     ensures { result ≡ allowed_passed n d passed }
 {
-    if d <= passed {
-        return false;
-    }
-    passed % n == 0
+    passed < d && passed % n == 0
 }
 
 // Tests 1 2 3 7 19.
@@ -155,37 +122,18 @@ fn refusal(scheme: u32, n: u32, f: u32, d: u32, passed: u32, outcomes: &[u8], pl
 
 // ---- the answer
 
-fn low(passed: u32, first: u32) -> u32
-    requires { 1 ≤ first }
-    ensures { result ≡ low_of passed first }
-{
-    let before = first - 1;
-    if passed < before {
-        return before;
-    }
-    passed
-}
-
+#[tactic(auto, unfolding(crate::specs::Private::numbers_of))]
 fn changed(n: u32, d: u32, passed: u32, count: u32, first: u32) -> Numbers
     requires { (1 ≤ n) × (1 ≤ first) }
     ensures { result ≡ numbers_of n d passed count first }
 {
-    let below = low(passed, first);
-    let good = (first - 1) / n * n;
     Numbers {
         listed: count,
-        first: first,
-        low: below,
+        first,
+        low: passed.max(first - 1),
         high: d,
-        last_good: good,
+        last_good: (first - 1) / n * n,
     }
-}
-
-fn narrow(x: usize) -> u32
-    requires { x ≤ book_limit }
-    ensures { result ≡ x }
-{
-    x as u32
 }
 
 // A table that some set gives: its listed days to the front of the list, and the numbers.
@@ -200,8 +148,7 @@ fn read_table(scheme: u32, n: u32, d: u32, passed: u32, t: &[u8], list: &mut [u3
     if k == 0 {
         return Reading::Clean;
     }
-    let first = list[0];
-    Reading::Changed(changed(n, d, passed, narrow(k), first))
+    Reading::Changed(changed(n, d, passed, k as u32, list[0]))
 }
 
 // Reads the outcomes needed, in book order, P being the last day at which a check passed: writes the listed days to the
@@ -223,6 +170,6 @@ pub fn read(
     if r != 0 {
         return Reading::Refused(r);
     }
-    let values = buffers::wide(layouts::values_through(scheme, n, d));
+    let values = layouts::values_through(scheme, n, d) as usize;
     read_table(scheme, n, d, passed, &outcomes[..values], list)
 }
