@@ -77,7 +77,8 @@ pub fn table_refusal(scheme: u32, n: u32, d: u32, outcomes: &[u8], places: usize
     requires { Layout scheme n d }
     ensures { result ≡ first_refusal (table_tests scheme n d outcomes.now places) }
 {
-    if places < d as usize {
+    let days = d as usize;
+    if places < days {
         return 8;
     }
     let values = layouts::values_through(scheme, n, d) as usize;
