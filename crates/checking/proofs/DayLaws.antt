@@ -1,35 +1,53 @@
--- The values of a day compared, from the running hashes with the day linked.
+-- What a day gives, from the running hashes with the day linked.
 use mathlib.Core.Path.{◌≡◌, sym, ap, ap₂, ◌∙◌}
 use mathlib.Core.List.{List, ◌++◌}
-use Prim.Native.Nat.{ℕ}
+use Prim.Native.Nat.{ℕ, ◌*◌, ◌≤◌}
+use native.Mathlib.Omega.{arith}
 use lib.ListN.{length, take, drop, replicate}
 use Rattle.layouts.specs.Layouts.{names_of_day}
 use Rattle.chains.specs.declared.Value.{Value}
 use Rattle.chains.specs.declared.DayStep.{DayStep}
-use Rattle.chains.specs.Step.{linked, linked_slots, day_values}
+use Rattle.chains.specs.Step.{start_value, linked}
 use Rattle.chains.specs.Private.{DayLinked}
-use Rattle.chains.proofs.Values.{linked_values, quiet_values, black_values}
+use Rattle.chains.proofs.Slots.{black_kept}
+use Rattle.chains.proofs.Values.{day_few, day_quiet, quiet_values, black_values}
 use Rattle.comparing.specs.Private.{compared}
-use Rattle.checking.specs.Private.{compared_day}
+use Rattle.checking.specs.Private.{State, DayReady, black_alone, linked_of, after, compared_day}
 
-module _ (s n g : ℕ) (b : Value) (slots : List Value) (h : List ℕ) (d : DayStep) (e : DayLinked s n g b slots h d) (book outs : List ℕ) where
-  pub day_compared : (v : List Value) {o : List ℕ} → take d.count v ≡ day_values s n g d.black d.slots → o ≡ compared (take d.count v) book ++ drop d.count outs →
-      o ≡ compared_day s n g b slots h book ++ drop d.count outs
-  day_compared v ev eo = eo ∙ ap (λ (l : List Value). compared l book ++ drop d.count outs) (ev ∙ linked_values s n g b slots h d e)
+-- the room that the day's values and their outcomes need
+pub day_fits : {r : State} {g size places k : ℕ} → DayReady r g size places → k ≡ length (names_of_day r.scheme r.n g) → (k ≤ 17) × (32 * k ≤ size) × (k ≤ places)
+day_fits {r} {g} p e =
+    let w = day_few r.scheme r.n g p.scheme_ok p.n_ok p.some p.most in
+    (omega (arith, e, w), omega (arith, e, p.book_long), omega (arith, e, p.outcomes_long))
 
-  pub quiet_compared : d.count ≡ 0 → outs ≡ compared_day s n g b slots h book ++ drop d.count outs
+-- ---- black and the slots
+
+module _ (r : State) (g : ℕ) (h : List ℕ) (d : DayStep) (e : DayLinked r.scheme r.n g r.black r.slots h d) where
+  pub quiet_after : d.count ≡ 0 → 1 ≤ g → record { scheme = r.scheme; n = r.n; start = r.start; black = d.black; slots = d.slots } ≡ after r g h
+  quiet_after z p =
+      let q = day_quiet r.scheme r.n g r.start r.black r.slots h d e z p in
+      ap₂ {C = State} (λ b l. record { scheme = r.scheme; n = r.n; start = r.start; black = b; slots = l }) q.black_is q.slots_are
+
+  pub quiet_compared : (book outs : List ℕ) → d.count ≡ 0 → outs ≡ compared_day r g h book ++ drop d.count outs
   unfolding compared
-  quiet_compared z =
-      let q = quiet_values s n g (linked b h) (linked_slots s n g h slots) (sym e.count_is ∙ z) in
+  quiet_compared book outs z =
+      let q = quiet_values r.scheme r.n g (linked r.black h) (linked_of r g h) (sym e.count_is ∙ z) in
       rw (z, q)
 
--- scheme 1, whatever stands in the slots
-pub black_compared : (n g : ℕ) (b : Value) (slots : List Value) (h : List ℕ) (book outs : List ℕ) (v : Value) (k : ℕ) {o : List ℕ} → v ≡ linked b h → k ≡ length (names_of_day 1 n g) →
-    o ≡ compared (take k (replicate 17 v)) book ++ drop k outs → o ≡ compared_day 1 n g b slots h book ++ drop k outs
-black_compared n g b slots h book outs v k ev ek eo =
-    eo ∙ ap (λ (l : List Value). compared l book ++ drop k outs)
-    (ap₂ (λ (x : ℕ) (y : Value). take x (replicate 17 y)) ek ev ∙ sym (black_values n g (linked b h) (linked_slots 1 n g h slots)))
+-- ---- black alone
 
-pub black_quiet : (book outs : List ℕ) (v : Value) (k : ℕ) → k ≡ 0 → outs ≡ compared (take k (replicate 17 v)) book ++ drop k outs
-unfolding compared
-black_quiet book outs v k z = rw z
+module _ (n g : ℕ) (b : Value) (h : List ℕ) {v : Value} (ev : v ≡ linked b h) where
+  pub black_after : black_alone n v ≡ after (black_alone n b) g h
+  black_after =
+      ap₂ {C = State} (λ x l. record { scheme = 1; n = n; start = start_value 1 n; black = x; slots = l }) ev
+      (black_kept n g (start_value 1 n) h (replicate 17 (start_value 1 n)))
+
+  module _ (book outs : List ℕ) {k : ℕ} (ek : k ≡ length (names_of_day 1 n g)) where
+    pub black_compared : {o : List ℕ} → o ≡ compared (take k (replicate 17 v)) book ++ drop k outs → o ≡ compared_day (black_alone n b) g h book ++ drop k outs
+    black_compared eo =
+        eo ∙ ap (λ (l : List Value). compared l book ++ drop k outs)
+        (ap₂ (λ (x : ℕ) (y : Value). take x (replicate 17 y)) ek ev ∙ sym (black_values n g (linked b h) (linked_of (black_alone n b) g h)))
+
+    pub black_quiet : k ≡ 0 → outs ≡ compared_day (black_alone n b) g h book ++ drop k outs
+    unfolding compared
+    black_quiet z = black_compared (rw z)

@@ -1,5 +1,5 @@
+pub mod DayLaws
 pub mod RefusalLaws
 pub mod Through
 pub mod CallLaws
-pub mod DayLaws
 pub mod Statements

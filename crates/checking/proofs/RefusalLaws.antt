@@ -1,5 +1,6 @@
 -- The refusal by the tests, and what no refusal leaves.
 use mathlib.Core.Path.{◌≡◌, refl, sym, ◌∙◌}
+use mathlib.Core.Logic.{◌⊎◌, inl, inr}
 use mathlib.Core.List.{List, ◌++◌}
 use Prim.Native.Nat.{ℕ, ◌*◌, ◌≤◌, ◌<◌}
 use lib.Dec.{leb}
@@ -21,14 +22,12 @@ module _ (s n d book work places : ℕ) {k : ℕ} (c : k ≡ length (chains s n 
   pub room_11 : book < 32 * k → 11 ≡ first_refusal (room_tests s n d book work places)
   room_11 h = rw (← c, lt-leb (32 * k) book h)
 
-  pub room_8_work : {w : ℕ} → w ≡ d → 32 * k ≤ book → work < 32 * w → 8 ≡ first_refusal (room_tests s n d book work places)
-  room_8_work {w} e h l = rw (← c, ← e, le-leb (32 * k) book h, lt-leb (32 * w) work l)
+  pub room_8 : 32 * k ≤ book → (work < 32 * d) ⊎ ((32 * d ≤ work) × (places < k)) → 8 ≡ first_refusal (room_tests s n d book work places)
+  room_8 h (inl l) = rw (← c, le-leb (32 * k) book h, lt-leb (32 * d) work l)
+  room_8 h (inr l) = rw (← c, le-leb (32 * k) book h, le-leb (32 * d) work l.0, lt-leb k places l.1)
 
-  pub room_8_outcomes : {w : ℕ} → w ≡ d → 32 * k ≤ book → 32 * w ≤ work → places < k → 8 ≡ first_refusal (room_tests s n d book work places)
-  room_8_outcomes {w} e h l m = rw (← c, ← e, le-leb (32 * k) book h, le-leb (32 * w) work l, lt-leb k places m)
-
-  pub room_0 : {w : ℕ} → w ≡ d → 32 * k ≤ book → 32 * w ≤ work → k ≤ places → 0 ≡ first_refusal (room_tests s n d book work places)
-  room_0 {w} e h l m = rw (← c, ← e, le-leb (32 * k) book h, le-leb (32 * w) work l, le-leb k places m)
+  pub room_0 : 32 * k ≤ book → 32 * d ≤ work → k ≤ places → 0 ≡ first_refusal (room_tests s n d book work places)
+  room_0 h l m = rw (← c, le-leb (32 * k) book h, le-leb (32 * d) work l, le-leb k places m)
 
 -- ---- tests 1 2 3 7 9 10 11 8
 

@@ -1,12 +1,12 @@
 -- Checking day by day: what the buffers hold after i days.
-use mathlib.Core.Path.{◌≡◌, refl, sym, ap, ap₂, subst₂, ◌∙◌}
+use mathlib.Core.Path.{◌≡◌, refl, sym, ap, ap₂, ◌∙◌}
 use mathlib.Core.Bool.{true, cond}
 use mathlib.Core.List.Memᴰ
 use mathlib.Core.List.{List, [], ◌∷◌, ◌++◌, map, flat_map, append_assoc, append-nil}
 use Prim.Native.Nat.{ℕ, suc, pred, ◌+◌, ◌-◌, ◌*◌, ◌≤◌, ◌<◌}
 use native.Mathlib.Numerals.{add-one}
 use native.Mathlib.Omega.{arith}
-use lib.ListN.{length, get_or, take, drop, replicate, length-append, length-drop, get_or-append}
+use lib.ListN.{length, get_or, take, drop, length-append, length-drop, get_or-append}
 use lib.Seq.{drop-drop, get_or_at, length-take-le}
 use borrow.Rule.Slice.PartMut.{mid_of, put_mid}
 use Rattle.lists.specs.Lists.{◌among◌, same}
@@ -21,17 +21,17 @@ use Rattle.sha256.specs.Sha256.{sha256, hashed}
 use Rattle.sha256_words.specs.Words.{bytes_of}
 use Rattle.sha256.proofs.Laws.{sha256_length}
 use Rattle.chains.specs.declared.Value.{Value}
-use Rattle.chains.specs.declared.DayStep.{DayStep}
 use Rattle.chains.specs.Book.{start}
-use Rattle.chains.specs.Step.{start_value, linked, linked_slots, current, day_values}
-use Rattle.chains.specs.Private.{Stepped}
+use Rattle.chains.specs.Step.{start_value, linked, linked_slots, restarted, current, day_values}
 use Rattle.chains.proofs.Values.{chains_of_day-length}
 use Rattle.chains.proofs.Running.{Holds, holds_fresh, holds_next, names_of_day_right}
+use Rattle.buffers.specs.Private.{Wrote}
 use Rattle.buffers.proofs.Lent.{lent_put, lent_length}
+use Rattle.buffers.proofs.Writes.{wrote_front, wrote_join}
 use Rattle.comparing.proofs.Laws.{to_end}
 use Rattle.checking.specs.Contract.{digests_of, outcomes_of}
 use Rattle.comparing.specs.Private.{compared}
-use Rattle.checking.specs.Private.{DayReady, Ready, compared_day}
+use Rattle.checking.specs.Private.{State, fresh, after, DayReady, Ready, compared_day}
 
 -- ---- digests and outcomes of one more day
 
@@ -102,25 +102,42 @@ outcomes_length s n d ledger ends book = check_outcomes-length (start s n) (days
 
 -- ---- after i days
 
-pub record Through (s n : ℕ) (ledger ends book oldWork oldOutcomes : List ℕ) (i at : ℕ) (b : Value) (slots : List Value) (work outs : List ℕ) : Type 0 where
-  pub holds : Holds s n (days_of ledger ends i) b slots
-  pub at_is : at ≡ length (chains s n i)
-  pub work_is : work ≡ digests_of ledger ends i ++ drop (32 * i) oldWork
-  pub outcomes_are : outs ≡ outcomes_of s n i ledger ends book ++ drop at oldOutcomes
-  pub work_length : length work ≡ length oldWork
+pub record Through (d : ℕ) (ledger ends book oldWork oldOutcomes : List ℕ) (i at : ℕ) (r : State) (work outs : List ℕ) : Type 0 where
+  pub ready : Ready r.scheme r.n d ends (length ledger) (length book) (length oldWork) (length oldOutcomes)
+  pub start_is : r.start ≡ start_value r.scheme r.n
+  pub holds : Holds r.scheme r.n (days_of ledger ends i) r.black r.slots
+  pub at_is : at ≡ length (chains r.scheme r.n i)
+  pub work_is : Wrote 0 (digests_of ledger ends i) oldWork (32 * i) work
+  pub outcomes_are : outs ≡ outcomes_of r.scheme r.n i ledger ends book ++ drop at oldOutcomes
   pub outcomes_length_is : length outs ≡ length oldOutcomes
 
-pub through_none : (s n : ℕ) (ledger ends book work outs : List ℕ) (v : Value) → allowed_n n ≡ true → v ≡ start_value s n → Through s n ledger ends book work outs 0 0 v (replicate 17 v) work outs
+pub through_none : (d : ℕ) (ledger ends book work outs : List ℕ) (r : State) → Ready r.scheme r.n d ends (length ledger) (length book) (length work) (length outs) →
+    r ≡ fresh r.scheme r.n → Through d ledger ends book work outs 0 0 r work outs
 unfolding digests_of outcomes_of chains names_through flat_map
-through_none s n ledger ends book work outs v a e =
+through_none d ledger ends book work outs r ok e =
     record {
-      holds = rw (days_none ledger ends, e) (holds_fresh s n a);
+      ready = ok;
+      start_is = ap (λ (x : State). x.start) e;
+      holds = rw (days_none ledger ends, ap (λ (x : State). x.black) e, ap (λ (x : State). x.slots) e) (holds_fresh r.scheme r.n ok.n_ok);
       at_is = refl;
-      work_is = refl;
+      work_is = record { count = refl; list = refl };
       outcomes_are = refl;
-      work_length = refl;
       outcomes_length_is = refl;
     }
+
+-- what stands in a state made new
+module _ {r : State} {s n : ℕ} (e : r ≡ fresh s n) where
+  pub new_fresh : r ≡ fresh r.scheme r.n
+  new_fresh = e ∙ ap₂ fresh (sym (ap (λ (x : State). x.scheme) e)) (sym (ap (λ (x : State). x.n) e))
+
+  pub new_ready : {d : ℕ} {ends : List ℕ} {size bookSize workSize places : ℕ} → Ready s n d ends size bookSize workSize places →
+      Ready r.scheme r.n d ends size bookSize workSize places
+  new_ready ok = rw e ok
+
+  pub new_outcomes : (d : ℕ) (ledger ends book outs : List ℕ) {o : List ℕ} → o ≡ outcomes_of r.scheme r.n d ledger ends book ++ drop (length (chains r.scheme r.n d)) outs →
+      o ≡ outcomes_of s n d ledger ends book ++ drop (length (chains s n d)) outs
+  new_outcomes d ledger ends book outs h =
+      h ∙ ap₂ (λ (x y : ℕ). outcomes_of x y d ledger ends book ++ drop (length (chains x y d)) outs) (ap (λ (x : State). x.scheme) e) (ap (λ (x : State). x.n) e)
 
 -- there are no more values over fewer days
 chains_most : (s n i d : ℕ) → i ≤ d → length (chains s n i) ≤ length (chains s n d)
@@ -128,20 +145,28 @@ chains_most s n i d h =
     let r = chains_front s n i d h in
     omega (arith, ap length r.1, length-append (chains s n i) r.0)
 
-module _ {s n d : ℕ} {ledger ends book oldWork oldOutcomes : List ℕ} {i at : ℕ} {b : Value} {slots : List Value} {work outs : List ℕ}
-    (ok : Ready s n d ends (length ledger) (length book) (length oldWork) (length oldOutcomes)) (t : Through s n ledger ends book oldWork oldOutcomes i at b slots work outs) where
+module _ {d : ℕ} {ledger ends book oldWork oldOutcomes : List ℕ} {i at : ℕ} {r : State} {work outs : List ℕ}
+    (t : Through d ledger ends book oldWork oldOutcomes i at r work outs) where
+  abbrev s : ℕ
+  s = r.scheme
+
+  abbrev n : ℕ
+  n = r.n
+
   -- where the parts that a turn lends begin
-  pub parts_within : i ≤ d → (32 * at ≤ length book) × (32 * i ≤ length work) × (at ≤ length outs)
+  pub parts_within : i ≤ d → (32 * at ≤ length book) × (at ≤ length outs)
   parts_within h =
       let f = chains_most s n i d h in (
-        omega (arith, t.at_is, ok.book_long),
-        omega (arith, t.work_length, ok.work_long),
-        omega (arith, t.at_is, ok.outcomes_long, t.outcomes_length_is),
+        omega (arith, t.at_is, t.ready.book_long),
+        omega (arith, t.at_is, t.ready.outcomes_long, t.outcomes_length_is),
       )
 
-  pub through_all : i ≡ d → (work ≡ digests_of ledger ends d ++ drop (32 * d) oldWork) × (outs ≡ outcomes_of s n d ledger ends book ++ drop (length (chains s n d)) oldOutcomes)
-  through_all e =
-      (t.work_is ∙ rw e, t.outcomes_are ∙ ap₂ (λ (x y : ℕ). outcomes_of s n x ledger ends book ++ drop y oldOutcomes) e (t.at_is ∙ ap (λ (x : ℕ). length (chains s n x)) e))
+  pub through_all : {x y : ℕ} → i ≡ d → s ≡ x → n ≡ y →
+      (work ≡ digests_of ledger ends d ++ drop (32 * d) oldWork) × (outs ≡ outcomes_of x y d ledger ends book ++ drop (length (chains x y d)) oldOutcomes)
+  through_all e es en = (
+    rw e at (wrote_front (32 * i) t.work_is (digests_length ledger ends i)),
+    rw (← es, ← en) (t.outcomes_are ∙ ap₂ (λ (x y : ℕ). outcomes_of s n x ledger ends book ++ drop y oldOutcomes) e (t.at_is ∙ ap (λ (x : ℕ). length (chains s n x)) e)),
+  )
 
   module _ (h : i < d) where
     abbrev E : ℕ → List (List ℕ)
@@ -153,20 +178,25 @@ module _ {s n d : ℕ} {ledger ends book oldWork oldOutcomes : List ℕ} {i at :
     next_count : length (chains s n (suc i)) ≡ length (chains s n i) + length (names_of_day s n (suc i))
     next_count = ap length (chains_suc s n i) ∙ length-append (chains s n i) (chains_of_day s n (suc i)) ∙ ap (λ (x : ℕ). length (chains s n i) + x) (chains_of_day-length s n (suc i))
 
+    -- the place behind the day's outcomes
+    place_next : {k : ℕ} → k ≡ length (names_of_day s n (i + 1)) → at + k ≡ length (chains s n (suc i))
+    place_next c = omega (arith, t.at_is, next_count, c ∙ ap (λ (x : ℕ). length (names_of_day s n x)) (add-one i))
+
+    pub values_fit : {k : ℕ} → k ≡ length (names_of_day s n (i + 1)) → at + k ≤ length oldOutcomes
+    values_fit c = let f = chains_most s n (suc i) d h in omega (arith, place_next c, t.ready.outcomes_long)
+
     -- what the day's call asks
-    pub day_needs : {g : ℕ} → g ≡ i + 1 → DayReady s n g (length (take (length book - 32 * at) (drop (32 * at) book))) (length (mid_of (32 * i) (length work - 32 * i) work))
-        (length (mid_of at (length outs - at) outs))
-    day_needs e =
+    pub day_needs : DayReady r (i + 1) (length (take (length book - 32 * at) (drop (32 * at) book))) (length (mid_of at (length outs - at) outs))
+    day_needs =
         let f = chains_most s n (suc i) d h in
         let c = next_count in
-        rw (e ∙ add-one i) (record {
-          scheme_ok = ok.scheme_ok;
-          n_ok = ok.n_ok;
+        rw (add-one i) (record {
+          scheme_ok = t.ready.scheme_ok;
+          n_ok = t.ready.n_ok;
           some = omega arith;
-          most = omega (arith, ok.days_most);
-          work_long = rw (length_part work (32 * i)) (omega (arith, t.work_length, ok.work_long));
-          book_long = rw (length_part book (32 * at)) (omega (arith, t.at_is, ok.book_long));
-          outcomes_long = rw (length_part outs at) (omega (arith, t.at_is, ok.outcomes_long, t.outcomes_length_is));
+          most = omega (arith, t.ready.days_most);
+          book_long = rw (length_part book (32 * at)) (omega (arith, t.at_is, t.ready.book_long));
+          outcomes_long = rw (length_part outs at) (omega (arith, t.at_is, t.ready.outcomes_long, t.outcomes_length_is));
         })
       where
         length_part : (xs : List ℕ) (k : ℕ) → length (take (length xs - k) (drop k xs)) ≡ length xs - k
@@ -195,9 +225,6 @@ module _ {s n d : ℕ} {ledger ends book oldWork oldOutcomes : List ℕ} {i at :
         one_more : 1 + i ≡ suc i
         one_more = omega arith
 
-    digests_size : length (digests_of ledger ends i) ≡ 32 * i
-    digests_size = digests_length ledger ends i
-
     outcomes_next : outcomes_of s n (suc i) ledger ends book ≡ outcomes_of s n i ledger ends book ++ check_outcomes sha256 (start s n) (E i ++ (day ∷ [])) (chains_of_day s n (suc (length (E i))))
         (drop (32 * at) book)
     unfolding outcomes_of
@@ -212,64 +239,62 @@ module _ {s n d : ℕ} {ledger ends book oldWork oldOutcomes : List ℕ} {i at :
     outcomes_size : length (outcomes_of s n i ledger ends book) ≡ at
     outcomes_size = outcomes_length s n i ledger ends book ∙ sym t.at_is
 
-    -- the day's call
-    module _ {bytes : List ℕ} {g : ℕ} {first : Value} {r : DayStep} {w o : List ℕ} (is-day : bytes ≡ day) (is-next : g ≡ i + 1) (is-first : first ≡ start_value s n)
-        (stepped : Stepped s n g first b slots (hashed (0 ∷ bytes)) r) (worked : w ≡ bytes_of (hashed (0 ∷ bytes)) ++ drop 32 (mid_of (32 * i) (length work - 32 * i) work))
-        (found : o ≡ compared_day s n g b slots (hashed (0 ∷ bytes)) (take (length book - 32 * at) (drop (32 * at) book)) ++ drop r.count (mid_of at (length outs - at) outs)) where
-      hash : bytes_of (hashed (0 ∷ bytes)) ≡ digest sha256 day
+    -- the day's digest written, and its chains closed
+    module _ {bytes hd b : List ℕ} {k to : ℕ} {w o : List ℕ} {next : State} (is-day : bytes ≡ day) (is-digest : hd ≡ hashed (0 ∷ bytes)) (is-bytes : b ≡ bytes_of hd)
+        (worked : Wrote (32 * i) b work to w) (counted : k ≡ length (names_of_day s n (i + 1))) (closed : next ≡ after r (i + 1) hd)
+        (found : o ≡ compared_day r (i + 1) hd (take (length book - 32 * at) (drop (32 * at) book)) ++ drop k (mid_of at (length outs - at) outs)) where
+      hash : bytes_of hd ≡ digest sha256 day
       unfolding sha256
-      hash = ap (λ (x : List ℕ). bytes_of (hashed (0 ∷ x))) is-day
+      hash = ap bytes_of is-digest ∙ ap (λ (x : List ℕ). bytes_of (hashed (0 ∷ x))) is-day
 
-      day_is : g ≡ suc (length (E i))
+      bytes_are : b ≡ digest sha256 day
+      bytes_are = is-bytes ∙ hash
+
+      day_is : i + 1 ≡ suc (length (E i))
       day_is = omega (arith, days_are)
 
-      stepped' : Stepped s n (suc (length (E i))) (start_value s n) b slots (hashed (0 ∷ bytes)) r
-      stepped' = subst₂ (λ (x : ℕ) (v : Value). Stepped s n x v b slots (hashed (0 ∷ bytes)) r) day_is is-first stepped
-
       room : suc (length (E i)) ≤ 65536
-      room = omega (arith, days_are, ok.days_most)
+      room = omega (arith, days_are, t.ready.days_most)
 
-      count_is : at + r.count ≡ length (chains s n (suc i))
-      count_is = omega (arith, t.at_is, next_count, stepped'.count_is ∙ ap (λ (x : ℕ). length (names_of_day s n (suc x))) days_are)
-
-      found_is : compared_day s n g b slots (hashed (0 ∷ bytes)) (take (length book - 32 * at) (drop (32 * at) book)) ≡ check_outcomes sha256 (start s n) (E i ++ (day ∷ []))
+      found_is : compared_day r (i + 1) hd (take (length book - 32 * at) (drop (32 * at) book)) ≡ check_outcomes sha256 (start s n) (E i ++ (day ∷ []))
           (chains_of_day s n (suc (length (E i)))) (drop (32 * at) book)
       found_is =
-          ap₂ (λ (x : ℕ) (l : List ℕ). compared_day s n x b slots (hashed (0 ∷ bytes)) l) day_is (to_end book (32 * at)) ∙
-          compared_day_lem s n (E i) day ok.n_ok b slots (hashed (0 ∷ bytes)) t.holds hash room (drop (32 * at) book)
+          ap₂ (λ (x : ℕ) (l : List ℕ). compared_day r x hd l) day_is (to_end book (32 * at)) ∙
+          compared_day_lem s n (E i) day t.ready.n_ok r.black r.slots hd t.holds hash room (drop (32 * at) book)
 
-      work_put : put_mid (32 * i) (length work - 32 * i) work w ≡ digests_of ledger ends (suc i) ++ drop (32 * suc i) oldWork
-      work_put =
-          let k : 32 * i + 32 ≡ 32 * suc i = omega arith in
-          lent_put (digests_of ledger ends i) oldWork work (32 * i) t.work_is digests_size t.work_length w (bytes_of (hashed (0 ∷ bytes))) 32 worked ∙
-          ap₂ (λ (p : List ℕ) (x : ℕ). p ++ drop x oldWork) (ap (λ (p : List ℕ). digests_of ledger ends i ++ p) hash ∙ sym digests_next) k
+      work_next : Wrote 0 (digests_of ledger ends (i + 1)) oldWork (32 * (i + 1)) w
+      work_next =
+          wrote_join 0 (digests_of ledger ends (i + 1)) (digests_of ledger ends i) b oldWork work w (32 * i) (32 * (i + 1))
+          (rw (add-one i, bytes_are) digests_next) (omega (arith, digests_length ledger ends (i + 1), t.ready.work_long)) t.work_is (rw to_is at worked)
+        where
+          to_is : to ≡ 32 * (i + 1)
+          to_is = omega (arith, worked.count, ap length bytes_are, sha256_length (0 ∷ day))
 
-      outcomes_put : put_mid at (length outs - at) outs o ≡ outcomes_of s n (suc i) ledger ends book ++ drop (at + r.count) oldOutcomes
+      outcomes_put : put_mid at (length outs - at) outs o ≡ outcomes_of s n (suc i) ledger ends book ++ drop (at + k) oldOutcomes
       outcomes_put =
           lent_put (outcomes_of s n i ledger ends book) oldOutcomes outs at t.outcomes_are outcomes_size t.outcomes_length_is o
-          (compared_day s n g b slots (hashed (0 ∷ bytes)) (take (length book - 32 * at) (drop (32 * at) book))) r.count found ∙
-          ap (λ (p : List ℕ). p ++ drop (at + r.count) oldOutcomes) (ap (λ (p : List ℕ). outcomes_of s n i ledger ends book ++ p) found_is ∙ sym outcomes_next)
+          (compared_day r (i + 1) hd (take (length book - 32 * at) (drop (32 * at) book))) k found ∙
+          ap (λ (p : List ℕ). p ++ drop (at + k) oldOutcomes) (ap (λ (p : List ℕ). outcomes_of s n i ledger ends book ++ p) found_is ∙ sym outcomes_next)
 
-      values_length : length (compared_day s n g b slots (hashed (0 ∷ bytes)) (take (length book - 32 * at) (drop (32 * at) book))) ≡ r.count
+      values_length : length (compared_day r (i + 1) hd (take (length book - 32 * at) (drop (32 * at) book))) ≡ k
       values_length =
           ap length found_is ∙ check_outcomes-length (start s n) (E i ++ (day ∷ [])) (chains_of_day s n (suc (length (E i)))) (drop (32 * at) book) ∙
-          chains_of_day-length s n (suc (length (E i))) ∙ sym stepped'.count_is
+          chains_of_day-length s n (suc (length (E i))) ∙ sym (counted ∙ ap (λ (x : ℕ). length (names_of_day s n x)) day_is)
 
-      pub outcomes_fit : at + r.count ≤ length oldOutcomes
-      outcomes_fit = let f = chains_most s n (suc i) d h in omega (arith, count_is, ok.outcomes_long)
-
-      pub through_next : Through s n ledger ends book oldWork oldOutcomes (i + 1) (at + r.count) r.black r.slots (put_mid (32 * i) (length work - 32 * i) work w)
-          (put_mid at (length outs - at) outs o)
+      pub through_next : Through d ledger ends book oldWork oldOutcomes (i + 1) (at + k) next w (put_mid at (length outs - at) outs o)
       through_next =
-          rw (add-one i) (record {
-            holds = rw snoc (holds_next s n (E i) day ok.n_ok b slots (hashed (0 ∷ bytes)) t.holds hash stepped'.black_is stepped'.slots_are);
-            at_is = count_is;
-            work_is = work_put;
+          rw (closed, add-one i) (record {
+            ready = t.ready;
+            start_is = t.start_is;
+            holds = rw snoc (holds_next s n (E i) day t.ready.n_ok r.black r.slots hd t.holds hash refl slots_next);
+            at_is = place_next counted;
+            work_is = rw (add-one i) at work_next;
             outcomes_are = outcomes_put;
-            work_length =
-                lent_length (digests_of ledger ends i) oldWork work (32 * i) t.work_is digests_size t.work_length w (bytes_of (hashed (0 ∷ bytes))) 32 worked
-                (ap length hash ∙ sha256_length (0 ∷ day)) (omega (arith, ok.work_long));
             outcomes_length_is =
                 lent_length (outcomes_of s n i ledger ends book) oldOutcomes outs at t.outcomes_are outcomes_size t.outcomes_length_is o
-                (compared_day s n g b slots (hashed (0 ∷ bytes)) (take (length book - 32 * at) (drop (32 * at) book))) r.count found values_length outcomes_fit;
+                (compared_day r (i + 1) hd (take (length book - 32 * at) (drop (32 * at) book))) k found values_length (values_fit counted);
           })
+        where
+          slots_next : restarted s n (suc i) r.start (linked_slots s n (suc i) hd r.slots) ≡
+              restarted s n (suc (length (E i))) (start_value s n) (linked_slots s n (suc (length (E i))) hd r.slots)
+          slots_next = ap₂ (λ (x : ℕ) (v : Value). restarted s n x v (linked_slots s n x hd r.slots)) (sym (add-one i) ∙ day_is) t.start_is

@@ -1,21 +1,66 @@
--- What a day asks, and what no refusal leaves. Definitions only; private contracts cite them.
-use Rattle.std.specs.Prelude.{◌≡◌, true, List, ℕ, ◌*◌, ◌≤◌, length}
+-- The running hashes that a check carries, what a day asks of them and gives, and what no refusal leaves. Definitions
+-- only; private contracts cite them.
+use Rattle.std.specs.Prelude.{◌≡◌, true, List, ℕ, ◌*◌, ◌≤◌, length, replicate}
 use Rattle.refusals.specs.Refusals.{book_limit}
 use Rattle.layouts.specs.Layouts.{allowed_scheme, allowed_n, names_of_day, chains}
 use Rattle.ledger.specs.Private.{EndsHold}
 use Rattle.chains.specs.declared.Value.{Value}
-use Rattle.chains.specs.Step.{linked, linked_slots, day_values}
+use Rattle.chains.specs.Step.{start_value, linked, linked_slots, restarted, day_values}
 use Rattle.comparing.specs.Private.{compared}
 
--- what a day asks: it is one of a book's days, and there is room for its digest, its values and their outcomes
-pub record DayReady (scheme n g bookSize workSize places : ℕ) : Type 0 where
-  pub scheme_ok : allowed_scheme scheme ≡ true
-  pub n_ok : allowed_n n ≡ true
+-- a layout, the start of its chains, and what they have come to
+pub record State : Type 0 where
+  pub scheme : ℕ
+  pub n : ℕ
+  pub start : Value
+  pub black : Value
+  pub slots : List Value
+
+-- before the first day
+abbrev pub fresh : ℕ → ℕ → State
+fresh scheme n =
+    record {
+      scheme = scheme;
+      n = n;
+      start = start_value scheme n;
+      black = start_value scheme n;
+      slots = replicate 17 (start_value scheme n);
+    }
+
+-- scheme 1, where the slots stay those of the start
+abbrev pub black_alone : ℕ → Value → State
+black_alone n black =
+    record {
+      scheme = 1;
+      n = n;
+      start = start_value 1 n;
+      black = black;
+      slots = replicate 17 (start_value 1 n);
+    }
+
+-- the slots with day g, whose digest is h, linked
+abbrev pub linked_of : State → ℕ → List ℕ → List Value
+linked_of s g h = linked_slots s.scheme s.n g h s.slots
+
+-- after day g: the chains that are values of it have started again
+abbrev pub after : State → ℕ → List ℕ → State
+after s g h =
+    record {
+      scheme = s.scheme;
+      n = s.n;
+      start = s.start;
+      black = linked s.black h;
+      slots = restarted s.scheme s.n g s.start (linked_of s g h);
+    }
+
+-- what a day asks: it is one of a book's days, and there is room for its values and their outcomes
+pub record DayReady (s : State) (g bookSize places : ℕ) : Type 0 where
+  pub scheme_ok : allowed_scheme s.scheme ≡ true
+  pub n_ok : allowed_n s.n ≡ true
   pub some : 1 ≤ g
   pub most : g ≤ book_limit
-  pub work_long : 32 ≤ workSize
-  pub book_long : 32 * length (names_of_day scheme n g) ≤ bookSize
-  pub outcomes_long : length (names_of_day scheme n g) ≤ places
+  pub book_long : 32 * length (names_of_day s.scheme s.n g) ≤ bookSize
+  pub outcomes_long : length (names_of_day s.scheme s.n g) ≤ places
 
 -- what no refusal leaves
 pub record Ready (scheme n d : ℕ) (ends : List ℕ) (size bookSize workSize places : ℕ) : Type 0 where
@@ -27,7 +72,7 @@ pub record Ready (scheme n d : ℕ) (ends : List ℕ) (size bookSize workSize pl
   pub work_long : 32 * d ≤ workSize
   pub outcomes_long : length (chains scheme n d) ≤ places
 
--- the values of day g, whose digest is h, compared with the front of the book
-abbrev pub compared_day : ℕ → ℕ → ℕ → Value → List Value → List ℕ → List ℕ → List ℕ
-compared_day scheme n g b slots h book =
-    compared (day_values scheme n g (linked b h) (linked_slots scheme n g h slots)) book
+-- the values of day g compared with the front of the book
+abbrev pub compared_day : State → ℕ → List ℕ → List ℕ → List ℕ
+compared_day s g h book =
+    compared (day_values s.scheme s.n g (linked s.black h) (linked_of s g h)) book

@@ -1,19 +1,18 @@
 // Checking: the ledger is rehashed day by day, as at sealing, and each value is compared with the book's.
 #![tactic(auto)]
 
-mod blacks;
+mod running;
 
-ghost use Rattle.std.specs.Prelude.{◌≡◌, ◌∷◌, ◌++◌, ◌+◌, ◌*◌, ◌<◌, length, drop};
-ghost use Rattle.refusals.specs.Refusals.{book_limit};
+ghost use Rattle.std.specs.Prelude.{◌≡◌, ◌++◌, ◌*◌, length, drop};
 ghost use Rattle.layouts.specs.Layouts.{chains};
-ghost use Rattle.sha256.specs.Sha256.{hashed};
-ghost use Rattle.sha256_words.specs.Words.{bytes_of};
-ghost use Rattle.chains.specs.Private.{Stepped};
 ghost use Rattle.checking.specs.Contract.{check_refusal, digests_of, outcomes_of, checked};
-ghost use Rattle.checking.specs.Private.{DayReady, Ready, compared_day};
+ghost use Rattle.checking.specs.Private.{Ready, fresh};
 
-use chains::{DayStep, Value};
 use refusals::Answer;
+use running::{Black, Running, Slots};
+
+// The scheme of black alone.
+const BLACK: u32 = 1;
 
 // Tests 1 2 3 7 9 10 11 8.
 fn check_refusal(
@@ -33,69 +32,19 @@ fn check_refusal(
     if x != 0 {
         return x;
     }
-    let k = buffers::wide(layouts::values_through(scheme, n, d));
+    let k = layouts::values_through(scheme, n, d) as usize;
     if book < 32 * k {
         return 11;
     }
-    if work < 32 * buffers::wide(d) {
-        return 8;
-    }
-    if places < k {
+    if work < 32 * d as usize || places < k {
         return 8;
     }
     0
 }
 
-// One day: its digest to the front of the work buffer, the outcomes of its values to the front of the outcome buffer.
-fn check_day(
-    scheme: u32,
-    n: u32,
-    g: u32,
-    start: Value,
-    black: Value,
-    slots: [Value; 17],
-    day: &[u8],
-    book: &[u8],
-    work: &mut [u8],
-    outcomes: &mut [u8],
-) -> DayStep
-    requires { DayReady scheme n g (length book.now) (length work.old) (length outcomes.old) }
-    ensures stepped { Stepped scheme n g start black slots (hashed (0 ∷ day.now)) result }
-    ensures work_after { work.new ≡ bytes_of (hashed (0 ∷ day.now)) ++ drop 32 work.old }
-    ensures outcomes_after { outcomes.new ≡
-        compared_day scheme n g black slots (hashed (0 ∷ day.now)) book.now ++
-        drop result.count outcomes.old }
-{
-    let h = hasher::digest(0, day);
-    let b = sha256_words::bytes(h);
-    buffers::put(work, 0, &b);
-    let step = chains::step(scheme, n, g, black, slots, h);
-    let k = step.count;
-    if k == 0 {
-        return step;
-    }
-    let v = step.black;
-    let linked = step.slots;
-    let values = chains::day_values(scheme, n, g, k, v, linked);
-    comparing::all(book, values, k, outcomes);
-    DayStep {
-        black: v,
-        slots: chains::restart_slots(scheme, n, g, start, linked),
-        count: k,
-    }
-}
-
-// The day at an index.
-fn day_number(i: usize) -> u32
-    requires { i < book_limit }
-    ensures { result ≡ i + 1 }
-{
-    (i + 1) as u32
-}
-
-fn check_days(
-    scheme: u32,
-    n: u32,
+// Every day: its digest to the work buffer, the outcomes of its values to the outcome buffer.
+fn check_days<R: Running + Drop>(
+    mut running: R,
     d: u32,
     ledger: &[u8],
     ends: &[u32],
@@ -103,44 +52,21 @@ fn check_days(
     work: &mut [u8],
     outcomes: &mut [u8],
 )
-    requires { Ready scheme n d ends.now (length ledger.now) (length book.now) (length work.old)
-        (length outcomes.old) }
+    requires ready { Ready (R.state running).scheme (R.state running).n d ends.now
+        (length ledger.now) (length book.now) (length work.old) (length outcomes.old) }
+    requires first_day { R.state running ≡ fresh (R.state running).scheme (R.state running).n }
     ensures work_after { work.new ≡
         digests_of ledger.now ends.now d ++ drop (32 * d) work.old }
     ensures outcomes_after { outcomes.new ≡
-        outcomes_of scheme n d ledger.now ends.now book.now ++
-        drop (length (chains scheme n d)) outcomes.old }
+        outcomes_of (R.state running).scheme (R.state running).n d ledger.now ends.now book.now ++
+        drop (length (chains (R.state running).scheme (R.state running).n d)) outcomes.old }
 {
-    let start = chains::start(scheme, n);
-    let mut black = start;
-    let mut slots = [start; 17];
-    let mut at = 0usize;
-    let mut i = 0usize;
-    let days = buffers::wide(d);
-    while i < days {
-        let a = ledger::start_of(ends, i);
-        let e = ledger::end_of(ends, i);
-        let from = 32 * at;
-        let done = 32 * i;
-        let step = check_day(
-            scheme,
-            n,
-            day_number(i),
-            start,
-            black,
-            slots,
-            &ledger[a..e],
-            &book[from..],
-            &mut work[done..],
-            &mut outcomes[at..],
-        );
-        let b = step.black;
-        let v = step.slots;
-        let k = step.count;
-        black = b;
-        slots = v;
-        at = at + buffers::wide(k);
-        i += 1;
+    let mut at = 0;
+    for i in 0..d as usize {
+        let day = &ledger[ledger::start_of(ends, i)..ledger::end_of(ends, i)];
+        let h = hasher::digest(0, day);
+        buffers::put(work, 32 * i, &sha256_words::bytes(h));
+        at += running.close(i as u32 + 1, h, &book[32 * at..], &mut outcomes[at..]) as usize;
     }
 }
 
@@ -181,10 +107,10 @@ pub fn check(
     if x != 0 {
         return Answer::Refused(x);
     }
-    if scheme == 1 {
-        blacks::days(n, d, ledger, ends, book, work, outcomes);
-        return Answer::Done;
+    if scheme == BLACK {
+        check_days(Black::new(n), d, ledger, ends, book, work, outcomes);
+    } else {
+        check_days(Slots::new(scheme, n), d, ledger, ends, book, work, outcomes);
     }
-    check_days(scheme, n, d, ledger, ends, book, work, outcomes);
     Answer::Done
 }

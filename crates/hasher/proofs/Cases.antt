@@ -5,75 +5,74 @@ use mathlib.Core.Path.{◌≡◌, refl, sym, ap, ap₂, ◌∙◌}
 use mathlib.Core.List.{List, [], ◌∷◌, ◌++◌, append_assoc, append-nil}
 use native.Mathlib.Omega.{arith}
 use native.Mathlib.Numerals.{add-one}
-use lib.ListN.{length, take, drop, set, replicate, length-append, length-drop, length-replicate, replicate-append-replicate, take-append-drop}
-use lib.Seq.{take_all, take_at, length-take-le}
+use lib.ListN.{length, take, drop, replicate, length-append, length-replicate, replicate-append-replicate, take-append-drop}
+use lib.Seq.{take_at, length-take-le}
+use Rattle.std.proofs.lemmas.Grind.{common_steps}
 use Rattle.sha256_words.specs.Words.{initial, words}
 use Rattle.sha256.specs.Sha256.{compress, chunks, blocks, wide, padding, hashed}
 use Rattle.sha256.proofs.Laws.{blocks_short, blocks_one, blocks_cons}
-use Rattle.buffers.specs.Private.{Wrote}
-use Rattle.buffers.proofs.Writes.{wrote_one, wrote_join, wrote_length}
 use Rattle.hasher.specs.declared.Hasher.{Hasher}
 use Rattle.hasher.specs.Hasher.{rest, filled, onward, begun, absorbed, finished}
-use Rattle.hasher.proofs.Filling.{filled_by}
 use Rattle.hasher.proofs.Laws.{rest_short, rest_cons, absorbed_begun, finished_begun}
 
 abbrev hasher : List ℕ → List ℕ → Hasher
 hasher h b = record { words = h; block = b }
 
-pub onward_of : (h s g b : List ℕ) → g ≡ blocks h s
-    → b ≡ filled (take (length s - length s / 64 * 64) (drop (length s / 64 * 64) s)) → hasher g b ≡ onward h s
+pub onward_of : (h s : List ℕ) → hasher (blocks h s) (filled (drop (length s / 64 * 64) s)) ≡ onward h s
 unfolding onward rest
-onward_of h s g b eg eb =
-    ap₂ hasher eg (eb ∙ ap filled (take_all (length s - length s / 64 * 64) (drop (length s / 64 * 64) s) (rw length-drop (omega arith))))
+onward_of h s = refl
 
-pub empty_of : (h : List ℕ) → h ≡ initial → hasher h (replicate 64 0) ≡ begun []
+pub empty_of : hasher initial (replicate 64 0) ≡ begun []
 unfolding begun onward blocks chunks rest filled
-empty_of h e = rw e
+empty_of = refl
 
-pub begin_of : (h : List ℕ) (p : ℕ) → h ≡ initial → hasher h (p ∷ replicate 63 0) ≡ begun (p ∷ [])
+pub begin_of : (p : ℕ) → hasher initial (p ∷ replicate 63 0) ≡ begun (p ∷ [])
 unfolding begun onward blocks chunks rest filled
-begin_of h p e = rw e
+begin_of p = refl
 
 -- ---- the three cases of absorb
 
-pub absorb_none : (st r : Hasher) (n : ℕ) (s : List ℕ) → r ≡ onward st.words s → n % 64 ≡ 0 → r ≡ absorbed st n s
+pub absorb_none : (st : Hasher) (n : ℕ) (s : List ℕ) → n % 64 ≡ 0 → onward st.words s ≡ absorbed st n s
 unfolding absorbed
-absorb_none st r n s er e = rw e er
+absorb_none st n s e = rw e
 
 joint : (b s : List ℕ) (n : ℕ) → length b ≡ 64 → n ≤ 64 → length (take n b ++ s) ≡ n + length s
 joint b s n eb l = rw (length-append, length-take-le n b (omega arith))
 
-pub absorb_short : (st : Hasher) (s f : List ℕ) (n : ℕ) → f ≡ filled (take (n % 64) st.block ++ s) → length st.block ≡ 64 → n % 64 + length s < 64
-    → hasher st.words f ≡ absorbed st n s
+pub absorb_short : (st : Hasher) (s : List ℕ) (n : ℕ) → length st.block ≡ 64 → n % 64 + length s < 64
+    → hasher st.words (filled (take (n % 64) st.block ++ s)) ≡ absorbed st n s
 unfolding absorbed onward
-absorb_short st s f n ef eb l =
+absorb_short st s n eb l =
     let x : List ℕ = take (n % 64) st.block ++ s in
     let p : length x < 64 = rw (joint st.block s (n % 64) eb (omega arith)) l in
-    ap₂ hasher (sym (blocks_short st.words x p)) (ef ∙ ap filled (sym (rest_short x p)))
+    ap₂ hasher (sym (blocks_short st.words x p)) (ap filled (sym (rest_short x p)))
 
 filled_full : (x : List ℕ) → length x ≡ 64 → filled x ≡ x
 unfolding filled
 filled_full x e = rw e (append-nil x)
 
+length_filled : (x : List ℕ) → length x ≤ 64 → length (filled x) ≡ 64
+unfolding filled
+length_filled x l = rw (length-append, length-replicate) (omega arith)
+
 onward_cons : (h x y : List ℕ) → length x ≡ 64 → onward (compress h (words x)) y ≡ onward h (x ++ y)
 unfolding onward
 onward_cons h x y e = ap₂ hasher (sym (blocks_cons h x y e)) (ap filled (sym (rest_cons x y e)))
 
-pub absorb_long : (st r : Hasher) (s f g : List ℕ) (n : ℕ) → f ≡ filled (take (n % 64) st.block ++ take (64 - n % 64) s) → g ≡ blocks st.words f
-    → r ≡ onward g (take (length s - (64 - n % 64)) (drop (64 - n % 64) s))
-    → length st.block ≡ 64 → 64 - n % 64 ≤ length s
-    → r ≡ absorbed st n s
+pub absorb_long : (st : Hasher) (s : List ℕ) (n : ℕ) → length st.block ≡ 64 → 64 - n % 64 ≤ length s
+    → onward (blocks st.words (filled (take (n % 64) st.block ++ take (64 - n % 64) s))) (drop (64 - n % 64) s) ≡ absorbed st n s
 unfolding absorbed
-absorb_long st r s f g n ef eg er eb ls =
+absorb_long st s n eb ls =
     let h : List ℕ = st.words in
     let a : List ℕ = take (n % 64) st.block in
     let x : List ℕ = a ++ take (64 - n % 64) s in
     let y : List ℕ = drop (64 - n % 64) s in
     let lx : length x ≡ 64 = joint st.block (take (64 - n % 64) s) (n % 64) eb (omega arith) ∙ rw (length-take-le (64 - n % 64) s ls) (omega arith) in
-    let ty : take (length s - (64 - n % 64)) y ≡ y = take_all (length s - (64 - n % 64)) y (rw length-drop (omega arith)) in
     let e : x ++ y ≡ a ++ s = append_assoc a (take (64 - n % 64) s) y ∙ ap (λ (l : List ℕ). a ++ l) (take-append-drop (64 - n % 64) s) in
-    let gx : g ≡ compress h (words x) = eg ∙ ap (blocks h) (ef ∙ filled_full x lx) ∙ blocks_one h x lx in
-    er ∙ ap₂ onward gx ty ∙ onward_cons h x y lx ∙ ap (onward h) e
+    ap (λ (g : List ℕ). onward g y) (ap (blocks h) (filled_full x lx) ∙ blocks_one h x lx) ∙ onward_cons h x y lx ∙ ap (onward h) e
+
+-- for the proof of `absorb`
+pub ruleset absorb_cases = (absorb_none, absorb_short, absorb_long, common_steps)
 
 -- ---- the two cases of finish
 
@@ -96,11 +95,10 @@ padded_one b n eb l =
     let k : 56 - length (take (n % 64) b ++ 0x80 ∷ []) ≡ (119 - n % 64) % 64 = omega arith in
     rw (filled_56 (take (n % 64) b ++ 0x80 ∷ []) (omega arith), k) (simp append_assoc)
 
-pub finish_one : (st : Hasher) (f d r : List ℕ) (n : ℕ) → f ≡ filled (take (n % 64) st.block ++ 0x80 ∷ []) → d ≡ take 56 f ++ wide (8 * n) → r ≡ blocks st.words d
-    → length st.block ≡ 64 → n % 64 < 56 → r ≡ finished st n
+pub finish_one : (st : Hasher) (n : ℕ) → length st.block ≡ 64 → n % 64 < 56
+    → blocks st.words (take 56 (filled (take (n % 64) st.block ++ 0x80 ∷ [])) ++ wide (8 * n)) ≡ finished st n
 unfolding finished
-finish_one st f d r n ef ed er eb l =
-    er ∙ ap (blocks st.words) (ed ∙ ap (λ (x : List ℕ). take 56 x ++ wide (8 * n)) ef ∙ padded_one st.block n eb l)
+finish_one st n eb l = ap (blocks st.words) (padded_one st.block n eb l)
 
 padded_two : (b : List ℕ) (n : ℕ) → length b ≡ 64 → 56 ≤ n % 64
     → filled (take (n % 64) b ++ 0x80 ∷ []) ++ (replicate 56 0 ++ wide (8 * n)) ≡ take (n % 64) b ++ padding n
@@ -110,43 +108,30 @@ padded_two b n eb l =
     let k : (119 - n % 64) % 64 ≡ 64 - length (take (n % 64) b ++ 0x80 ∷ []) + 56 = omega arith in
     rw (k, ← replicate-append-replicate) (simp append_assoc)
 
-pub finish_two : (st : Hasher) (f g d r : List ℕ) (n : ℕ) → f ≡ filled (take (n % 64) st.block ++ 0x80 ∷ []) → g ≡ blocks st.words f
-    → d ≡ replicate 56 0 ++ wide (8 * n) → r ≡ blocks g d
-    → length f ≡ 64 → length st.block ≡ 64 → 56 ≤ n % 64 → r ≡ finished st n
+pub finish_two : (st : Hasher) (n : ℕ) → length st.block ≡ 64 → 56 ≤ n % 64
+    → blocks (blocks st.words (filled (take (n % 64) st.block ++ 0x80 ∷ []))) (replicate 56 0 ++ wide (8 * n)) ≡ finished st n
 unfolding finished
-finish_two st f g d r n ef eg ed er lf eb l =
+finish_two st n eb l =
     let h : List ℕ = st.words in
-    let e : f ++ d ≡ take (n % 64) st.block ++ padding n = ap₂ (λ (x y : List ℕ). x ++ y) ef ed ∙ padded_two st.block n eb l in
-    er ∙ ap (λ (x : List ℕ). blocks x d) (eg ∙ blocks_one h f lf) ∙ sym (blocks_cons h f d lf) ∙ ap (blocks h) e
+    let f : List ℕ = filled (take (n % 64) st.block ++ 0x80 ∷ []) in
+    let d : List ℕ = replicate 56 0 ++ wide (8 * n) in
+    let lf : length f ≡ 64 = length_filled (take (n % 64) st.block ++ 0x80 ∷ []) (omega (arith, marked st.block (n % 64) eb (omega arith))) in
+    ap (λ (x : List ℕ). blocks x d) (blocks_one h f lf) ∙ sym (blocks_cons h f d lf) ∙ ap (blocks h) (padded_two st.block n eb l)
 
 -- ---- a message of one block
-
--- the byte p, the bytes s and the mark, put into a block of zeros one after the other
-pub marked_by : (p at : ℕ) (s b c e : List ℕ) → b ≡ p ∷ replicate 63 0 → Wrote 1 s b at c → e ≡ set c at 0x80 → length s < 55 → e ≡ filled ((p ∷ s) ++ 0x80 ∷ [])
-marked_by p at s b c e eb w ee l =
-    let z : List ℕ = replicate 64 0 in
-    let u : Wrote 0 (p ∷ []) z 1 b = rw eb (wrote_one 0 p (p ∷ []) z refl (omega arith)) in
-    let v : Wrote 0 (p ∷ s) z at c = wrote_join 0 (p ∷ s) (p ∷ []) s z b c 1 at refl (omega arith) u w in
-    let n : length c ≡ 64 = wrote_length 0 at (p ∷ s) z c v (omega arith) in
-    let k : at ≡ suc (length s) = omega (arith, w.count) in
-    filled_by (p ∷ s) (0x80 ∷ []) c e (suc (length s)) at (at + 1) refl (omega arith) v (rw ee (wrote_one at 0x80 (0x80 ∷ []) c refl (omega arith)))
 
 grouped : (x r w : List ℕ) (y : ℕ) → ((x ++ y ∷ []) ++ r) ++ w ≡ x ++ (y ∷ r ++ w)
 grouped x r w y = simp append_assoc
 
-pub digest_one : (p : ℕ) (s e d i r : List ℕ) → e ≡ filled ((p ∷ s) ++ 0x80 ∷ []) → d ≡ take 56 e ++ wide (8 * (length s + 1)) → i ≡ initial → r ≡ blocks i d → length s < 55
-    → r ≡ hashed (p ∷ s)
+pub digest_one : (p : ℕ) (s : List ℕ) → length s < 55
+    → blocks initial (take 56 (filled ((p ∷ s) ++ 0x80 ∷ [])) ++ wide (8 * (length s + 1))) ≡ hashed (p ∷ s)
 unfolding hashed padding
-digest_one p s e d i r ee ed ei er l =
+digest_one p s l =
     let m : length ((p ∷ s) ++ 0x80 ∷ []) ≡ length s + 2 = length-append (p ∷ s) (0x80 ∷ []) ∙ omega arith in
     let k : 56 - length ((p ∷ s) ++ 0x80 ∷ []) ≡ (119 - suc (length s) % 64) % 64 = omega arith in
     let n : length s + 1 ≡ suc (length s) = omega arith in
-    let q : d ≡ (p ∷ s) ++ (0x80 ∷ replicate ((119 - suc (length s) % 64) % 64) 0 ++ wide (8 * suc (length s))) =
-    ed ∙ rw (ee, filled_56 ((p ∷ s) ++ 0x80 ∷ []) (omega arith), k, n) (grouped (p ∷ s) (replicate ((119 - suc (length s) % 64) % 64) 0) (wide (8 * suc (length s))) 0x80) in
-    er ∙ ap₂ blocks ei q
+    ap (blocks initial)
+    (rw (filled_56 ((p ∷ s) ++ 0x80 ∷ []) (omega arith), k, n) (grouped (p ∷ s) (replicate ((119 - suc (length s) % 64) % 64) 0) (wide (8 * suc (length s))) 0x80))
 
-pub digest_of_lem : (p : ℕ) (s r : List ℕ) (a b : Hasher) → a ≡ begun (p ∷ []) → b ≡ absorbed a 1 s → r ≡ finished b (length s + 1)
-    → r ≡ hashed (p ∷ s)
-digest_of_lem p s r a b ea eb er =
-    er ∙ ap₂ finished (eb ∙ ap (λ (x : Hasher). absorbed x 1 s) ea ∙ absorbed_begun (p ∷ []) s 1 refl) (add-one (length s))
-    ∙ finished_begun (p ∷ s)
+pub digest_of_lem : (p : ℕ) (s : List ℕ) → finished (absorbed (begun (p ∷ [])) 1 s) (length s + 1) ≡ hashed (p ∷ s)
+digest_of_lem p s = ap₂ finished (absorbed_begun (p ∷ []) s 1 refl) (add-one (length s)) ∙ finished_begun (p ∷ s)

@@ -4,7 +4,7 @@ use mathlib.Core.{Bool.true, Bool.false, Bool.cond, Bool.not, Bool.◌&&◌, Boo
 use Prim.Native.Nat.{ℕ, zero, suc, ◌+◌, ◌*◌, ◌≤◌, ◌<◌}
 use native.Mathlib.{Numerals.add-one, Omega.arith}
 use lib.{Dec.eqb, Dec.leb, Seq.take_all, Seq.take-suc, Seq.drop-append_seam}
-use lib.ListN.{length, get_or, take, drop, take-append-drop}
+use lib.ListN.{length, length-drop, get_or, take, drop, take-append-drop}
 use Rattle.std.proofs.lemmas.Bool.Decides.{nat_tests}
 use borrow.Author.Tests.{eq-eqb, eqb-true, leb-true}
 use Rattle.lists.proofs.Laws.{split, true_or_false, and_both, up_from_mem, every_at}
@@ -26,7 +26,7 @@ pub digits_take : (s : List ℕ) → take (length (digits s)) s ≡ digits s
 digits_take [] = refl
 digits_take (b ∷ s) = elim (split (is_digit b)) [ inl e ↦ rw e (ap (λ r. b ∷ r) (digits_take s)) | inr e ↦ rw e ]
 
-digits_most : (s : List ℕ) → length (digits s) ≤ length s
+pub digits_most : (s : List ℕ) → length (digits s) ≤ length s
 digits_most [] = omega arith
 digits_most (b ∷ s) = let h = digits_most s in elim (split (is_digit b)) [ inl e ↦ rw e (omega arith) | inr e ↦ rw e (omega arith) ]
 
@@ -46,6 +46,11 @@ module _ (s : List ℕ) {k : ℕ} (e : k ≡ length (take_while is_digit s)) whe
   count_back = ap (λ (i : ℕ). drop i s) count_is
 
 pub ruleset by_count = (count_within, count_front, count_back)
+
+-- what follows a field is no longer than the text
+pub after_most : (s : List ℕ) → length (after_field s) ≤ length s
+unfolding after_field after_digits
+after_most s = omega (arith, length-drop 1 (drop (length (digits s)) s), length-drop (length (digits s)) s)
 
 -- ---- a number
 

@@ -1,70 +1,101 @@
--- Laws of the two lines: where they end, their numbers, their outcomes.
-use mathlib.Core.Path.{◌≡◌, refl, sym, ap, ap₂, ◌∙◌}
-use mathlib.Core.Bool.{Bool, true, false, ◌&&◌, and-true, and-false, cond}
+-- Laws of the two lines: their fields, their end, their outcomes.
+use Rattle.std.specs.Prelude.{Option, Some, None}
+use Rattle.std.specs.Borrow.{Bor}
+use mathlib.Core.Path.{◌≡◌, refl, sym, ap, ◌∙◌}
+use mathlib.Core.Bool.{Bool, true, false, and-false, cond}
 use mathlib.Core.List.{List, [], ◌∷◌, ◌++◌, map, append_assoc, map-append}
-use Prim.Native.Nat.{ℕ, suc, ◌+◌, ◌-◌, ◌≤◌, ◌<◌}
+use Prim.Native.Nat.{ℕ, suc, ◌+◌, ◌≤◌, ◌<◌}
 use native.Mathlib.{Numerals.add-one, Omega.arith}
-use lib.{Dec.eqb, Seq.take_all, Seq.take-suc, Seq.drop-cons, Seq.drop-drop, Seq.length-take-le, Seq.set_at}
-use lib.ListN.{length, get_or, set, take, drop, length-drop, length-map, drop_of_length-le}
+use lib.{Dec.eqb, Seq.take-suc, Seq.drop-cons, Seq.length-take-le, Seq.set_at}
+use lib.ListN.{length, get_or, set, take, drop, length-map}
 use Rattle.lists.specs.Lists.{same}
 use Rattle.number_text.specs.Numbers.{digit_of, digits, after_digits, is_field, value_in, after_field}
-use Rattle.number_text.specs.{Private.FieldAt, declared.Field.Field}
-use Rattle.number_text.proofs.FieldLaws.{digits_part, digits_within}
-use Rattle.table_text.specs.{Text.is_formed, Text.from_d, Text.has_passed, Text.last_field, Text.last_line, Private.TypedIs}
+use Rattle.table_text.specs.Text.{is_formed, from_d, has_passed, last_field, last_line}
+use Rattle.table_text.specs.Private.{from_last, LineEndIs, TypedIs}
+use Rattle.table_text.specs.declared.input.LineEnd.{LineEnd}
 
 -- ---- the end
 
-pub end_not : (s : List ℕ) (at : ℕ) → (length s - at ≡ 1 → ⊥) → false ≡ same (drop at s) (10 ∷ [])
-end_not s at h = go (drop at s) (λ e. h (sym (length-drop at s) ∙ e))
-  where
-    go : (xs : List ℕ) → (length xs ≡ 1 → ⊥) → false ≡ same xs (10 ∷ [])
-    go [] n = refl
-    go (x ∷ []) n = absurd (n refl)
-    go (x ∷ y ∷ xs) n = sym (and-false (eqb x 10))
+pub end_not : (xs : List ℕ) → (length xs ≡ 1 → ⊥) → false ≡ same xs (10 ∷ [])
+end_not [] n = refl
+end_not (x ∷ []) n = absurd (n refl)
+end_not (x ∷ y ∷ xs) n = sym (and-false (eqb x 10))
 
-pub end_one : (s : List ℕ) (at : ℕ) → length s - at ≡ 1 → eqb (get_or s at 0) 10 ≡ same (drop at s) (10 ∷ [])
-end_one s at h = sym (rw (drop-cons s at 0 (omega arith), drop_of_length-le s {i = suc at} (omega arith)) (and-true (eqb (get_or s at 0) 10)))
+-- ---- the fields
 
--- ---- the two lines
+-- what a value says of its field
+no_field : (b : Bool) (x : ℕ) {v : Option ℕ} → v ≡ cond b (Some x) None → v ≡ None → b ≡ false
+no_field true x e f = cc
+no_field false x e f = refl
 
-drop_cond : (b : Bool) (i j : ℕ) (s : List ℕ) → drop (cond b i j) s ≡ cond b (drop i s) (drop j s)
-drop_cond true i j s = refl
-drop_cond false i j s = refl
+a_field : (b : Bool) (x : ℕ) {y : ℕ} {v : Option ℕ} → v ≡ cond b (Some x) None → v ≡ Some y → (b ≡ true) × (y ≡ x)
+a_field true x e f = (refl, cc)
+a_field false x e f = cc
 
-pub last_within : (s : List ℕ) (b : Bool) (i j : ℕ) {at : ℕ} → i ≤ length s → j ≤ length s → at ≡ cond b i j → at ≤ length s
-last_within s true i j k l h = rw h k
-last_within s false i j k l h = rw h l
+-- ---- the two lines, by what follows each of the first three fields
 
-pub typed_is : (s : List ℕ) {a b c e l : Field} {at end : ℕ} {last ok : Bool} → FieldAt s 0 44 a → FieldAt s a.next 44 b → FieldAt s b.next 44 c → FieldAt s c.next 44 e →
-    at ≡ cond e.ok e.next c.next → FieldAt s at 10 l → end ≡ l.next + length (digits (drop l.next s)) → last ≡ same (drop end s) (10 ∷ []) →
-    ok ≡ a.ok && (b.ok && (c.ok && (l.ok && last))) →
-    TypedIs s (record { ok = ok; scheme = a.value; n = b.value; f = c.value; d = e.value; five = e.ok; last = l.value; at = l.next; end = end })
-unfolding is_formed has_passed after_digits
-typed_is s {a} {b} {c} {e} {l} {at} {end} {last} A B C E g L h k t =
-    let u : drop b.next s ≡ after_field (after_field s) = B.rest_is ∙ ap after_field A.rest_is in
-    let v : drop c.next s ≡ from_d s = C.rest_is ∙ ap after_field u in
-    let five : e.ok ≡ has_passed s = E.ok_is ∙ ap (is_field 44) v in
-    let x : drop at s ≡ last_field s = ap (λ (i : ℕ). drop i s) g ∙ drop_cond e.ok e.next c.next s ∙ rw (five, E.rest_is, v) in
-    let w : drop l.next s ≡ last_line s = L.rest_is ∙ ap after_field x in
-    let y : drop end s ≡ drop (length (digits (last_line s))) (last_line s) =
-    ap (λ (i : ℕ). drop i s) h ∙ sym (drop-drop (length (digits (drop l.next s))) l.next s) ∙ ap (λ (i : List ℕ). drop (length (digits i)) i) w in
-    let z = digits_within s l.next end L.within h in
-    record {
-      ok_is =
-          t ∙
-          ap₂ ◌&&◌ A.ok_is
-          (ap₂ ◌&&◌ (B.ok_is ∙ ap (is_field 44) A.rest_is)
-          (ap₂ ◌&&◌ (C.ok_is ∙ ap (is_field 44) u) (ap₂ ◌&&◌ (L.ok_is ∙ ap (is_field 10) x) (k ∙ ap (λ (i : List ℕ). same i (10 ∷ [])) y))));
-      scheme_is = A.value_is;
-      n_is = B.value_is ∙ ap value_in A.rest_is;
-      f_is = C.value_is ∙ ap value_in u;
-      d_is = E.value_is ∙ ap value_in v;
-      five_is = five;
-      last_is = L.value_is ∙ ap value_in x;
-      outcomes_are = digits_part s l.next end h ∙ ap digits w;
-      ordered = z.0;
-      within = z.1;
-    }
+module _ (s : List ℕ) {p q r : List ℕ} (P : p ≡ after_field s) (Q : q ≡ after_field p) (R : r ≡ after_field q) where
+  at_f : q ≡ after_field (after_field s)
+  at_f = Q ∙ ap after_field P
+
+  at_d : r ≡ from_d s
+  at_d = R ∙ ap after_field at_f
+
+  at_last : from_last r ≡ last_field s
+  unfolding has_passed
+  at_last = ap from_last at_d
+
+  -- a field that is none
+  pub no_scheme : {v : Option ℕ} → v ≡ cond (is_field 44 s) (Some (value_in s)) None → v ≡ None → is_formed s ≡ false
+  unfolding is_formed
+  no_scheme e f = rw (no_field (is_field 44 s) (value_in s) e f)
+
+  pub no_n : {v : Option ℕ} → v ≡ cond (is_field 44 p) (Some (value_in p)) None → v ≡ None → is_formed s ≡ false
+  unfolding is_formed
+  no_n e f = rw (ap (is_field 44) (sym P) ∙ no_field (is_field 44 p) (value_in p) e f) (and-false (is_field 44 s))
+
+  pub no_f : {v : Option ℕ} → v ≡ cond (is_field 44 q) (Some (value_in q)) None → v ≡ None → is_formed s ≡ false
+  unfolding is_formed
+  no_f e f = rw (ap (is_field 44) (sym at_f) ∙ no_field (is_field 44 q) (value_in q) e f, and-false (is_field 44 (after_field s))) (and-false (is_field 44 s))
+
+  pub no_last : is_field 10 (from_last r) ≡ false → is_formed s ≡ false
+  unfolding is_formed
+  no_last e =
+      rw (ap (is_field 10) (sym at_last) ∙ e, and-false (is_field 44 (after_field (after_field s))), and-false (is_field 44 (after_field s)))
+      (and-false (is_field 44 s))
+
+  -- with the last field, and the digits after it
+  module _ {e : LineEnd} (E : LineEndIs r e) {ds end : List ℕ} (D : ds ≡ digits e.rest.now) (F : end ≡ after_digits e.rest.now) {b : Bool} (g : b ≡ same end (10 ∷ [])) where
+    at_line : e.rest.now ≡ last_line s
+    at_line = E.rest_is ∙ ap after_field at_last
+
+    ends : b ≡ same (after_digits (last_line s)) (10 ∷ [])
+    ends = g ∙ ap (λ (x : List ℕ). same x (10 ∷ [])) (F ∙ ap after_digits at_line)
+
+    pub no_end : b ≡ false → is_formed s ≡ false
+    unfolding is_formed
+    no_end f =
+        rw (sym ends ∙ f, and-false (is_field 10 (last_field s)), and-false (is_field 44 (after_field (after_field s))), and-false (is_field 44 (after_field s)))
+        (and-false (is_field 44 s))
+
+    pub typed_is : {u v w : Option ℕ} {x y z : ℕ} → b ≡ true → u ≡ cond (is_field 44 s) (Some (value_in s)) None → u ≡ Some x →
+        v ≡ cond (is_field 44 p) (Some (value_in p)) None → v ≡ Some y → w ≡ cond (is_field 44 q) (Some (value_in q)) None → w ≡ Some z →
+        {o : Bor (List ℕ)} → o.now ≡ ds → TypedIs s (record { scheme = x; n = y; f = z; d = e.d; passed = e.passed; outcomes = o })
+    unfolding is_formed has_passed
+    typed_is f U u V v W w O =
+        let A = a_field (is_field 44 s) (value_in s) U u in
+        let B = a_field (is_field 44 p) (value_in p) V v in
+        let C = a_field (is_field 44 q) (value_in q) W w in
+        record {
+          formed =
+              rw (A.0, ap (is_field 44) (sym P) ∙ B.0, ap (is_field 44) (sym at_f) ∙ C.0, ap (is_field 10) (sym at_last) ∙ E.formed, sym ends ∙ f);
+          scheme_is = A.1;
+          n_is = B.1 ∙ ap value_in P;
+          f_is = C.1 ∙ ap value_in at_f;
+          d_is = E.d_is ∙ ap value_in at_d;
+          passed_is = E.passed_is ∙ ap (λ (x : List ℕ). cond (is_field 44 x) (Some (value_in (after_field x))) None) at_d;
+          outcomes_are = O ∙ D ∙ ap digits at_line;
+        }
 
 -- ---- the outcomes
 
@@ -78,6 +109,3 @@ outcomes_next ds old to i {x} l h e f =
     (ap (λ (y : List ℕ). set y i x) (e ∙ ap (λ (y : List ℕ). map digit_of (take i ds) ++ y) (drop-cons old i 0 (omega arith))) ∙
     set_at (map digit_of (take i ds)) (get_or old i 0) (drop (suc i) old) x i t ∙ sym (append_assoc (map digit_of (take i ds)) (x ∷ []) (drop (suc i) old)) ∙
     ap (λ (y : List ℕ). y ++ drop (suc i) old) (sym m))
-
-pub outcomes_done : (ds old to : List ℕ) (i : ℕ) → i ≡ length ds → to ≡ map digit_of (take i ds) ++ drop i old → to ≡ map digit_of ds ++ drop (length ds) old
-outcomes_done ds old to i h e = rw (take_all i ds (omega arith), h) at e

@@ -1,9 +1,9 @@
 -- Laws of the lines that are printed.
-use mathlib.Core.Path.{◌≡◌, refl, sym, ap, ◌∙◌}
+use mathlib.Core.Path.{◌≡◌, refl, sym, ◌∙◌}
 use mathlib.Core.List.{List, [], ◌∷◌, ◌++◌, append_assoc, append-nil}
 use Prim.Native.Nat.{ℕ, zero, suc, ◌+◌, ◌*◌, ◌≤◌, ◌<◌}
 use native.Mathlib.{Numerals.add-one, Omega.arith}
-use lib.{ListN.length, ListN.get_or, ListN.set, ListN.take, ListN.length-append, Seq.take_all, Seq.take-suc}
+use lib.{ListN.length, ListN.get_or, ListN.set, ListN.take, ListN.length-append, Seq.take-suc}
 use Rattle.buffers.specs.Private.{Wrote}
 use Rattle.buffers.proofs.Writes.{wrote_none, wrote_as, wrote_byte, wrote_join}
 use Rattle.number_text.specs.Numbers.{comma_numbers}
@@ -67,9 +67,6 @@ pub days_next : (at i r t : ℕ) (xs l m k : List ℕ) → i < length xs → at 
 days_next at i r t xs l m k h b w v =
     let f = days_front (i + 1) xs in
     wrote_join at (day_lines (take (i + 1) xs)) (day_lines (take i xs)) (line DAY (get_or xs i 0 ∷ [])) l m k r t (days_snoc xs i h) (omega arith) w v
-
-pub days_all : (at i r : ℕ) (xs l m : List ℕ) → i ≡ length xs → Wrote at (day_lines (take i xs)) l r m → Wrote at (day_lines xs) l r m
-days_all at i r xs l m h w = wrote_as (day_lines xs) (ap day_lines (sym (take_all i xs (omega arith)))) w
 
 -- ---- the report
 

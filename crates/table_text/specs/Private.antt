@@ -1,43 +1,38 @@
--- What the private contracts say: a text as it is read by places, what reading said. Definitions only.
-use Rattle.std.specs.Prelude.{◌≡◌, Bool, cond, List, [], ◌∷◌, ℕ, ◌-◌, ◌≤◌, length, take, drop}
+-- What the private contracts say: a text that is formed, as it is read. Definitions only.
+use Rattle.std.specs.Prelude.{◌≡◌, true, cond, List, [], ◌∷◌, ℕ, Some, None, unwrap_or}
 use Rattle.refusals.specs.Refusals.{first_refusal}
 use Rattle.reading.specs.Numbers.{validation_before}
-use Rattle.reading.specs.Contract as reading
-use Rattle.number_text.specs.Numbers.{digits, value_in}
-use Rattle.table_text.specs.Text.{scheme_in, n_in, f_in, d_in, has_passed, last_field, last_line, is_formed}
+use Rattle.reading.specs.declared.Numbers.{Numbers}
+use Rattle.number_text.specs.Numbers.{comma, line_feed, digits, is_field, value_in, after_field}
+use Rattle.table_text.specs.Text.{scheme_in, n_in, f_in, d_in, has_passed, from_passed, last_line, is_formed}
 use Rattle.table_text.specs.Text.{answer_tests, table_lines, printed}
 use Rattle.table_text.specs.declared.Typed.{Typed}
-use Rattle.table_text.specs.declared.Report.{Report}
+use Rattle.table_text.specs.declared.input.LineEnd.{LineEnd}
 
--- the text s; the outcomes stand from at to before end
-pub record TypedIs (s : List ℕ) (r : Typed) : Type 0 where
-  pub ok_is : r.ok ≡ is_formed s
-  pub scheme_is : r.scheme ≡ scheme_in s
-  pub n_is : r.n ≡ n_in s
-  pub f_is : r.f ≡ f_in s
-  pub d_is : r.d ≡ d_in s
-  pub five_is : r.five ≡ has_passed s
-  pub last_is : r.last ≡ value_in (last_field s)
-  pub outcomes_are : take (r.end - r.at) (drop r.at s) ≡ digits (last_line s)
-  pub ordered : r.at ≤ r.end
-  pub within : r.end ≤ length s
+-- the line from D on: its last field, P's where there is one, else D's
+abbrev pub from_last : List ℕ → List ℕ
+from_last s = cond (is_field comma s) (after_field s) s
 
--- what reading said; whether it is clean is not printed
-pub record ReportIs (x : reading.Report) (r : Report) : Type 0 where
-  pub refusal_is : r.refusal ≡ x.refusal
-  pub listed_is : r.listed ≡ x.listed
-  pub first_is : r.first ≡ x.first
-  pub low_is : r.low ≡ x.low
-  pub high_is : r.high ≡ x.high
-  pub last_good_is : r.last_good ≡ x.last_good
+-- what stands there, where that field is one: D, P, what follows the line
+pub record LineEndIs (s : List ℕ) (e : LineEnd) : Type 0 where
+  pub formed : is_field line_feed (from_last s) ≡ true
+  pub d_is : e.d ≡ value_in s
+  pub passed_is : e.passed ≡ cond (is_field comma s) (Some (value_in (after_field s))) None
+  pub rest_is : e.rest.now ≡ after_field (from_last s)
+
+-- the text s, which is formed
+pub record TypedIs (s : List ℕ) (t : Typed) : Type 0 where
+  pub formed : is_formed s ≡ true
+  pub scheme_is : t.scheme ≡ scheme_in s
+  pub n_is : t.n ≡ n_in s
+  pub f_is : t.f ≡ f_in s
+  pub d_is : t.d ≡ d_in s
+  pub passed_is : t.passed ≡ cond (has_passed s) (Some (value_in (from_passed s))) None
+  pub outcomes_are : t.outcomes.now ≡ digits (last_line s)
 
 -- the numbers of the line REF
-abbrev pub numbers_in : ℕ → Report → List ℕ
+abbrev pub numbers_in : ℕ → Numbers → List ℕ
 numbers_in scheme r = scheme ∷ r.listed ∷ r.first ∷ r.low ∷ r.high ∷ r.last_good ∷ []
-
--- P by the last field of the first line, as in passed_in
-abbrev pub passed_by : ℕ → ℕ → ℕ → Bool → ℕ → ℕ
-passed_by n f d five last = cond five last (validation_before n f d)
 
 -- what is printed of a text that is formed
 unfoldable pub answered : ℕ → ℕ → ℕ → ℕ → ℕ → List ℕ → List ℕ
@@ -47,4 +42,4 @@ answered scheme n f d passed outcomes =
 -- by its first line
 abbrev pub answered_line : Typed → List ℕ → List ℕ
 answered_line t outcomes =
-    answered t.scheme t.n t.f t.d (passed_by t.n t.f t.d t.five t.last) outcomes
+    answered t.scheme t.n t.f t.d (unwrap_or t.passed (validation_before t.n t.f t.d)) outcomes

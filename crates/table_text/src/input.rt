@@ -1,72 +1,69 @@
 // The two lines: four or five fields, and the outcomes.
-ghost use Rattle.std.specs.Prelude.{◌≡◌, ◌&&◌, cond, ◌∷◌, [], ◌++◌, map, ◌≤◌, length, drop};
+ghost use Rattle.std.specs.Prelude.{◌≡◌, false, [], ◌∷◌, ◌++◌, map, ◌≤◌, length, drop, MatchOption};
 ghost use Rattle.lists.specs.Lists.{same};
-ghost use Rattle.number_text.specs.Numbers.{line_feed, digit_of};
-ghost use Rattle.table_text.specs.Private.{TypedIs};
+ghost use Rattle.number_text.specs.Numbers.{digit_of, is_field, line_feed};
+ghost use Rattle.table_text.specs.Text.{is_formed};
+ghost use Rattle.table_text.specs.Private.{from_last, LineEndIs, TypedIs};
 
 use crate::Typed;
 
-// Nothing but a line feed stands from a place on.
-fn is_end(s: &[u8], at: usize) -> bool
-    requires { at ≤ length s.now }
-    ensures { result ≡ same (drop at s.now) (line_feed ∷ []) }
-{
-    if s.len() - at != 1 {
-        return false;
-    }
-    s[at] == b'\n'
+// The end of the first line: D, P where there is one, and what follows the line.
+#[derive(Drop)]
+struct LineEnd<'a> {
+    d: u32,
+    passed: Option<u32>,
+    rest: &'a [u8],
 }
 
-fn all(scheme: bool, n: bool, f: bool, last: bool, outcomes: bool) -> bool
-    ensures { result ≡ scheme && (n && (f && (last && outcomes))) }
+// The line from D on.
+fn read_line_end(s: &[u8]) -> Option<LineEnd<'_>>
+    ensures { MatchOption result (is_field line_feed (from_last s.now) ≡ false) (λ e. LineEndIs s.now e) }
 {
-    if !scheme {
-        return false;
-    }
-    if !n {
-        return false;
-    }
-    if !f {
-        return false;
-    }
-    if !last {
-        return false;
-    }
-    outcomes
+    let fourth = number_text::read_field(s, b',');
+    let Some(d) = fourth.value else {
+        let last = number_text::read_field(s, b'\n');
+        return Some(LineEnd {
+            d: last.value?,
+            passed: None,
+            rest: last.rest,
+        });
+    };
+    let last = number_text::read_field(fourth.rest, b'\n');
+    Some(LineEnd {
+        d,
+        passed: Some(last.value?),
+        rest: last.rest,
+    })
 }
 
-// Where the last field of the first line begins: P's where there is one, else D's.
-fn last_field(five: bool, d: usize, passed: usize) -> usize
-    ensures { result ≡ cond five passed d }
+// Nothing but a line feed.
+#[tactic(auto, using(crate::proofs::InputLaws::end_not))]
+fn is_end(s: &[u8]) -> bool
+    ensures { result ≡ same s.now (line_feed ∷ []) }
 {
-    if five {
-        return passed;
-    }
-    d
+    matches!(s, [b'\n'])
 }
 
-// The whole text.
-pub fn read_lines(s: &[u8]) -> Typed
-    ensures { TypedIs s.now result }
+// The whole text, where it is as laid out.
+pub fn read_lines(s: &[u8]) -> Option<Typed<'_>>
+    ensures { MatchOption result (is_formed s.now ≡ false) (λ t. TypedIs s.now t) }
 {
-    let a = number_text::read_field(s, 0, b',');
-    let b = number_text::read_field(s, a.next, b',');
-    let c = number_text::read_field(s, b.next, b',');
-    let e = number_text::read_field(s, c.next, b',');
-    let l = number_text::read_field(s, last_field(e.ok, c.next, e.next), b'\n');
-    let end = number_text::digits_end(s, l.next);
-    let ok = all(a.ok, b.ok, c.ok, l.ok, is_end(s, end));
-    Typed {
-        ok: ok,
-        scheme: a.value,
-        n: b.value,
-        f: c.value,
-        d: e.value,
-        five: e.ok,
-        last: l.value,
-        at: l.next,
-        end: end,
+    let scheme = number_text::read_field(s, b',');
+    let n = number_text::read_field(scheme.rest, b',');
+    let f = number_text::read_field(n.rest, b',');
+    let last = read_line_end(f.rest)?;
+    let (outcomes, end) = number_text::split_digits(last.rest);
+    if !is_end(end) {
+        return None;
     }
+    Some(Typed {
+        scheme: scheme.value?,
+        n: n.value?,
+        f: f.value?,
+        d: last.d,
+        passed: last.passed,
+        outcomes,
+    })
 }
 
 // The numbers of the digits, to the front of the buffer.
@@ -75,9 +72,7 @@ pub fn outcomes(ds: &[u8], to: &mut [u8])
     ensures { to.new ≡
         map digit_of ds.now ++ drop (length ds.now) to.old }
 {
-    let mut i = 0usize;
-    while i < ds.len() {
-        to[i] = number_text::digit(ds[i]);
-        i += 1;
+    for (i, b) in ds.iter().enumerate() {
+        to[i] = number_text::digit(*b);
     }
 }

@@ -5,7 +5,7 @@ ghost use Rattle.table_text.specs.Text as spec;
 ghost use Rattle.table_text.specs.Text.{no_line, day_lines};
 ghost use Rattle.table_text.specs.Private.{numbers_in};
 
-use crate::Report;
+use reading::Numbers;
 
 // A word, numbers, and a line feed.
 fn put_line(out: &mut [u8], at: usize, word: &[u8], numbers: &[u32]) -> usize
@@ -25,11 +25,8 @@ fn put_days(out: &mut [u8], at: usize, days: &[u32]) -> usize
     ensures { Wrote at (day_lines days.now) out.old result out.new }
 {
     let mut next = at;
-    let mut i = 0usize;
-    while i < days.len() {
-        let day = [days[i]];
-        next = put_line(out, next, b"DAY", &day);
-        i += 1;
+    for day in days {
+        next = put_line(out, next, b"DAY", &[*day]);
     }
     next
 }
@@ -39,12 +36,11 @@ pub fn refuse(out: &mut [u8], number: u32) -> usize
     requires { 2048 ≤ length out.old }
     ensures { Wrote 0 (no_line number) out.old result out.new }
 {
-    let numbers = [number];
-    put_line(out, 0, b"NO", &numbers)
+    put_line(out, 0, b"NO", &[number])
 }
 
 // The line REF, and a line for each day.
-pub fn put_report(out: &mut [u8], scheme: u32, report: Report, days: &[u32]) -> usize
+pub fn put_report(out: &mut [u8], scheme: u32, report: Numbers, days: &[u32]) -> usize
     requires { 85 + length (day_lines days.now) ≤ length out.old }
     ensures { Wrote 0 (spec.line (82 ∷ 69 ∷ 70 ∷ []) (numbers_in scheme report) ++ day_lines days.now)
         out.old result out.new }

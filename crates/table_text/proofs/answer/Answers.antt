@@ -10,24 +10,25 @@ pub returns-then-x-ne0 : goal.returns-then-x-ne0
 returns-then-x-ne0 c = wrote_as _ (answer_early _ _ _ _ _ c.args.outcomes.now c.digit_refusal-x.ensures c.if-x-ne0.true) c.refuse.ensures
 
 pub returns-then-y-ne0 : goal.returns-then-y-ne0
-returns-then-y-ne0 c = wrote_as _ (answer_late _ _ _ _ _ c.args.outcomes.now c.digit_refusal-x.ensures c.if-x-ne0.false (replicate 256 0) refl c.requires.0 c.read.ensures.result_value c.report_by-report.ensures
-    c.if-y-ne0.true) c.refuse-then-y-ne0.ensures
+returns-then-y-ne0 c = wrote_as _ (answer_late _ _ _ _ _ c.args.outcomes.now c.digit_refusal-x.ensures c.if-x-ne0.false (replicate 256 0) refl c.requires.0
+    c.read-reading.ensures.result_value c.number_of-y.ensures c.if-y-ne0.true) c.refuse-then-y-ne0.ensures
 
 pub slice_bounds-list-end : goal.slice_bounds-list-end
 slice_bounds-list-end c = omega (
   arith,
-  part_fits _ _ _ _ _ c.args.outcomes.now c.digit_refusal-x.ensures c.if-x-ne0.false (replicate 256 0) refl c.requires.0 c.read.ensures.result_value c.report_by-report.ensures
-      c.if-y-ne0.false c.read.ensures.list_after c.wide-k.ensures,
+  part_fits _ _ _ _ _ c.args.outcomes.now c.digit_refusal-x.ensures c.if-x-ne0.false (replicate 256 0) refl c.requires.0
+      c.read-reading.ensures.result_value c.number_of-y.ensures c.if-y-ne0.false c.numbers_of-report.ensures c.read-reading.ensures.list_after,
 )
 
 pub slice_bounds-put_report-end : goal.slice_bounds-put_report-end
-slice_bounds-put_report-end c = part_length _ _ _ _ _ c.args.outcomes.now c.digit_refusal-x.ensures c.if-x-ne0.false (replicate 256 0) refl c.requires.0 c.read.ensures.result_value c.report_by-report.ensures
-    c.if-y-ne0.false c.read.ensures.list_after c.wide-k.ensures
+slice_bounds-put_report-end c = part_length _ _ _ _ _ c.args.outcomes.now c.digit_refusal-x.ensures c.if-x-ne0.false (replicate 256 0) refl c.requires.0
+    c.read-reading.ensures.result_value c.number_of-y.ensures c.if-y-ne0.false c.numbers_of-report.ensures c.read-reading.ensures.list_after
 
 pub put_report-requires : goal.put_report-requires
-put_report-requires c = part_room _ _ _ _ _ c.args.outcomes.now c.digit_refusal-x.ensures c.if-x-ne0.false (replicate 256 0) refl c.requires.0 c.read.ensures.result_value c.report_by-report.ensures
-    c.if-y-ne0.false c.read.ensures.list_after c.wide-k.ensures _ c.requires.1
+put_report-requires c = part_room _ _ _ _ _ c.args.outcomes.now c.digit_refusal-x.ensures c.if-x-ne0.false (replicate 256 0) refl c.requires.0
+    c.read-reading.ensures.result_value c.number_of-y.ensures c.if-y-ne0.false c.numbers_of-report.ensures c.read-reading.ensures.list_after _ c.requires.1
 
 pub returns : goal.returns
-returns c = wrote_as _ (answer_read _ _ _ _ _ c.args.outcomes.now c.digit_refusal-x.ensures c.if-x-ne0.false (replicate 256 0) refl c.requires.0 c.read.ensures.result_value c.report_by-report.ensures
-    c.if-y-ne0.false c.read.ensures.list_after c.wide-k.ensures) c.put_report.ensures
+returns c = wrote_as _ (answer_read _ _ _ _ _ c.args.outcomes.now c.digit_refusal-x.ensures c.if-x-ne0.false (replicate 256 0) refl c.requires.0
+    c.read-reading.ensures.result_value c.number_of-y.ensures c.if-y-ne0.false c.numbers_of-report.ensures c.read-reading.ensures.list_after)
+    c.put_report.ensures
