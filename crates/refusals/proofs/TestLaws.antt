@@ -193,12 +193,13 @@ pub number_passed : (t : Result Unit Refusal) → number_of t ≡ 0 → t ≡ Ok
 number_passed (Ok u) e = refl
 number_passed (Err r) e = absurd (number_some r e)
 
+pub number_stays : {A : Type 0} (x : ℕ) (new old : A) → (x ≡ 0 → ⊥) → unless_refused x new old ≡ old
+number_stays zero new old h = absurd (h refl)
+number_stays (suc x) new old h = refl
+
 pub old_stays : {A : Type 0} {r : Refusal} (t : Result Unit Refusal) (new old : A) → t ≡ Err r → unless_refused (number_of t) new old ≡ old
 old_stays {r = r} (Ok u) new old e = absurd (not_both refl e)
-old_stays {r = r} (Err x) new old e = refused_some (number x) new old (number_some x) where
-  refused_some : {A : Type 0} (x : ℕ) (new old : A) → (x ≡ 0 → ⊥) → unless_refused x new old ≡ old
-  refused_some zero new old h = absurd (h refl)
-  refused_some (suc x) new old h = refl
+old_stays {r = r} (Err x) new old e = number_stays (number x) new old (number_some x)
 
 pub new_stands : {A : Type 0} {u : Unit {0}} (t : Result Unit Refusal) (new old : A) → t ≡ Ok u → unless_refused (number_of t) new old ≡ new
 new_stands t new old e = rw e

@@ -9,18 +9,23 @@ use borrow.Author.Tests.{le-leb, lt-leb, leb-true}
 use Rattle.lists.specs.Lists.{up_from, keep}
 use Rattle.lists.proofs.Laws.{split, and_both, length-up_from}
 use Rattle.evidence.specs.Evidence.{days, listing, cleared}
-use Rattle.refusals.specs.Refusals.{Test, ◌or_refuse◌, first_refusal}
-use Rattle.refusals.proofs.TestLaws.{none_fails, all_pass, pass_split, refused_before, refused_after, last_fails, last_passes, old_stays, new_stands}
+use Rattle.std.specs.Prelude.{Result, Ok, Err}
+use Rattle.refusals.specs.Refusals.{Test, ◌or_refuse◌, number, number_of, tested, first_refusal}
+use Rattle.refusals.specs.declared.Refusal.{Refusal}
+use Rattle.refusals.specs.declared.Refusal.TheVariants as cause
+use Rattle.refusals.proofs.TestLaws.{none_fails, no_refusal, pass_split, refused_before, passed_before, number_after, number_some, number_stays, passed_number, old_stays}
 use Rattle.buffers.specs.Private.{Wrote}
-use Rattle.layouts.specs.Layouts.{layout_refusal, chains}
+use Rattle.layouts.specs.Layouts.{allowed_scheme, allowed_n, layout_tested, chains}
 use Rattle.layouts.proofs.{AllowedLaws.allowed_d_is, AllowedLaws.layout_is, Coverage.divisor_le}
 use Rattle.acceptance.proofs.Runs.{keep_length}
 use Rattle.reading.specs.Numbers.{validation_before, last_good_day}
-use Rattle.reading.specs.Contract.{table_in, passed_tests, passed_refusal, outcome_tests, read_refusal, listed_in, found, readout}
+use Rattle.reading.specs.Contract.{report_of, table_in, passed_tests, passed_tested, passed_refusal, outcome_tests, read_refusal, listed_in, found, readout}
+use Rattle.reading.specs.declared.Reading.{Reading}
+use Rattle.reading.specs.declared.Reading.TheVariants.{Clean, Changed, Refused}
 use Rattle.reading.specs.Contract as reading
-use Rattle.reading.proofs.{RefusalLaws.layout_refused, RefusalLaws.table_refused, Report.readout_found, Statements.refusal_said, Statements.count_found}
+use Rattle.reading.proofs.{RefusalLaws.passed_early, RefusalLaws.passed_facts, RefusalLaws.number_late, Report.readout_found, Statements.refusal_said, Statements.count_found}
 use Rattle.number_text.specs.Numbers.{digit_of, digits, value_in, decimal}
-use Rattle.table_text.specs.Text.{from_n, from_f, from_d, from_passed, has_passed, last_field, last_line, is_formed, scheme_in, n_in, f_in, d_in, passed_in, outcomes_in, form_tests, digit_tests, answer_tests}
+use Rattle.table_text.specs.Text.{from_n, from_f, from_d, from_passed, has_passed, last_field, last_line, is_formed, scheme_in, n_in, f_in, d_in, passed_in, outcomes_in, form_tests, digit_tests, digits_tested, answer_tests}
 use Rattle.table_text.specs.Text.{text_tests, text_refusal, line, no_line, ref_line, day_lines, table_lines, printed, text_of}
 use Rattle.table_text.specs.Private.{TypedIs, numbers_in, answered, answered_line}
 use Rattle.std.specs.Prelude.{Some, None, unwrap_or}
@@ -31,18 +36,24 @@ use Rattle.table_text.specs.declared.Typed.{Typed}
 
 -- ---- 1 2 3 7 19, and 15 for extra digits
 
-module _ (s n f d p count : ℕ) {r : ℕ} (e : r ≡ passed_refusal s n f d p) where
-  pub passed_refused : (r ≡ 0 → ⊥) → r ≡ first_refusal (digit_tests s n f d p count)
-  unfolding passed_refusal
-  passed_refused h = refused_before (passed_tests s n f d p) (leb count (length (chains s n d)) or_refuse 15 ∷ []) e h
+module _ (s n f d p count : ℕ) where
+  pub digits_early : {r : Refusal} → passed_tested s n f d p ≡ Err r → Err r ≡ digits_tested s n f d p count
+  unfolding passed_tested digits_tested
+  digits_early e = sym (refused_before (passed_tests s n f d p) (leb count (length (chains s n d)) or_refuse cause.BadText ∷ []) e)
 
-  pub extra_15 : r ≡ 0 → {v : ℕ} → v ≡ length (chains s n d) → v < count → 15 ≡ first_refusal (digit_tests s n f d p count)
-  unfolding passed_refusal
-  extra_15 z q h = last_fails (passed_tests s n f d p) (leb count (length (chains s n d))) 15 refl e z (lt-leb count (length (chains s n d)) (omega arith))
+  module _ (e : passed_tested s n f d p ≡ Ok tt) where
+    pub digits_ask : (allowed_scheme s ≡ true) × (allowed_n n ≡ true) × (d ≤ 65536)
+    digits_ask = let L = passed_facts s n f d p e in (L.scheme_ok, L.n_ok, L.most)
 
-  pub extra_0 : r ≡ 0 → {v : ℕ} → v ≡ length (chains s n d) → count ≤ v → 0 ≡ first_refusal (digit_tests s n f d p count)
-  unfolding passed_refusal
-  extra_0 z q h = last_passes (passed_tests s n f d p) (leb count (length (chains s n d))) 15 refl e z (le-leb count (length (chains s n d)) (omega arith))
+    last_test : digits_tested s n f d p count ≡ tested (leb count (length (chains s n d)) or_refuse cause.BadText ∷ [])
+    unfolding passed_tested digits_tested
+    last_test = passed_before (passed_tests s n f d p) (leb count (length (chains s n d)) or_refuse cause.BadText ∷ []) e
+
+    pub extra_15 : length (chains s n d) < count → Err cause.BadText ≡ digits_tested s n f d p count
+    extra_15 h = rw (last_test, lt-leb count (length (chains s n d)) h) refl
+
+    pub extra_none : count ≤ length (chains s n d) → Ok tt ≡ digits_tested s n f d p count
+    extra_none h = rw (last_test, le-leb count (length (chains s n d)) h) refl
 
 -- ---- room for the day lines
 
@@ -74,43 +85,56 @@ days_most s n d o h = omega (arith, days_kept (λ g. not (cleared g (chains s n 
 
 -- ---- a table's answer
 
-module _ (s n f d p : ℕ) (o : List ℕ) {x : ℕ} (e : x ≡ first_refusal (digit_tests s n f d p (length o))) where
-  pub answer_early : (x ≡ 0 → ⊥) → answered s n f d p o ≡ no_line x
-  unfolding answered
-  answer_early h =
-      let R = first_refusal (answer_tests s n f d p o) in
-      let q : x ≡ R = refused_before (digit_tests s n f d p (length o)) (outcome_tests s n d o) e h in
-      sym (old_stays R (table_lines s n d p o) (no_line R) q h) ∙ ap no_line (sym q)
+-- an answer that is no refusal
+not_refused : (d : ℕ) (v : Reading) → ((x : Refusal) → v ≡ Refused x → ⊥) → (report_of d v).refusal ≡ 0
+unfolding report_of
+not_refused d Clean h = refl
+not_refused d (Changed m) h = refl
+not_refused d (Refused x) h = absurd (h x refl)
 
-  module _ (z : x ≡ 0) (l : List ℕ) (size : length l ≡ 256) (most : d ≤ 256) {a : reading.Report} {y : ℕ} (h : a ≡ (readout s n f d p o l).report) (j : y ≡ a.refusal) where
+module _ (s n f d p : ℕ) (o : List ℕ) where
+  pub answer_early : {r : Refusal} → digits_tested s n f d p (length o) ≡ Err r → answered s n f d p o ≡ no_line (number r)
+  unfolding answered digits_tested
+  answer_early e =
+      let R = tested (answer_tests s n f d p o) in
+      let q = refused_before (digit_tests s n f d p (length o)) (outcome_tests s n d o) e in
+      old_stays R (table_lines s n d p o) (no_line (number_of R)) q ∙ ap (λ (t : Result Unit Refusal). no_line (number_of t)) q
+
+  module _ (z : digits_tested s n f d p (length o) ≡ Ok tt) (l : List ℕ) (size : length l ≡ 256) (most : d ≤ 256) (v : Reading) (h : report_of d v ≡ (readout s n f d p o l).report) where
     passed_passes : passed_refusal s n f d p ≡ 0
-    unfolding passed_refusal
+    unfolding passed_tested digits_tested
     passed_passes =
-        all_pass (passed_tests s n f d p)
-        (pass_split (passed_tests s n f d p) (leb (length o) (length (chains s n d)) or_refuse 15 ∷ []) (none_fails (digit_tests s n f d p (length o)) refl (sym e ∙ z))).0
+        no_refusal (passed_tests s n f d p)
+        (pass_split (passed_tests s n f d p) (leb (length o) (length (chains s n d)) or_refuse cause.BadText ∷ [])
+        (none_fails (digit_tests s n f d p (length o)) (passed_number (tested (digit_tests s n f d p (length o))) z))).0
 
     -- with places for all days, reading's refusal is that of 12 13 14
     read_refusal_lem : read_refusal s n f d p o (length l) ≡ first_refusal (outcome_tests s n d o)
     read_refusal_lem =
         let places : leb d (length l) ≡ true = le-leb d (length l) (omega arith) in
-        sym (table_refused s n f d p o (length l) refl passed_passes (rw places))
+        number_late s n f d p o (length l) passed_passes ∙ rw places refl
 
-    refusal_is : y ≡ first_refusal (answer_tests s n f d p o)
+    none_early : first_refusal (digit_tests s n f d p (length o)) ≡ 0
+    unfolding digits_tested
+    none_early = passed_number (tested (digit_tests s n f d p (length o))) z
+
+    refusal_is : (report_of d v).refusal ≡ first_refusal (answer_tests s n f d p o)
     refusal_is =
-        j ∙ ap (λ (i : reading.Report). i.refusal) h ∙ refusal_said s n f d p o l ∙ read_refusal_lem ∙
-        sym (refused_after (digit_tests s n f d p (length o)) (outcome_tests s n d o) refl (sym e ∙ z))
+        ap (λ (i : reading.Report). i.refusal) h ∙ refusal_said s n f d p o l ∙ read_refusal_lem ∙
+        sym (number_after (digit_tests s n f d p (length o)) (outcome_tests s n d o) none_early)
 
-    pub answer_late : (y ≡ 0 → ⊥) → answered s n f d p o ≡ no_line y
-    unfolding answered
-    answer_late q =
+    pub answer_late : {r : Refusal} → v ≡ Refused r → answered s n f d p o ≡ no_line (number r)
+    unfolding answered report_of
+    answer_late {r} q =
         let R = first_refusal (answer_tests s n f d p o) in
-        sym (old_stays R (table_lines s n d p o) (no_line R) refusal_is q) ∙ ap no_line (sym refusal_is)
+        let k : number r ≡ R = ap (λ (w : Reading). (report_of d w).refusal) (sym q) ∙ refusal_is in
+        number_stays R (table_lines s n d p o) (no_line R) (λ e. number_some r (k ∙ e)) ∙ ap no_line (sym k)
 
-    module _ (q : y ≡ 0) {r : Numbers} (k : NumbersOf a r) {m : List ℕ} (w : m ≡ (readout s n f d p o l).list) where
+    module _ (q : (x : Refusal) → v ≡ Refused x → ⊥) {r : Numbers} (k : NumbersOf (report_of d v) r) {m : List ℕ} (w : m ≡ (readout s n f d p o l).list) where
       none : read_refusal s n f d p o (length l) ≡ 0
-      none = sym (j ∙ ap (λ (i : reading.Report). i.refusal) h ∙ refusal_said s n f d p o l) ∙ q
+      none = sym (ap (λ (i : reading.Report). i.refusal) h ∙ refusal_said s n f d p o l) ∙ not_refused d v q
 
-      found_is : a ≡ found d p (listed_in s n d o) (last_good_day s n d (table_in s n d o))
+      found_is : report_of d v ≡ found d p (listed_in s n d o) (last_good_day s n d (table_in s n d o))
       found_is = h ∙ ap (λ (y : reading.Readout). y.report) (readout_found s n f d p o l none)
 
       listed_is : r.listed ≡ length (listed_in s n d o)
@@ -134,18 +158,18 @@ module _ (s n f d p : ℕ) (o : List ℕ) {x : ℕ} (e : x ≡ first_refusal (di
       pub answer_read : answered s n f d p o ≡ line (82 ∷ 69 ∷ 70 ∷ []) (numbers_in s r) ++ day_lines (take r.listed m)
       unfolding answered table_lines ref_line
       answer_read =
-          let R = first_refusal (answer_tests s n f d p o) in
-          sym (new_stands R (table_lines s n d p o) (no_line R) refusal_is q) ∙
+          ap (λ (x : ℕ). printed x (table_lines s n d p o)) (sym refusal_is ∙ not_refused d v q) ∙
           sym (rw (part_is, k.listed_is, k.first_is, k.low_is, k.high_is, k.last_good_is, found_is))
 
 -- ---- by the first line
 
 -- tests 1 2 3 7 come before all others, whatever P is
-pub answer_layout : (s n f d p : ℕ) (o : List ℕ) {x : ℕ} → x ≡ layout_refusal s n f d → (x ≡ 0 → ⊥) → answered s n f d p o ≡ no_line x
-answer_layout s n f d p o e h = answer_early s n f d p o (passed_refused s n f d p (length o) (layout_refused s n f d p e h) h) h
+pub answer_layout : (s n f d p : ℕ) (o : List ℕ) {r : Refusal} → layout_tested s n f d ≡ Err r → answered s n f d p o ≡ no_line (number r)
+answer_layout s n f d p o e = answer_early s n f d p o (sym (digits_early s n f d p (length o) (sym (passed_early s n f d p e))))
 
-pub validation_within : (s n f d : ℕ) {x : ℕ} → x ≡ layout_refusal s n f d → x ≡ 0 → f * n ≤ d
-validation_within s n f d e z = let v = allowed_d_is n f d (layout_is s n f d (sym e ∙ z)).1 in divisor_le (f * n) d v.some v.whole
+pub validation_within : (s n f d : ℕ) → layout_tested s n f d ≡ Ok tt → f * n ≤ d
+validation_within s n f d e =
+    let v = allowed_d_is n f d (layout_is s n f d (passed_number (layout_tested s n f d) e)).1 in divisor_le (f * n) d v.some v.whole
 
 -- ---- a text
 
@@ -159,22 +183,23 @@ module _ (s : List ℕ) where
   rest = answer_tests (scheme_in s) (n_in s) (f_in s) (d_in s) (passed_in s) (outcomes_in s)
 
   -- 15 for form, length and D over 256
-  text_15 : 15 ≡ first_refusal (form_tests (is_formed s) (length s) (d_in s)) → text_of s ≡ no_line 15
+  text_15 : tested (form_tests (is_formed s) (length s) (d_in s)) ≡ Err cause.BadText → text_of s ≡ no_line 15
   unfolding text_of text_refusal
   text_15 e =
-      let q : 15 ≡ first_refusal (text_tests s) = refused_before (form_tests (is_formed s) (length s) (d_in s)) rest e (λ z. omega arith) in
-      sym (old_stays (first_refusal (text_tests s)) (table_lines (scheme_in s) (n_in s) (d_in s) (passed_in s) (outcomes_in s)) (no_line (first_refusal (text_tests s))) q (λ z. omega arith)) ∙
-      ap no_line (sym q)
+      let R = tested (text_tests s) in
+      let lines = table_lines (scheme_in s) (n_in s) (d_in s) (passed_in s) (outcomes_in s) in
+      let q = refused_before (form_tests (is_formed s) (length s) (d_in s)) rest e in
+      old_stays R lines (no_line (number_of R)) q ∙ ap (λ (t : Result Unit Refusal). no_line (number_of t)) q
 
   pub text_unformed : is_formed s ≡ false → text_of s ≡ no_line 15
-  text_unformed e = text_15 (rw e)
+  text_unformed e = text_15 (rw e refl)
 
   module _ {t : Typed} (T : TypedIs s t) where
     small_is : {b : Bool} → b ≡ leb (length s) 1024 && leb t.d 256 → b ≡ is_formed s && (leb (length s) 1024 && leb (d_in s) 256)
     small_is e = rw (T.formed, ← T.d_is) e
 
     pub text_large : {b : Bool} → b ≡ leb (length s) 1024 && leb t.d 256 → b ≡ false → text_of s ≡ no_line 15
-    text_large e f = text_15 (rw (sym (small_is e) ∙ f))
+    text_large e f = text_15 (rw (sym (small_is e) ∙ f) refl)
 
     pub sizes : {b : Bool} → b ≡ leb (length s) 1024 && leb t.d 256 → b ≡ true → (length s ≤ 1024) × (t.d ≤ 256)
     sizes e f = let h = and_both (leb (length s) 1024) (leb t.d 256) (sym e ∙ f) in (leb-true (length s) 1024 h.0, leb-true t.d 256 h.1)
@@ -218,7 +243,7 @@ module _ (s : List ℕ) where
       unfolding text_of text_refusal answered
       text_read e f =
           ap (λ (r : ℕ). printed r (table_lines (scheme_in s) (n_in s) (d_in s) (passed_in s) (outcomes_in s)))
-          (refused_after (form_tests (is_formed s) (length s) (d_in s)) rest refl (rw (sym (small_is e) ∙ f))) ∙
+          (number_after (form_tests (is_formed s) (length s) (d_in s)) rest (rw (sym (small_is e) ∙ f) refl)) ∙
           sym (rw (outcomes_are, passed_is, T.scheme_is, T.n_is, T.f_is, T.d_is))
 
 -- ---- from the front on
@@ -228,3 +253,7 @@ front_count w = omega (arith, w.count)
 
 pub front_list : {F l k : List ℕ} {r : ℕ} → Wrote 0 F l r k → k ≡ F ++ drop (length F) l
 front_list {F} {l} w = w.list ∙ ap (λ (y : ℕ). F ++ drop y l) (front_count w)
+
+-- ---- what functions of the code are proved by
+
+pub ruleset digit_laws = (digits_early, digits_ask, extra_15, extra_none)

@@ -1,7 +1,9 @@
 -- The text that readtable takes, its tests, and the text that it prints. Definitions only.
-use Rattle.std.specs.Prelude.{Bool, ◌&&◌, cond, List, [], ◌∷◌, ◌++◌, map, ℕ, leb, length}
+use Rattle.std.specs.Prelude.{Bool, ◌&&◌, cond, List, [], ◌∷◌, ◌++◌, map, ℕ, leb, length, Result}
 use Rattle.lists.specs.Lists.{same}
-use Rattle.refusals.specs.Refusals.{Test, ◌or_refuse◌, first_refusal, unless_refused}
+use Rattle.refusals.specs.Refusals.{Test, ◌or_refuse◌, tested, first_refusal, unless_refused}
+use Rattle.refusals.specs.declared.Refusal.{Refusal}
+use Rattle.refusals.specs.declared.Refusal.TheVariants as cause
 use Rattle.layouts.specs.Layouts.{chains}
 use Rattle.reading.specs.Numbers.{validation_before, last_good_day}
 use Rattle.reading.specs.Contract.{Report, table_in, passed_tests, outcome_tests, listed_in, found}
@@ -62,12 +64,15 @@ outcomes_in s = map digit_of (digits (last_line s))
 
 -- 01's test 15 (SPEC 10.15) for form, length and D over 256
 abbrev pub form_tests : Bool → ℕ → ℕ → List Test
-form_tests formed size d = (formed && (leb size 1024 && leb d 256)) or_refuse 15 ∷ []
+form_tests formed size d = (formed && (leb size 1024 && leb d 256)) or_refuse cause.BadText ∷ []
 
 -- then 1 2 3 7 19, and 15 for extra digits, of count digits
 abbrev pub digit_tests : ℕ → ℕ → ℕ → ℕ → ℕ → ℕ → List Test
 digit_tests scheme n f d passed count =
-    passed_tests scheme n f d passed ++ (leb count (length (chains scheme n d)) or_refuse 15 ∷ [])
+    passed_tests scheme n f d passed ++ (leb count (length (chains scheme n d)) or_refuse cause.BadText ∷ [])
+
+unfoldable pub digits_tested : ℕ → ℕ → ℕ → ℕ → ℕ → ℕ → Result Unit Refusal
+digits_tested scheme n f d passed count = tested (digit_tests scheme n f d passed count)
 
 -- then 12 13 14
 abbrev pub answer_tests : ℕ → ℕ → ℕ → ℕ → ℕ → List ℕ → List Test

@@ -6,11 +6,11 @@ mod lines;
 
 ghost use Rattle.std.specs.Prelude.{◌≡◌, ◌&&◌, ◌++◌, ◌≤◌, nat_le, length, drop};
 ghost use Rattle.buffers.specs.Private.{Wrote};
-ghost use Rattle.refusals.specs.Refusals.{first_refusal};
-ghost use Rattle.table_text.specs.Text.{digit_tests, text_of};
+ghost use Rattle.table_text.specs.Text.{digits_tested, text_of};
 ghost use Rattle.table_text.specs.Private.{answered, answered_line};
 
-use reading::answers;
+use reading::{Reading, answers};
+use refusals::Refusal;
 
 // A text that is as laid out: the numbers of its first line, P among them where it has five fields, and the digits of
 // its second.
@@ -32,18 +32,23 @@ fn is_small(size: usize, d: u32) -> bool
 }
 
 // 1 2 3 7 19, and 15 for extra digits.
-fn digit_refusal(scheme: u32, n: u32, f: u32, d: u32, passed: u32, count: usize) -> u32
-    ensures { result ≡ first_refusal (digit_tests scheme n f d passed count) }
+#[tactic(auto, using(crate::proofs::TextLaws::digit_laws))]
+fn test_digits(
+    scheme: u32,
+    n: u32,
+    f: u32,
+    d: u32,
+    passed: u32,
+    count: usize,
+) -> Result<(), Refusal>
+    ensures { result ≡ digits_tested scheme n f d passed count }
 {
-    let x = reading::passed_refusal(scheme, n, f, d, passed);
-    if x != 0 {
-        return x;
-    }
+    reading::test_passed(scheme, n, f, d, passed)?;
     let values = layouts::values_through(scheme, n, d) as usize;
     if values < count {
-        return 15;
+        return Err(Refusal::BadText);
     }
-    0
+    Ok(())
 }
 
 // What is printed of a text that is formed, by P. The list has a place for each of the 256 days that D may have, so
@@ -61,15 +66,13 @@ fn answer(
     ensures { Wrote 0 (answered scheme n f d passed outcomes.now) out.old
         result out.new }
 {
-    let x = digit_refusal(scheme, n, f, d, passed, outcomes.len());
-    if x != 0 {
-        return lines::refuse(out, x);
+    if let Err(refusal) = test_digits(scheme, n, f, d, passed, outcomes.len()) {
+        return lines::refuse(out, refusal);
     }
     let mut list = [0u32; 256];
     let reading = reading::read(scheme, n, f, d, passed, outcomes, &mut list);
-    let y = answers::number_of(d, reading);
-    if y != 0 {
-        return lines::refuse(out, y);
+    if let Reading::Refused(refusal) = reading {
+        return lines::refuse(out, refusal);
     }
     let report = answers::numbers_of(d, reading);
     lines::put_report(out, scheme, report, &list[..report.listed as usize])
@@ -81,9 +84,8 @@ fn answer_line(t: &Typed, outcomes: &[u8], out: &mut [u8]) -> usize
     requires { (t.now.d ≤ 256) × (2048 ≤ length out.old) }
     ensures { Wrote 0 (answered_line t.now outcomes.now) out.old result out.new }
 {
-    let x = layouts::layout_refusal(t.scheme, t.n, t.f, t.d);
-    if x != 0 {
-        return lines::refuse(out, x);
+    if let Err(refusal) = layouts::test_layout(t.scheme, t.n, t.f, t.d) {
+        return lines::refuse(out, refusal);
     }
     let validation = t.d - t.f * t.n;
     let passed = t.passed.unwrap_or(validation);
@@ -96,10 +98,10 @@ fn put_text(input: &[u8], out: &mut [u8]) -> usize
     ensures { Wrote 0 (text_of input.now) out.old result out.new }
 {
     let Some(t) = input::read_lines(input) else {
-        return lines::refuse(out, 15);
+        return lines::refuse(out, Refusal::BadText);
     };
     if !is_small(input.len(), t.d) {
-        return lines::refuse(out, 15);
+        return lines::refuse(out, Refusal::BadText);
     }
     let mut table = [0u8; 1024];
     input::outcomes(t.outcomes, &mut table);
