@@ -2,7 +2,7 @@
 use mathlib.Core.{Path.◌≡◌, Path.refl, Path.sym, Path.ap, Path.◌∙◌, Logic.inl, Logic.inr}
 use mathlib.Core.Bool.{true, false, ◌&&◌, cond, and-false}
 use Prim.Native.Nat.{ℕ, zero, suc, ◌+◌, ◌-◌, ◌*◌, ◌/◌, ◌^◌, ◌≤◌, ◌<◌}
-use native.Mathlib.{Nat.pow-zero, Nat.pow-succ', Nat.pow-le-pow_left, Nat.pow-le-pow_right, Nat.mul-le-mul, Decide.dec_le, Numerals.add-one, Omega.arith}
+use native.Mathlib.{Nat.pow-le-pow_left, Nat.pow-le-pow_right, Nat.mul-le-mul, Decide.dec_le, Omega.arith}
 use lib.{Dec.leb, Pow.pow-lt}
 use borrow.Author.Tests.{le-leb, lt-leb, leb-true}
 use Rattle.lists.proofs.Laws.{split, and_both}
@@ -73,6 +73,8 @@ module _ (n k : ℕ) where
   unfolding counted
   answer_counted e z a b = rw (sym e ∙ z, a, b)
 
+pub ruleset refusal_laws = (n_refused, n_allowed, large_refused, none_refused, many_refused, not_refused)
+
 number_is : (n k : ℕ) → counting_number (counted n k) ≡ count_refusal n k
 unfolding counted
 number_is n k = go (count_refusal n k)
@@ -108,22 +110,6 @@ says_not_counted n k = (
 
 -- ---- powers
 
-pub power_none : (b : ℕ) → 1 ≡ b ^ 0
-power_none b = sym (pow-zero b)
-
-pub power_next : (b i r : ℕ) → r ≡ b ^ i → b * r ≡ b ^ (i + 1)
-power_next b i r e = rw (add-one i, pow-succ' b i, e)
-
-pub power_fits : (b i r : ℕ) → b ≤ 15 → i < 6 → r ≡ b ^ i → b * r < 2 ^ 32
-power_fits b i r h l e =
-    let a = pow-le-pow_left h (suc i) in
-    let c = pow-le-pow_right {n = 15} (omega arith) {i = suc i} {j = 6} l in
-    let s = pow-succ' b i in
-    rw e (omega arith)
-
-pub power_all : (b i m r : ℕ) → i ≤ m → m ≤ i → r ≡ b ^ i → r ≡ b ^ m
-power_all b i m r h l e = let q : i ≡ m = omega arith in e ∙ ap (λ x. b ^ x) q
-
 lg_small : (n k : ℕ) → Countable n k → lg n ≤ 6
 lg_small n k c = elim (dec_le (lg n) 6) [
   | yes h ↦ h
@@ -132,6 +118,12 @@ lg_small n k c = elim (dec_le (lg n) 6) [
 
 pub exponent_small : (n k : ℕ) {m : ℕ} → Countable n k → m ≡ lg n → m ≤ 6
 exponent_small n k c e = rw e (lg_small n k c)
+
+pub power_small : (n k b : ℕ) {m : ℕ} → Countable n k → m ≡ lg n → b ≤ 15 → b ^ m < 2 ^ 32
+power_small n k b {m} c e h =
+    let a = pow-le-pow_left h m in
+    let d = pow-le-pow_right {n = 15} (omega arith) {i = m} {j = 6} (exponent_small n k c e) in
+    omega arith
 
 pub n_some : (n k : ℕ) → Countable n k → 1 ≤ n
 n_some n k c = (allowed_n_is n c.n_ok).some
@@ -152,6 +144,8 @@ of_3 zero one two three a b c = absurd (omega arith)
 of_3 (suc zero) one two three a b c = absurd (b refl)
 of_3 (suc (suc zero)) one two three a b c = absurd (c refl)
 of_3 (suc (suc (suc k))) one two three a b c = refl
+
+pub ruleset tuple_laws = (of_1, of_2, of_3)
 
 of_sums : (f : ℕ → ℕ) (k one two three : ℕ) → BySums f one two three → 1 ≤ k → k ≤ 3 → of_tuples k one two three ≡ f k
 unfolding of_tuples

@@ -4,7 +4,7 @@ use mathlib.Core.Bool.{Bool, true, ◌&&◌}
 use mathlib.Core.List.{List, [], ◌∷◌, ◌++◌, map, flat_map, map-append}
 use Prim.Native.Nat.{ℕ, zero, suc, ◌+◌, ◌*◌, ◌^◌, ◌≤◌, ◌<◌}
 use native.Mathlib.{Numerals.add-one, Omega.arith}
-use lib.{Dec.leb, ListN.length, ListN.set, ListN.take, ListN.drop, ListN.length-append, Seq.length-take-le}
+use lib.{Dec.leb, ListN.length, ListN.set, ListN.length-append}
 use Rattle.lists.specs.Lists.{every, up_from, joined}
 use borrow.Author.Tests.{leb-true}
 use Rattle.lists.proofs.Laws.{and_both, every_at, up_from_mem, up_from_snoc, flat_map_append, flat_map_one, joined_append, joined_one, joined_single}
@@ -123,18 +123,8 @@ module _ (i at : ℕ) (l m : List ℕ) (h : 1024 ≤ length l) (v : Wrote 0 (tex
       let f = text_fits (i + 1) in
       wrote_join 0 (text_in (ascending (i + 1))) (text_in (ascending i)) (text_in (asked_of (2 ^ i))) l m p at r (text_next i) (omega arith) v (rw e at u)
 
-  pub lines_all : i ≤ 7 → 7 ≤ i → Wrote 0 (text_in (ascending 7)) l at m
-  lines_all a b = let e : i ≡ 7 = omega arith in rw e at v
-
 -- each line once
 pub printed_once : {r : ℕ} {l m : List ℕ} → Wrote 0 (text_in (ascending 7)) l r m → Printed l r m
 unfolding flat_map
 printed_once {r} w = let e : r ≡ length (text_in (ascending 7)) = omega (arith, w.count) in
     record { order = ascending 7; once = refl; size = e; text = wrote_front r w (sym e) }
-
--- what was written lies in the buffer
-pub printed_fits : {r : ℕ} {l m : List ℕ} → Printed l r m → r ≤ length m
-printed_fits {r} {l} p = omega (arith, p.size, ap length p.text, length-append (text_in p.order) (drop r l))
-
-pub printed_part : {r : ℕ} {l m : List ℕ} → Printed l r m → r ≡ length (take r m)
-printed_part {r} {l} {m} p = sym (length-take-le r m (printed_fits p))

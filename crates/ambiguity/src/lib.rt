@@ -21,7 +21,7 @@ pub enum Counting {
 }
 
 // Tests 2 21. Scheme 2 and F 1 are allowed.
-#[tactic(auto, using(crate::proofs::Calls::n_refused, crate::proofs::Calls::n_allowed, crate::proofs::Calls::large_refused, crate::proofs::Calls::none_refused, crate::proofs::Calls::many_refused, crate::proofs::Calls::not_refused))]
+#[tactic(auto, using(crate::proofs::Calls::refusal_laws))]
 fn refusal(n: u32, k: u32) -> u32
     ensures { result ≡ count_refusal n k }
 {
@@ -41,32 +41,17 @@ fn refusal(n: u32, k: u32) -> u32
     0
 }
 
-// A small power.
-fn power(base: u32, exponent: u32) -> u32
-    requires { (base ≤ 15) × (exponent ≤ 6) }
-    ensures { result ≡ base ^ exponent }
-{
-    let mut r = 1u32;
-    let mut i = 0u32;
-    while i < exponent {
-        r = base * r;
-        i += 1;
-    }
-    r
-}
-
 // A sum over the sets of k numbers, from the sums over single numbers, over pairs and over triples of them.
+#[tactic(auto, using(crate::proofs::Calls::tuple_laws))]
 fn of_tuples(k: u32, one: u32, two: u32, three: u32) -> u32
     requires { (1 ≤ k) × Tuples one two three }
     ensures { result ≡ of_tuples k one two three }
 {
-    if k == 1 {
-        return one;
+    match k {
+        1 => one,
+        2 => (two - one) / 2,
+        _ => (three + 2 * one - 3 * two) / 6,
     }
-    if k == 2 {
-        return (two - one) / 2;
-    }
-    (three + 2 * one - 3 * two) / 6
 }
 
 // How many sets of k offsets a tile of n days has.
@@ -84,7 +69,7 @@ fn listed_count(n: u32, k: u32) -> u32
     ensures { result ≡ listed n k }
 {
     let m = layouts::lg(n);
-    of_tuples(k, power(3, m), power(7, m), power(15, m))
+    of_tuples(k, 3u32.pow(m), 7u32.pow(m), 15u32.pow(m))
 }
 
 pub fn tile_counts(n: u32, k: u32) -> Counting
@@ -128,10 +113,8 @@ fn put_lines(out: &mut [u8]) -> usize
     ensures { Wrote 0 (text_in (ascending 7)) out.old result out.new }
 {
     let mut at = 0usize;
-    let mut i = 0u32;
-    while i < 7 {
+    for i in 0..7 {
         at = put_tile(out, at, layouts::size(i));
-        i += 1;
     }
     at
 }

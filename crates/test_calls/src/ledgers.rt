@@ -6,7 +6,7 @@ ghost use Rattle.std.specs.Prelude.{◌≤◌, length};
 
 use crate::lines;
 use std::io;
-use test_samples::{days, lent, print};
+use test_samples::{days, lent};
 
 fn values(rt: &HostRuntime) -> io::Result<()> {
     let mut values = 99u32;
@@ -19,11 +19,6 @@ fn values(rt: &HostRuntime) -> io::Result<()> {
     lines::end(rt)
 }
 
-fn print_size(rt: &HostRuntime, x: u64) -> io::Result<()> {
-    print::byte(rt, b' ')?;
-    print!(rt; "{x}")
-}
-
 fn forecast(rt: &HostRuntime) -> io::Result<()> {
     let lengths = [130u32; 30];
     let mut sizes = [96u64; 3];
@@ -32,9 +27,9 @@ fn forecast(rt: &HostRuntime) -> io::Result<()> {
         b"forecast",
         daybook_c::daybook_forecast(2, 8, 3, 24, &lengths, &mut sizes),
     )?;
-    print_size(rt, sizes[0])?;
-    print_size(rt, sizes[1])?;
-    print_size(rt, sizes[2])?;
+    for size in sizes {
+        print!(rt; " {size}")?;
+    }
     lines::end(rt)
 }
 
@@ -45,7 +40,7 @@ fn chain_at(rt: &HostRuntime) -> io::Result<()> {
         b"chain_at",
         daybook_c::daybook_chain_at(2, 8, 3, 24, 7, &mut chain),
     )?;
-    lines::numbers(rt, &[chain[0], chain[1], chain[2], chain[3]])?;
+    lines::numbers(rt, &chain)?;
     lines::end(rt)
 }
 
@@ -96,10 +91,7 @@ fn read(rt: &HostRuntime, passed: u32, outcomes: &[u8]) -> io::Result<()> {
         b"read",
         daybook_c::daybook_read(2, 8, 3, 24, passed, outcomes, &mut list, &mut numbers),
     )?;
-    lines::numbers(
-        rt,
-        &[numbers[0], numbers[1], numbers[2], numbers[3], numbers[4]],
-    )?;
+    lines::numbers(rt, &numbers)?;
     lines::numbers(rt, &list)?;
     lines::end(rt)
 }
@@ -111,7 +103,7 @@ fn print_search(
     list: &[u32],
 ) -> io::Result<()> {
     lines::head(rt, b"search", returned)?;
-    lines::numbers(rt, &[progress[0], progress[1], progress[2]])?;
+    lines::numbers(rt, &progress)?;
     lines::numbers(rt, list)?;
     lines::end(rt)
 }
@@ -138,7 +130,7 @@ fn tile_counts(rt: &HostRuntime, n: u32, k: u32) -> io::Result<()> {
         b"tile_counts",
         daybook_c::daybook_tile_counts(n, k, &mut counts),
     )?;
-    lines::numbers(rt, &[counts[0], counts[1]])?;
+    lines::numbers(rt, &counts)?;
     lines::end(rt)
 }
 

@@ -15,8 +15,7 @@ fn print_numbers(rt: &HostRuntime, state: &[u8; 728]) -> io::Result<()> {
 
 // The start of a chain.
 fn print_start(rt: &HostRuntime, state: &[u8; 728]) -> io::Result<()> {
-    let all = &state[..];
-    lines::bytes(rt, &all[692..724])
+    lines::bytes(rt, &state[692..724])
 }
 
 fn open(rt: &HostRuntime, state: &mut [u8; 728]) -> io::Result<()> {

@@ -130,7 +130,8 @@ fn layout(rt: &HostRuntime, scheme: u32) -> io::Result<()> {
 }
 
 pub fn run(rt: &HostRuntime) -> io::Result<()> {
-    layout(rt, 1)?;
-    layout(rt, 2)?;
-    layout(rt, 3)
+    for scheme in 1..=3 {
+        layout(rt, scheme)?;
+    }
+    Ok(())
 }

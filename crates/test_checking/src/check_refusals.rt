@@ -6,7 +6,7 @@ use std::io;
 use std::io::Read;
 use test_samples::calls::Setup;
 use test_samples::input::at_most;
-use test_samples::{as_u32, calls, input, lent, print};
+use test_samples::{as_u32, input, lent, print};
 
 // The ends 4, 8, 12 and so on, but for one.
 fn ends(c: [u32; 11]) -> [u32; 20] {
@@ -35,7 +35,7 @@ fn print_seal(
     ends: &[u32],
     book: &mut [u8],
 ) -> io::Result<()> {
-    print::number(rt, calls::seal(s, ledger, ends, book))?;
+    print::number(rt, s.seal(ledger, ends, book))?;
     print_kept(rt, book)
 }
 
@@ -43,7 +43,7 @@ fn seal(rt: &HostRuntime, c: [u32; 11], ledger: &[u8], ends: &[u32]) -> io::Resu
     let mut book = [170u8; 1100];
     let room = at_most(c[8], 1100);
     print::bytes(rt, b": seal ")?;
-    print_seal(rt, setup(c), ledger, ends, &mut book[0..room])
+    print_seal(rt, setup(c), ledger, ends, &mut book[..room])
 }
 
 fn print_check(
@@ -55,7 +55,7 @@ fn print_check(
     work: &mut [u8],
     outcomes: &mut [u8],
 ) -> io::Result<()> {
-    print::number(rt, calls::check(s, ledger, ends, book, work, outcomes))?;
+    print::number(rt, s.check(ledger, ends, book, work, outcomes))?;
     print_kept(rt, work)?;
     print_kept(rt, outcomes)
 }
@@ -73,9 +73,9 @@ fn check(rt: &HostRuntime, c: [u32; 11], ledger: &[u8], ends: &[u32]) -> io::Res
         setup(c),
         ledger,
         ends,
-        &book[0..room],
-        &mut work[0..length],
-        &mut outcomes[0..places],
+        &book[..room],
+        &mut work[..length],
+        &mut outcomes[..places],
     )
 }
 
@@ -92,15 +92,12 @@ fn case(rt: &HostRuntime, line: &[u8]) -> io::Result<()> {
     let ends = ends(c);
     let count = at_most(c[4], 20);
     let size = at_most(c[7], 80);
-    seal_and_check(rt, c, &ledger[0..size], &ends[0..count])
+    seal_and_check(rt, c, &ledger[..size], &ends[..count])
 }
 
 fn cases(rt: &HostRuntime, s: &[u8]) -> io::Result<()> {
-    let mut at = 0usize;
-    while at < s.len() {
-        let e = input::line_end(s, at);
-        case(rt, &s[at..e])?;
-        at = input::after(e, s.len());
+    for line in s.split_inclusive(|b| *b == b'\n') {
+        case(rt, input::without_end(line))?;
     }
     Ok(())
 }

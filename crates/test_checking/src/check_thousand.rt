@@ -7,40 +7,22 @@ ghost use Rattle.std.specs.Prelude.{◌≤◌};
 use crate::lines;
 use std::io;
 use test_samples::calls::Setup;
-use test_samples::{as_u32, calls, days, lent, print};
+use test_samples::{as_u32, days, lent, print};
 
 // The values of a thousand days at N 8.
 fn values(scheme: u32) -> usize
     ensures { result ≤ 2112 }
 {
-    if scheme == 1 {
-        return 125;
+    match scheme {
+        1 => 125,
+        2 => 625,
+        _ => 2112,
     }
-    if scheme == 2 {
-        return 625;
-    }
-    2112
-}
-
-// 1 for a failing outcome.
-fn fails(outcome: u8) -> usize
-    ensures { result ≤ 1 }
-{
-    if outcome == 0 {
-        return 1;
-    }
-    0
 }
 
 // How many outcomes fail.
 fn failing(outcomes: &[u8]) -> usize {
-    let mut n = 0usize;
-    let mut i = 0usize;
-    while i < outcomes.len() {
-        n += fails(outcomes[i]);
-        i += 1;
-    }
-    n
+    outcomes.iter().filter(|x| **x == 0).count()
 }
 
 fn print_line(
@@ -65,9 +47,9 @@ fn line(
     book: &[u8],
 ) -> io::Result<()> {
     let mut outcomes = [9u8; 2112];
-    let number = calls::check_days(s, ledger, ends, book, &mut outcomes);
+    let number = s.check_days(ledger, ends, book, &mut outcomes);
     let k = values(s.scheme);
-    print_line(rt, s.scheme, day, number, &outcomes[0..k])
+    print_line(rt, s.scheme, day, number, &outcomes[..k])
 }
 
 // One bit of the byte at at altered.
@@ -122,7 +104,8 @@ fn layout(rt: &HostRuntime, scheme: u32, f: u32) -> io::Result<()> {
 }
 
 pub fn run(rt: &HostRuntime) -> io::Result<()> {
-    layout(rt, 1, 25)?;
-    layout(rt, 2, 25)?;
-    layout(rt, 3, 1)
+    for (scheme, f) in [(1, 25), (2, 25), (3, 1)] {
+        layout(rt, scheme, f)?;
+    }
+    Ok(())
 }

@@ -3,7 +3,7 @@ ghost use Rattle.std.specs.Prelude.{◌*◌, ◌≤◌, length};
 
 use std::io;
 use test_samples::calls::Setup;
-use test_samples::{calls, print};
+use test_samples::print;
 
 pub fn head(rt: &HostRuntime, scheme: u32, name: &[u8], number: u32) -> io::Result<()> {
     print::number(rt, scheme)?;
@@ -25,7 +25,6 @@ pub fn sealed(
 ) -> io::Result<()>
     requires { 32 * k ≤ length book.old }
 {
-    head(rt, s.scheme, b"sealed", calls::seal(s, ledger, ends, book))?;
-    let n = 32 * k;
-    print::digest_line(rt, &book[0..n])
+    head(rt, s.scheme, b"sealed", s.seal(ledger, ends, book))?;
+    print::digest_line(rt, &book[..32 * k])
 }

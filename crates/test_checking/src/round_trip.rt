@@ -4,7 +4,7 @@
 use reading::Reading;
 use std::io;
 use test_samples::calls::Setup;
-use test_samples::{calls, days, lent, print};
+use test_samples::{days, lent, print};
 
 // Alters the first byte of each of the days.
 fn alter(ledger: &mut [u8], ends: &[u32], changed: &[u32]) {
@@ -21,9 +21,8 @@ fn print_reference(rt: &HostRuntime, numbers: [u32; 6]) -> io::Result<()> {
 
 // The first days of a list, at most as many as it has.
 fn print_first(rt: &HostRuntime, list: &[u32], count: u32) -> io::Result<()> {
-    let n = count as usize;
-    if n <= list.len() {
-        print::numbers(rt, &list[0..n], b' ')?;
+    if let Some(first) = list.get(..count as usize) {
+        print::numbers(rt, first, b' ')?;
         print::bytes(rt, b" \n")?;
     }
     Ok(())
@@ -64,7 +63,7 @@ fn check(
     book: &[u8],
 ) -> io::Result<()> {
     let mut outcomes = [9u8; 2112];
-    print::number(rt, calls::check_days(s, ledger, ends, book, &mut outcomes))?;
+    print::number(rt, s.check_days(ledger, ends, book, &mut outcomes))?;
     print::byte(rt, b' ')?;
     read(rt, s, passed, &outcomes)
 }
@@ -79,7 +78,7 @@ fn seal_and_check(
     ends: &[u32],
 ) -> io::Result<()> {
     let mut book = [0u8; 67584];
-    print::number(rt, calls::seal(s, ledger, ends, &mut book))?;
+    print::number(rt, s.seal(ledger, ends, &mut book))?;
     alter(ledger, ends, changed);
     check(rt, s, passed, ledger, ends, &book)
 }
@@ -94,22 +93,16 @@ fn trip(rt: &HostRuntime, s: Setup, passed: u32, changed: &[u32]) -> io::Result<
 // A thousand days: none altered, one, and three.
 fn thousand(rt: &HostRuntime, scheme: u32, f: u32, passed: u32) -> io::Result<()> {
     let s = Setup::new(scheme, 8, f, 1000);
-    let none = [0u32; 0];
-    trip(rt, s, passed, &none)?;
-    let one = [500u32];
-    trip(rt, s, passed, &one)?;
-    let three = [3u32, 777u32, 1000u32];
-    trip(rt, s, passed, &three)
+    trip(rt, s, passed, &[])?;
+    trip(rt, s, passed, &[500])?;
+    trip(rt, s, passed, &[3, 777, 1000])
 }
 
 pub fn run(rt: &HostRuntime) -> io::Result<()> {
-    let tile = [19u32, 20u32, 27u32];
-    trip(rt, Setup::new(2, 16, 2, 64), 32, &tile)?;
-    let tree = [4u32, 7u32, 10u32];
-    trip(rt, Setup::new(3, 2, 1, 16), 14, &tree)?;
-    trip(rt, Setup::new(3, 2, 1, 14), 12, &tree)?;
-    let black = [16u32];
-    trip(rt, Setup::new(1, 2, 3, 24), 18, &black)?;
+    trip(rt, Setup::new(2, 16, 2, 64), 32, &[19, 20, 27])?;
+    trip(rt, Setup::new(3, 2, 1, 16), 14, &[4, 7, 10])?;
+    trip(rt, Setup::new(3, 2, 1, 14), 12, &[4, 7, 10])?;
+    trip(rt, Setup::new(1, 2, 3, 24), 18, &[16])?;
     thousand(rt, 1, 25, 800)?;
     thousand(rt, 2, 25, 800)?;
     thousand(rt, 3, 1, 992)

@@ -4,7 +4,7 @@ ghost use Rattle.std.specs.Prelude.{◌≡◌, ◌≤◌, length};
 use crate::lines;
 use std::io;
 use test_samples::calls::Setup;
-use test_samples::{as_u32, calls, days, print};
+use test_samples::{as_u32, days, print};
 
 // The days: 1000 * g + n is day g with n bytes.
 pub fn sample() -> [usize; 16] {
@@ -22,26 +22,21 @@ pub fn setup(scheme: u32) -> Setup {
 pub fn values(scheme: u32) -> usize
     ensures { (1 ≤ result) × (result ≤ 32) }
 {
-    if scheme == 1 {
-        return 4;
+    match scheme {
+        1 => 4,
+        2 => 16,
+        _ => 32,
     }
-    if scheme == 2 {
-        return 16;
-    }
-    32
 }
 
 // Writes the days end to end, and their ends.
 pub fn build(sample: [usize; 16], ledger: &mut [u8], ends: &mut [u32])
     requires { length ends.old ≡ 16 }
 {
-    let mut at = 0usize;
-    let mut i = 0usize;
-    while i < 16 {
-        let day = sample[i];
-        at = days::put(day / 1000, day % 1000, at, ledger);
-        ends[i] = as_u32(at);
-        i += 1;
+    let mut at = 0;
+    for (day, end) in sample.iter().zip(ends.iter_mut()) {
+        at = days::put(*day / 1000, *day % 1000, at, ledger);
+        *end = as_u32(at);
     }
 }
 
@@ -49,7 +44,7 @@ fn print_found(rt: &HostRuntime, scheme: u32, work: &[u8], outcomes: &[u8]) -> i
     requires { 32 ≤ length outcomes.now }
 {
     let k = values(scheme);
-    print::hex(rt, &outcomes[0..k], 1)?;
+    print::hex(rt, &outcomes[..k], 1)?;
     print::byte(rt, b' ')?;
     print::digest_line(rt, work)
 }
@@ -66,7 +61,7 @@ pub fn check(
     let mut work = [0u8; 512];
     let mut outcomes = [9u8; 32];
     let s = setup(scheme);
-    let number = calls::check(s, ledger, ends, book, &mut work, &mut outcomes);
+    let number = s.check(ledger, ends, book, &mut work, &mut outcomes);
     lines::head(rt, scheme, name, number)?;
     print_found(rt, scheme, &work, &outcomes)
 }

@@ -3,11 +3,7 @@ ghost use Rattle.std.specs.Prelude.{◌≤◌};
 
 // After k values at at; the book's length len at most.
 pub fn past(at: usize, k: u32, len: usize) -> usize
-    requires { at ≤ len }
     ensures { result ≤ len }
 {
-    if (len - at) / 32 < (k as usize) {
-        return len;
-    }
-    at + 32 * (k as usize)
+    at.saturating_add(32 * k as usize).min(len)
 }

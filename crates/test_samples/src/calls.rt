@@ -11,27 +11,35 @@ impl Setup {
     pub fn new(scheme: u32, n: u32, f: u32, d: u32) -> Setup {
         Setup { scheme, n, f, d }
     }
-}
 
-pub fn seal(s: Setup, ledger: &[u8], ends: &[u32], book: &mut [u8]) -> u32 {
-    refusals::number_of(sealing::seal(s.scheme, s.n, s.f, s.d, ledger, ends, book))
-}
+    pub fn seal(self, ledger: &[u8], ends: &[u32], book: &mut [u8]) -> u32 {
+        refusals::number_of(sealing::seal(self.scheme, self.n, self.f, self.d, ledger, ends, book))
+    }
 
-pub fn check(
-    s: Setup,
-    ledger: &[u8],
-    ends: &[u32],
-    book: &[u8],
-    work: &mut [u8],
-    outcomes: &mut [u8],
-) -> u32 {
-    refusals::number_of(checking::check(
-        s.scheme, s.n, s.f, s.d, ledger, ends, book, work, outcomes,
-    ))
-}
+    pub fn check(
+        self,
+        ledger: &[u8],
+        ends: &[u32],
+        book: &[u8],
+        work: &mut [u8],
+        outcomes: &mut [u8],
+    ) -> u32 {
+        refusals::number_of(checking::check(
+            self.scheme,
+            self.n,
+            self.f,
+            self.d,
+            ledger,
+            ends,
+            book,
+            work,
+            outcomes,
+        ))
+    }
 
-// Checks up to a thousand days.
-pub fn check_days(s: Setup, ledger: &[u8], ends: &[u32], book: &[u8], outcomes: &mut [u8]) -> u32 {
-    let mut work = [0u8; 32000];
-    check(s, ledger, ends, book, &mut work, outcomes)
+    // Checks up to a thousand days.
+    pub fn check_days(self, ledger: &[u8], ends: &[u32], book: &[u8], outcomes: &mut [u8]) -> u32 {
+        let mut work = [0u8; 32000];
+        self.check(ledger, ends, book, &mut work, outcomes)
+    }
 }

@@ -44,31 +44,22 @@ pub fn put(g: usize, size: usize, at: usize, ledger: &mut [u8]) -> usize
 
 // Writes the days end to end, as many as there are ends, and their ends.
 pub fn put_all(ledger: &mut [u8], ends: &mut [u32]) {
-    let mut at = 0usize;
-    let mut i = 0usize;
-    while i < ends.len() {
-        at = put(i % 65536 + 1, size(i % 65536 + 1), at, ledger);
-        ends[i] = as_u32(at);
-        i += 1;
+    let mut at = 0;
+    for (i, end) in ends.iter_mut().enumerate() {
+        let g = i % 65536 + 1;
+        at = put(g, size(g), at, ledger);
+        *end = as_u32(at);
     }
-}
-
-fn as_usize(x: u32) -> usize
-    ensures { result < 4294967296 }
-{
-    x as usize
 }
 
 // Where day g starts.
 pub fn start(ends: &[u32], g: u32) -> usize
     ensures { result < 4294967296 }
 {
-    let i = as_usize(g);
-    if i < 2 {
-        return 0;
+    let g = g as usize;
+    if 2 <= g && g <= ends.len() {
+        ends[g - 2] as usize
+    } else {
+        0
     }
-    if ends.len() < i {
-        return 0;
-    }
-    as_usize(ends[i - 2])
 }

@@ -11,12 +11,24 @@ pub enum Ledger {
     Short,
 }
 
-fn last(ledger: Ledger) -> usize
-    ensures { result ≤ 1000 }
-{
-    match ledger {
-        Ledger::Thousand => 1000,
-        Ledger::Short => 16,
+impl Ledger {
+    fn days(self) -> usize
+        ensures { result ≤ 1000 }
+    {
+        match self {
+            Ledger::Thousand => 1000,
+            Ledger::Short => 16,
+        }
+    }
+
+    // The bytes of day g.
+    fn size(self, g: usize) -> usize
+        ensures { result ≤ 130 }
+    {
+        match self {
+            Ledger::Thousand => days::size(g),
+            Ledger::Short => short_size(g),
+        }
     }
 }
 
@@ -43,41 +55,27 @@ fn short_size(g: usize) -> usize
     }
 }
 
-// The bytes of day g.
-fn size(ledger: Ledger, g: usize) -> usize
-    ensures { result ≤ 130 }
-{
-    match ledger {
-        Ledger::Thousand => days::size(g),
-        Ledger::Short => short_size(g),
-    }
-}
-
 // Adds the piece, and an empty one where gap says so.
 fn add(state: Record, piece: &[u8], gap: bool) -> Record {
-    let added = service::add(state, piece);
-    let next = added.state;
+    let next = service::add(state, piece).state;
     if gap {
-        let again = service::add(next, b"");
-        let last = again.state;
-        return last;
+        service::add(next, b"").state
+    } else {
+        next
     }
-    next
 }
 
 // Adds the day in pieces of size bytes, then the rest.
 fn add_day(state: Record, day: &[u8], size: usize, gap: bool) -> Record
     requires { 0 < size }
 {
+    let pieces = day.chunks_exact(size);
+    let rest = pieces.remainder();
     let mut now = state;
-    let mut at = 0;
-    while size <= day.len() - at {
-        let e = at + size;
-        let next = add(now, &day[at..e], gap);
-        now = next;
-        at = e;
+    for piece in pieces {
+        now = add(now, piece, gap);
     }
-    add(now, &day[at..], gap)
+    add(now, rest, gap)
 }
 
 // Adds day g, of n bytes, and closes it.
@@ -85,8 +83,7 @@ fn day(state: Record, g: usize, n: usize, piece: usize, gap: bool, part: &mut [u
     requires { (n ≤ 130) × (0 < piece) }
 {
     let bytes = days::bytes(g);
-    let next = add_day(state, &bytes[0..n], piece, gap);
-    service::close(next, part)
+    service::close(add_day(state, &bytes[..n], piece, gap), part)
 }
 
 // Seals the days, each in pieces of piece bytes, with an empty piece after each where gap says so. A piece longer
@@ -104,18 +101,12 @@ pub fn seal(
     requires { 0 < piece }
     ensures { result ≤ length book.new }
 {
-    let opened = service::open(scheme, n, f);
-    let mut state = opened.state;
+    let mut state = service::open(scheme, n, f).state;
     let mut at = 0;
-    let mut g = 1;
-    let end = last(ledger);
-    while g <= end {
-        let closed = day(state, g, size(ledger, g), piece, gap, &mut book[at..]);
-        let next = closed.state;
-        state = next;
-        let answer = closed.answer;
-        at = answers::past(at, service::count_of(answer), book.len());
-        g += 1;
+    for g in 1..=ledger.days() {
+        let closed = day(state, g, ledger.size(g), piece, gap, &mut book[at..]);
+        state = closed.state;
+        at = answers::past(at, service::count_of(closed.answer), book.len());
     }
     at
 }

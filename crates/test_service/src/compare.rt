@@ -31,35 +31,23 @@ fn same_day(a: Record, b: Record) -> bool {
 
 // Whether it is the record of zeros that a refused open gives.
 pub fn zeros(a: Record) -> bool {
-    let x = record_bytes::encode(a);
-    x == [0u8; 728]
+    record_bytes::encode(a) == [0u8; 728]
 }
 
 // Whether next has len bytes more in its open day than the record that the call is made on, and the chains, the start
 // and the season of that.
 pub fn grown(handed: Record, next: Record, len: usize) -> bool {
     let state = records::current(handed);
-    if next.bytes < state.bytes {
-        return false;
-    }
-    if ((next.bytes - state.bytes) as usize) != len {
-        return false;
-    }
-    next.days == state.days && same_chains(next, state)
+    let added = next.bytes.checked_sub(state.bytes);
+    added.is_some_and(|x| x as usize == len) && next.days == state.days && same_chains(next, state)
 }
 
 // Whether next has one day more closed than the record that the call is made on and an empty open day, and the start
 // and the season of that.
 pub fn next_day(handed: Record, next: Record) -> bool {
     let state = records::current(handed);
-    if next.days == 0 {
-        return false;
-    }
-    if next.days - 1 != state.days {
-        return false;
-    }
-    if !same_start(next, state) {
-        return false;
-    }
-    next.bytes == 0 && same_day(next, records::fresh(state.scheme, state.n, state.f))
+    next.days.checked_sub(1) == Some(state.days)
+        && same_start(next, state)
+        && next.bytes == 0
+        && same_day(next, records::fresh(state.scheme, state.n, state.f))
 }

@@ -16,46 +16,33 @@ fn print_close(rt: &HostRuntime, answer: Writing, part: &[u8]) -> io::Result<()>
     let k = service::count_of(answer);
     print::number_line(rt, k)?;
     let n = answers::past(0, k, part.len());
-    print::digest_line(rt, &part[0..n])
+    print::digest_line(rt, &part[..n])
 }
 
 // Writes the answer of one more add, and what one more close answered.
 fn print_next(rt: &HostRuntime, state: Record, part: &mut [u8]) -> io::Result<()> {
     let added = service::add(state, b"abc");
-    let answer = added.answer;
-    print::number_line(rt, refusals::number_of(answer))?;
-    let next = added.state;
-    let closed = service::close(next, part);
-    let writing = closed.answer;
-    print_close(rt, writing, part)
+    print::number_line(rt, refusals::number_of(added.answer))?;
+    let closed = service::close(added.state, part);
+    print_close(rt, closed.answer, part)
 }
 
 fn lines(rt: &HostRuntime, scheme: u32, n: u32, season: u32) -> io::Result<()> {
     let mut part = [0u8; 576];
     let state = records::made_up(scheme, n, 1, season, 65535, 0);
-    let added = service::add(state, b"abc");
-    let open = added.state;
+    let open = service::add(state, b"abc").state;
     let closed = service::close(open, &mut part);
-    let answer = closed.answer;
-    print_close(rt, answer, &part)?;
-    let last = closed.state;
-    print_next(rt, last, &mut part)
-}
-
-fn season_lines(rt: &HostRuntime, scheme: u32, n: u32) -> io::Result<()> {
-    lines(rt, scheme, n, 0)?;
-    lines(rt, scheme, n, 65534)?;
-    lines(rt, scheme, n, 65535)
-}
-
-fn scheme_lines(rt: &HostRuntime, scheme: u32) -> io::Result<()> {
-    season_lines(rt, scheme, 1)?;
-    season_lines(rt, scheme, 8)?;
-    season_lines(rt, scheme, 256)
+    print_close(rt, closed.answer, &part)?;
+    print_next(rt, closed.state, &mut part)
 }
 
 pub fn run(rt: &HostRuntime) -> io::Result<()> {
-    scheme_lines(rt, 1)?;
-    scheme_lines(rt, 2)?;
-    scheme_lines(rt, 3)
+    for scheme in 1..=3 {
+        for n in [1, 8, 256] {
+            for season in [0, 65534, 65535] {
+                lines(rt, scheme, n, season)?;
+            }
+        }
+    }
+    Ok(())
 }

@@ -19,28 +19,24 @@ fn print_answer(rt: &HostRuntime, number: u32, due: bool) -> io::Result<()> {
 
 fn open(rt: &HostRuntime, c: [u32; 11]) -> io::Result<()> {
     let opened = service::open(c[0], c[1], c[2]);
-    let answer = opened.answer;
-    let state = opened.state;
-    let x = refusals::number_of(answer);
+    let x = refusals::number_of(opened.answer);
     if x != 0 {
-        return print_answer(rt, x, compare::zeros(state));
+        return print_answer(rt, x, compare::zeros(opened.state));
     }
     print_answer(
         rt,
         0,
-        compare::same(state, records::fresh(c[0], c[1], c[2])),
+        compare::same(opened.state, records::fresh(c[0], c[1], c[2])),
     )
 }
 
 fn add_piece(rt: &HostRuntime, state: Record, piece: &[u8]) -> io::Result<()> {
     let added = service::add(state, piece);
-    let answer = added.answer;
-    let next = added.state;
-    let x = refusals::number_of(answer);
+    let x = refusals::number_of(added.answer);
     if x != 0 {
-        return print_answer(rt, x, compare::same(next, state));
+        return print_answer(rt, x, compare::same(added.state, state));
     }
-    print_answer(rt, 0, compare::grown(state, next, piece.len()))
+    print_answer(rt, 0, compare::grown(state, added.state, piece.len()))
 }
 
 // Whether what comes back of a close is due: the record and the part as they were, or the next day's record and the
@@ -55,10 +51,9 @@ fn due(number: u32, k: u32, state: Record, next: Record, part: &[u8]) -> bool {
 
 fn close_part(rt: &HostRuntime, state: Record, part: &mut [u8]) -> io::Result<()> {
     let closed = service::close(state, part);
-    let answer = closed.answer;
-    let next = closed.state;
-    let x = service::writing_number(answer);
-    print_answer(rt, x, due(x, service::count_of(answer), state, next, part))
+    let x = service::writing_number(closed.answer);
+    let k = service::count_of(closed.answer);
+    print_answer(rt, x, due(x, k, state, closed.state, part))
 }
 
 fn record(c: [u32; 11]) -> Record {
@@ -68,17 +63,17 @@ fn record(c: [u32; 11]) -> Record {
 fn add(rt: &HostRuntime, c: [u32; 11]) -> io::Result<()> {
     let piece = [97u8; 4];
     let n = input::at_most(c[6], 4);
-    add_piece(rt, record(c), &piece[0..n])
+    add_piece(rt, record(c), &piece[..n])
 }
 
 fn close(rt: &HostRuntime, c: [u32; 11]) -> io::Result<()> {
     let mut part = [170u8; 576];
     let n = input::at_most(c[6], 576);
-    close_part(rt, record(c), &mut part[0..n])
+    close_part(rt, record(c), &mut part[..n])
 }
 
 fn case(rt: &HostRuntime, line: &[u8]) -> io::Result<()> {
-    if line.len() == 0 {
+    if line.is_empty() {
         return Ok(());
     }
     print::bytes(rt, line)?;
@@ -91,11 +86,8 @@ fn case(rt: &HostRuntime, line: &[u8]) -> io::Result<()> {
 }
 
 fn cases(rt: &HostRuntime, s: &[u8]) -> io::Result<()> {
-    let mut at = 0usize;
-    while at < s.len() {
-        let e = input::line_end(s, at);
-        case(rt, &s[at..e])?;
-        at = input::after(e, s.len());
+    for line in s.split_inclusive(|b| *b == b'\n') {
+        case(rt, input::without_end(line))?;
     }
     Ok(())
 }

@@ -15,7 +15,7 @@ fn compare(rt: &HostRuntime, book: &[u8], scheme: u32, piece: usize, gap: bool) 
 {
     let mut other = [0u8; 1024];
     let n = books::seal(scheme, 4, 1, Ledger::Short, piece, gap, &mut other);
-    if book != &other[0..n] {
+    if book != &other[..n] {
         print::bytes(rt, b"differs\n")?;
     }
     Ok(())
@@ -32,11 +32,12 @@ fn print_book(rt: &HostRuntime, book: &[u8], scheme: u32) -> io::Result<()> {
 fn lines(rt: &HostRuntime, scheme: u32) -> io::Result<()> {
     let mut book = [0u8; 1024];
     let n = books::seal(scheme, 4, 1, Ledger::Short, 131, false, &mut book);
-    print_book(rt, &book[0..n], scheme)
+    print_book(rt, &book[..n], scheme)
 }
 
 pub fn run(rt: &HostRuntime) -> io::Result<()> {
-    lines(rt, 1)?;
-    lines(rt, 2)?;
-    lines(rt, 3)
+    for scheme in 1..=3 {
+        lines(rt, scheme)?;
+    }
+    Ok(())
 }

@@ -11,9 +11,7 @@ use test_samples::{as_u32, print};
 fn print_value(rt: &HostRuntime, book: &[u8], k: usize) -> io::Result<()>
     requires { 32 * k + 32 ≤ length book.now }
 {
-    let a = 32 * k;
-    let e = a + 32;
-    print::hex_line(rt, &book[a..e])
+    print::hex_line(rt, &book[32 * k..32 * k + 32])
 }
 
 fn print_book(rt: &HostRuntime, book: &[u8]) -> io::Result<()> {
@@ -31,11 +29,12 @@ fn print_book(rt: &HostRuntime, book: &[u8]) -> io::Result<()> {
 fn lines(rt: &HostRuntime, scheme: u32, f: u32) -> io::Result<()> {
     let mut book = [0u8; 67584];
     let n = books::seal(scheme, 8, f, Ledger::Thousand, 131, false, &mut book);
-    print_book(rt, &book[0..n])
+    print_book(rt, &book[..n])
 }
 
 pub fn run(rt: &HostRuntime) -> io::Result<()> {
-    lines(rt, 1, 25)?;
-    lines(rt, 2, 25)?;
-    lines(rt, 3, 1)
+    for (scheme, f) in [(1, 25), (2, 25), (3, 1)] {
+        lines(rt, scheme, f)?;
+    }
+    Ok(())
 }

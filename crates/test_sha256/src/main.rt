@@ -5,7 +5,7 @@
 
 ghost use Rattle.std.specs.Prelude.{◌≤◌, ◌<◌};
 
-use std::io;
+use std::{array, io};
 
 // Writes the words as hexadecimal digits, and a line end.
 fn print(rt: &HostRuntime, d: [u32; 8]) -> io::Result<()> {
@@ -19,29 +19,26 @@ fn print(rt: &HostRuntime, d: [u32; 8]) -> io::Result<()> {
 fn fed(s: &[u8], size: usize) -> [u32; 8]
     requires { 0 < size }
 {
-    let mut st = hasher::empty();
+    let pieces = s.chunks_exact(size);
+    let rest = pieces.remainder();
+    let mut state = hasher::empty();
     let mut at = 0;
-    while size <= s.len() - at {
-        let e = at + size;
-        let next = hasher::absorb(st, at as u64, &s[at..e]);
-        st = next;
-        at = e;
+    for piece in pieces {
+        state = hasher::absorb(state, at, piece);
+        at += size as u64;
     }
-    let all = hasher::absorb(st, at as u64, &s[at..]);
-    hasher::finish(all, s.len() as u64)
+    state = hasher::absorb(state, at, rest);
+    hasher::finish(state, s.len() as u64)
 }
 
 // The digest of a million bytes 'a', which come in pieces of a thousand.
 fn million() -> [u32; 8] {
     let piece = [b'a'; 1000];
-    let mut st = hasher::empty();
-    let mut n = 0;
-    while n < 1000 {
-        let next = hasher::absorb(st, n * 1000, &piece);
-        st = next;
-        n += 1;
+    let mut state = hasher::empty();
+    for n in 0..1000 {
+        state = hasher::absorb(state, n * 1000, &piece);
     }
-    hasher::finish(st, 1000000)
+    hasher::finish(state, 1000000)
 }
 
 // Byte i of the message of len bytes is (7 * i + 3 * len + 1) % 256.
@@ -54,13 +51,7 @@ fn byte(i: usize, len: usize) -> u8
 fn message(len: usize) -> [u8; 200]
     requires { len ≤ 200 }
 {
-    let mut m = [0u8; 200];
-    let mut i = 0;
-    while i < 200 {
-        m[i] = byte(i, len);
-        i += 1;
-    }
-    m
+    array::from_fn(|i| byte(i, len))
 }
 
 // The message m: in pieces of 7 bytes, in pieces of 100, and after the byte first.
@@ -74,7 +65,7 @@ fn line(rt: &HostRuntime, len: usize) -> io::Result<()>
     requires { len ≤ 200 }
 {
     let m = message(len);
-    lines(rt, &m[0..len], len as u8)
+    lines(rt, &m[..len], len as u8)
 }
 
 fn lengths(rt: &HostRuntime) -> io::Result<()> {
@@ -94,13 +85,7 @@ fn word(i: usize, k: usize) -> u32
 fn words(k: usize) -> [u32; 8]
     requires { k < 32 }
 {
-    let mut w = [0u32; 8];
-    let mut i = 0;
-    while i < 8 {
-        w[i] = word(i, k);
-        i += 1;
-    }
-    w
+    array::from_fn(|i| word(i, k))
 }
 
 fn links(rt: &HostRuntime) -> io::Result<()> {
@@ -121,8 +106,7 @@ fn examples(rt: &HostRuntime) -> io::Result<()> {
     print(rt, fed(b"abc", 7))?;
     let m = b"abcdbcdecdefdefgefghfghighijhijkijkljklmklmnlmnomnopnopq";
     print(rt, fed(m, 7))?;
-    let n = longest();
-    print(rt, fed(&n, 7))?;
+    print(rt, fed(&longest(), 7))?;
     print(rt, million())
 }
 

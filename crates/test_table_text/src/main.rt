@@ -2,8 +2,6 @@
 // after each; reference/table_text_cases.py writes it, and what is to be written.
 #![tactic(auto)]
 
-ghost use Rattle.std.specs.Prelude.{◌≡◌, ◌+◌, ◌≤◌, min, length};
-
 use std::io;
 use std::io::Read;
 
@@ -15,36 +13,16 @@ fn show(rt: &HostRuntime, name: &[u8], input: &[u8]) -> io::Result<()> {
     rt.write_all(&out[..n])
 }
 
-// Where the next '#' stands, or the end.
-fn end(s: &[u8], at: usize) -> usize
-    requires { at ≤ length s.now }
-    ensures { (at ≤ result) × (result ≤ length s.now) }
-{
-    match memchr::memchr(b'#', &s[at..]) {
-        Some(i) => at + i,
-        None => s.len(),
-    }
-}
-
-// The place after it.
-fn past(at: usize, size: usize) -> usize
-    requires { at ≤ size }
-    ensures { result ≡ min (at + 1) size }
-{
-    if at < size {
-        return at + 1;
-    }
-    size
+// The part without its '#'.
+fn without_end(part: &[u8]) -> &[u8] {
+    part.strip_suffix(b"#").unwrap_or(part)
 }
 
 fn cases(rt: &HostRuntime, s: &[u8]) -> io::Result<()> {
-    let mut at = 0usize;
-    while at < s.len() {
-        let a = end(s, at);
-        let from = past(a, s.len());
-        let b = end(s, from);
-        show(rt, &s[at..a], &s[from..b])?;
-        at = past(b, s.len());
+    let mut parts = s.split_inclusive(|b| *b == b'#');
+    while let Some(name) = parts.next() {
+        let text = parts.next().unwrap_or(b"");
+        show(rt, without_end(name), without_end(text))?;
     }
     Ok(())
 }
