@@ -6,11 +6,14 @@ use native.Mathlib.{Nat.pow-le-pow_left, Nat.pow-le-pow_right, Nat.mul-le-mul, D
 use lib.{Dec.leb, Pow.pow-lt}
 use borrow.Author.Tests.{le-leb, lt-leb, leb-true}
 use Rattle.lists.proofs.Laws.{split, and_both}
-use Rattle.refusals.proofs.TestLaws.{none_fails}
-use Rattle.layouts.specs.Layouts.{allowed_n, lg, setup_refusal}
+use Rattle.std.specs.Prelude.{Ok, Err}
+use Rattle.refusals.specs.Refusals.{number_of}
+use Rattle.refusals.specs.declared.Refusal.{Refusal}
+use Rattle.refusals.specs.declared.Refusal.TheVariants as cause
+use Rattle.refusals.proofs.TestLaws.{none_fails, not_both, number_answered, passed_number}
+use Rattle.layouts.specs.Layouts.{allowed_n, lg, setup_tested}
 use Rattle.layouts.proofs.AllowedLaws.{allowed_n_is}
-use Rattle.ambiguity.specs.declared.Counting.TheVariants.{Counted, Refused}
-use Rattle.ambiguity.specs.Ambiguity.{sets, listed, count_tests, count_refusal, counting_of, counting_number, counted}
+use Rattle.ambiguity.specs.Ambiguity.{sets, listed, count_tests, count_tested, count_refusal, counted}
 use Rattle.ambiguity.specs.Statements.{SaysNotCounted}
 use Rattle.ambiguity.specs.Private.{Countable, Tuples, of_tuples}
 use Rattle.ambiguity.proofs.Figures.{BySums, listed_sums, sets_sums}
@@ -18,74 +21,74 @@ use Rattle.ambiguity.proofs.Figures.{BySums, listed_sums, sets_sums}
 -- ---- refusals
 
 module _ (n k : ℕ) where
-  by_n : setup_refusal 2 n 1 ≡ cond (allowed_n n) 0 2
-  unfolding setup_refusal
+  by_n : setup_tested 2 n 1 ≡ cond (allowed_n n) (Ok tt) (Err cause.BadN)
+  unfolding setup_tested
   by_n = refl
 
-  pub n_refused : {x : ℕ} → x ≡ setup_refusal 2 n 1 → (x ≡ 0 → ⊥) → x ≡ count_refusal n k
-  unfolding count_refusal
-  n_refused e z = elim (split (allowed_n n)) [
-    | inl q ↦ absurd (z (e ∙ by_n ∙ rw q))
-    | inr q ↦ rw q (e ∙ by_n ∙ rw q)
+  pub n_refused : {r : Refusal} → setup_tested 2 n 1 ≡ Err r → Err r ≡ count_tested n k
+  unfolding count_tested
+  n_refused e = elim (split (allowed_n n)) [
+    | inl q ↦ let h : setup_tested 2 n 1 ≡ Ok tt = by_n ∙ rw q refl in absurd (not_both h e)
+    | inr q ↦ rw q (sym e ∙ by_n ∙ rw q refl)
   ]
 
-  pub n_allowed : {x : ℕ} → x ≡ setup_refusal 2 n 1 → x ≡ 0 → allowed_n n ≡ true
-  n_allowed {x} e z = elim (split (allowed_n n)) [
+  pub n_allowed : setup_tested 2 n 1 ≡ Ok tt → allowed_n n ≡ true
+  n_allowed e = elim (split (allowed_n n)) [
     | inl q ↦ q
-    | inr q ↦ let h : x ≡ 2 = e ∙ by_n ∙ rw q in absurd (omega arith)
+    | inr q ↦ let h : setup_tested 2 n 1 ≡ Err cause.BadN = by_n ∙ rw q refl in absurd (not_both e h)
   ]
 
   module _ (ok : allowed_n n ≡ true) where
-    not_counted : leb n 64 && (leb 1 k && leb k 3) ≡ false → 21 ≡ count_refusal n k
-    unfolding count_refusal
-    not_counted q = rw (ok, q)
+    not_counted : leb n 64 && (leb 1 k && leb k 3) ≡ false → Err cause.BadCount ≡ count_tested n k
+    unfolding count_tested
+    not_counted q = rw (ok, q) refl
 
-    pub large_refused : 64 < n → 21 ≡ count_refusal n k
-    large_refused l = not_counted (rw (lt-leb n 64 l))
+    pub large_refused : 64 < n → Err cause.BadCount ≡ count_tested n k
+    large_refused l = not_counted (rw (lt-leb n 64 l) refl)
 
-    pub none_refused : k ≡ 0 → 21 ≡ count_refusal n k
+    pub none_refused : k ≡ 0 → Err cause.BadCount ≡ count_tested n k
     none_refused q = not_counted (rw q (and-false (leb n 64)))
 
-    pub many_refused : 3 < k → 21 ≡ count_refusal n k
+    pub many_refused : 3 < k → Err cause.BadCount ≡ count_tested n k
     many_refused l = not_counted (rw (lt-leb k 3 l, and-false (leb 1 k)) (and-false (leb n 64)))
 
-    pub not_refused : n ≤ 64 → (k ≡ 0 → ⊥) → k ≤ 3 → 0 ≡ count_refusal n k
-    unfolding count_refusal
-    not_refused a b c = rw (ok, le-leb n 64 a, le-leb 1 k (omega arith), le-leb k 3 c)
+    pub count_passed : n ≤ 64 → (k ≡ 0 → ⊥) → k ≤ 3 → Ok tt ≡ count_tested n k
+    unfolding count_tested
+    count_passed a b c = rw (ok, le-leb n 64 a, le-leb 1 k (omega arith), le-leb k 3 c) refl
 
-  pub countable : {x : ℕ} → x ≡ count_refusal n k → x ≡ 0 → Countable n k
-  unfolding count_refusal
-  countable e z =
-      let p = none_fails (count_tests n k) refl (sym e ∙ z) in
+    pub not_refused : n ≤ 64 → (k ≡ 0 → ⊥) → k ≤ 3 → 0 ≡ count_refusal n k
+    not_refused a b c = ap number_of (count_passed a b c)
+
+  pub countable : count_refusal n k ≡ 0 → Countable n k
+  unfolding count_tested
+  countable e =
+      let p = none_fails (count_tests n k) e in
       let q = and_both (leb n 64) (leb 1 k && leb k 3) p.1.0 in
       let r = and_both (leb 1 k) (leb k 3) q.1 in
       record { n_ok = p.0; small = leb-true n 64 q.0; some = leb-true 1 k r.0; most = leb-true k 3 r.1 }
 
-  pub answer_refused : {x : ℕ} → x ≡ count_refusal n k → (x ≡ 0 → ⊥) → Refused x ≡ counted n k
+  pub passed_countable : count_tested n k ≡ Ok tt → Countable n k
+  passed_countable e = countable (passed_number (count_tested n k) e)
+
+  pub counted_refused : {r : Refusal} → count_tested n k ≡ Err r → Err r ≡ counted n k
   unfolding counted
-  answer_refused {x} e z = go (count_refusal n k) e
-    where
-      go : (r : ℕ) → x ≡ r → Refused x ≡ counting_of r (record { sets = sets n k; listed = listed n k })
-      go zero q = absurd (z q)
-      go (suc r) q = ap Refused q
+  counted_refused e = rw e refl
 
-  pub answer_counted : {x s l : ℕ} → x ≡ count_refusal n k → x ≡ 0 → s ≡ sets n k → l ≡ listed n k → Counted (record { sets = s; listed = l }) ≡ counted n k
+  pub counted_done : {s l : ℕ} → count_tested n k ≡ Ok tt → s ≡ sets n k → l ≡ listed n k → Ok (record { sets = s; listed = l }) ≡ counted n k
   unfolding counted
-  answer_counted e z a b = rw (sym e ∙ z, a, b)
+  counted_done e a b = rw (e, a, b) refl
 
-pub ruleset refusal_laws = (n_refused, n_allowed, large_refused, none_refused, many_refused, not_refused)
+pub ruleset count_laws = (n_refused, n_allowed, large_refused, none_refused, many_refused, count_passed)
 
-number_is : (n k : ℕ) → counting_number (counted n k) ≡ count_refusal n k
+pub ruleset counted_laws = (passed_countable, counted_refused, counted_done)
+
+number_is : (n k : ℕ) → number_of (counted n k) ≡ count_refusal n k
 unfolding counted
-number_is n k = go (count_refusal n k)
-  where
-    go : (r : ℕ) → counting_number (counting_of r (record { sets = sets n k; listed = listed n k })) ≡ r
-    go zero = refl
-    go (suc r) = refl
+number_is n k = number_answered (count_tested n k) (record { sets = sets n k; listed = listed n k })
 
 refused_2 : (n k : ℕ) → allowed_n n ≡ false → count_refusal n k ≡ 2
-unfolding count_refusal
-refused_2 n k e = rw e
+unfolding count_tested
+refused_2 n k e = rw e refl
 
 pub says_not_counted : SaysNotCounted
 says_not_counted n k = (
@@ -103,8 +106,8 @@ says_not_counted n k = (
     )
   ],
   λ p. number_is n k ∙ sym (elim p.1 [
-    | inl l ↦ large_refused n k p.0 l
-    | inr m ↦ elim m [ inl z ↦ none_refused n k p.0 z | inr l ↦ many_refused n k p.0 l ]
+    | inl l ↦ ap number_of (large_refused n k p.0 l)
+    | inr m ↦ elim m [ inl z ↦ ap number_of (none_refused n k p.0 z) | inr l ↦ ap number_of (many_refused n k p.0 l) ]
   ]),
 )
 

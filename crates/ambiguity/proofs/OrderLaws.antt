@@ -106,7 +106,7 @@ module _ (order : List Asked) (e : each_once order ≡ true) where
 of_21 : (n k : ℕ) → eqb (count_refusal n k) 0 ≡ has n line_sizes && has k line_sets
 of_21 n k = bool_ext (eqb (count_refusal n k) 0) (has n line_sizes && has k line_sets)
     (λ e.
-    let c = countable n k refl (eqb-true (count_refusal n k) 0 e) in
+    let c = countable n k (eqb-true (count_refusal n k) 0 e) in
     and_of (has n line_sizes) (has k line_sets) (counted_n n c.n_ok c.small) (counted_k k c.some c.most))
     (λ e.
     let b = and_both (has n line_sizes) (has k line_sets) e in

@@ -12,8 +12,8 @@ use Rattle.lists.specs.Lists.{◌among◌, has, every}
 use Rattle.lists.proofs.Laws.{mem_has, and_of, mem_keep, is_in, length-up_from}
 use Rattle.evidence.specs.Evidence.{days, Within, meets, set_outcome, table_of, listing}
 use Rattle.evidence.proofs.TableLaws.{meets_of, listing_within}
-use Rattle.refusals.proofs.TestLaws.{all_pass}
-use Rattle.layouts.specs.Layouts.{divides, allowed_n, lg, tile, last_days, covered_days, chains, layout_tests, layout_refusal}
+use Rattle.refusals.proofs.TestLaws.{no_refusal}
+use Rattle.layouts.specs.Layouts.{divides, allowed_n, lg, tile, last_days, covered_days, chains, layout_tests, layout_tested, layout_refusal}
 use Rattle.layouts.proofs.{AllowedLaws.allowed_n_is, Coverage.weight_is}
 use Rattle.acceptance.proofs.Runs.{keep_all, last_days_mem}
 use Rattle.listing.specs.Private.{bit_of}
@@ -31,11 +31,11 @@ Inside n S = (x : ℕ) → x among S → x < n
 -- ---- the call
 
 one_tile : (n : ℕ) → allowed_n n ≡ true → layout_refusal 2 n 1 n ≡ 0
-unfolding layout_refusal
+unfolding layout_tested
 one_tile n ok =
     let w = allowed_n_is n ok in
     let e : 1 * n ≡ n = omega arith in
-    all_pass (layout_tests 2 n 1 n) (
+    no_refusal (layout_tests 2 n 1 n) (
       refl,
       (
         ok,

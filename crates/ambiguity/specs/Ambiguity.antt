@@ -1,15 +1,16 @@
 -- 02's figures of one tile (C-16, SPEC 21). Definitions only.
-use Rattle.std.specs.Prelude.{◌≡◌, Bool, true, ◌&&◌, cond, List, [], ◌∷◌, ◌++◌, map, ℕ, zero, suc, ◌+◌, eqb, leb, length, drop}
+use Rattle.std.specs.Prelude.{◌≡◌, Bool, true, ◌&&◌, cond, List, [], ◌∷◌, ◌++◌, map, ℕ, zero, suc, ◌+◌, eqb, leb}
+use Rattle.std.specs.Prelude.{length, drop, Result}
 use Rattle.lists.specs.Lists.{every, up_from, joined}
 use Rattle.evidence.specs.Evidence.{days, table_of}
-use Rattle.refusals.specs.Refusals.{Test, ◌or_refuse◌, first_refusal}
+use Rattle.refusals.specs.Refusals.{Test, ◌or_refuse◌, tested, number_of, answered}
+use Rattle.refusals.specs.declared.Refusal.{Refusal}
+use Rattle.refusals.specs.declared.Refusal.TheVariants as cause
 use Rattle.layouts.specs.Layouts.{allowed_n, chains}
 use Rattle.reading.specs.Contract.{Readout, readout}
 use Rattle.number_text.specs.Numbers.{decimal}
 use Rattle.table_text.specs.Text.{line}
 use Rattle.ambiguity.specs.declared.Counts.{Counts}
-use Rattle.ambiguity.specs.declared.Counting.{Counting}
-use Rattle.ambiguity.specs.declared.Counting.TheVariants.{Counted, Refused}
 
 abbrev pub sum_over : {A : Type 0} → (A → ℕ) → List A → ℕ  -- the sum of a number of each
 sum_over f [] = 0
@@ -53,23 +54,17 @@ listed n k = sum_over (days_listed n) (offset_sets n k)
 
 -- 02's tests 2 21 (SPEC 10.21, 11.13)
 abbrev pub count_tests : ℕ → ℕ → List Test
-count_tests n k = allowed_n n or_refuse 2 ∷ (leb n 64 && (leb 1 k && leb k 3)) or_refuse 21 ∷ []
+count_tests n k = allowed_n n or_refuse cause.BadN ∷ (leb n 64 && (leb 1 k && leb k 3)) or_refuse cause.BadCount ∷ []
 
-unfoldable pub count_refusal : ℕ → ℕ → ℕ
-count_refusal n k = first_refusal (count_tests n k)
+unfoldable pub count_tested : ℕ → ℕ → Result Unit Refusal
+count_tested n k = tested (count_tests n k)
 
-abbrev pub counting_of : ℕ → Counts → Counting
-counting_of zero counts = Counted counts
-counting_of (suc x) counts = Refused (suc x)
+abbrev pub count_refusal : ℕ → ℕ → ℕ
+count_refusal n k = number_of (count_tested n k)
 
--- the answer: both numbers, or the refusal's
-unfoldable pub counted : ℕ → ℕ → Counting
-counted n k = counting_of (count_refusal n k) (record { sets = sets n k; listed = listed n k })
-
--- 02's number for each answer: 0, or the refusal's
-abbrev pub counting_number : Counting → ℕ
-counting_number (Counted counts) = 0
-counting_number (Refused number) = number
+-- the answer: both numbers, or the refusal
+unfoldable pub counted : ℕ → ℕ → Result Counts Refusal
+counted n k = answered (count_tested n k) (record { sets = sets n k; listed = listed n k })
 
 -- ---- the lines
 

@@ -1,11 +1,13 @@
 -- What is proved of the figures and the lines (SPEC 21.1 to 21.4, 21.6). Statements only; proofs/SetLaws, Statements,
 -- Figures, Calls and OrderLaws prove each.
-use Rattle.std.specs.Prelude.{◌≡◌, ◌↔◌, ◌⊎◌, true, cond, List, [], ◌∷◌, ℕ, ◌+◌, ◌-◌, ◌*◌, ◌/◌, ◌^◌, ◌≤◌, ◌<◌, eqb, length}
+use Rattle.std.specs.Prelude.{◌≡◌, ◌↔◌, ◌⊎◌, true, cond, List, [], ◌∷◌, ℕ, ◌+◌, ◌-◌, ◌*◌, ◌/◌, ◌^◌, ◌≤◌, ◌<◌, eqb}
+use Rattle.std.specs.Prelude.{length}
 use Rattle.lists.specs.Lists.{◌among◌, Ascends}
 use Rattle.layouts.specs.Layouts.{allowed_n, lg, layout_refusal}
 use Rattle.reading.specs.Contract.{allowed_passed, readout}
+use Rattle.refusals.specs.Refusals.{number_of}
 use Rattle.ambiguity.specs.Ambiguity.{offset_sets, tile_table, days_listed, sets, listed, count_refusal}
-use Rattle.ambiguity.specs.Ambiguity.{counting_number, counted, Asked, times, each_once}
+use Rattle.ambiguity.specs.Ambiguity.{counted, Asked, times, each_once}
 
 -- ---- the sets (SPEC 21.1)
 
@@ -56,7 +58,7 @@ NoSets = (n k : ℕ) → n < k → (sets n k ≡ 0) × (listed n k ≡ 0)
 
 abbrev pub SaysNotCounted : Type 0
 SaysNotCounted =
-    (n k : ℕ) → (counting_number (counted n k) ≡ 21) ↔
+    (n k : ℕ) → (number_of (counted n k) ≡ 21) ↔
     ((allowed_n n ≡ true) × ((64 < n) ⊎ ((k ≡ 0) ⊎ (3 < k))))
 
 -- ---- the lines (SPEC 21.6)

@@ -4,41 +4,28 @@
 
 ghost use Rattle.std.specs.Prelude.{◌≡◌, ◌+◌, ◌^◌, ◌≤◌, length};
 ghost use Rattle.buffers.specs.Private.{Wrote};
-ghost use Rattle.ambiguity.specs.Ambiguity.{count_refusal, sets, listed, counted, line_of, text_in, Printed};
+ghost use Rattle.ambiguity.specs.Ambiguity.{count_tested, sets, listed, counted, line_of, text_in, Printed};
 ghost use Rattle.ambiguity.specs.Private.{Countable, Tuples, of_tuples, asked_of, ascending};
 
+use refusals::Refusal;
+
 // How many sets of k offsets there are, and the days listed for all of them.
-#[derive(Drop)]
+#[derive(Clone, Copy, Debug, PartialEq, Eq)]
 pub struct Counts {
     pub sets: u32,
     pub listed: u32,
 }
 
-#[derive(Drop)]
-pub enum Counting {
-    Counted(Counts),
-    Refused(u32),
-}
-
 // Tests 2 21. Scheme 2 and F 1 are allowed.
-#[tactic(auto, using(crate::proofs::Calls::refusal_laws))]
-fn refusal(n: u32, k: u32) -> u32
-    ensures { result ≡ count_refusal n k }
+#[tactic(auto, using(crate::proofs::Calls::count_laws))]
+fn test_count(n: u32, k: u32) -> Result<(), Refusal>
+    ensures { result ≡ count_tested n k }
 {
-    let x = layouts::setup_refusal(2, n, 1);
-    if x != 0 {
-        return x;
+    layouts::test_setup(2, n, 1)?;
+    if 64 < n || k == 0 || 3 < k {
+        return Err(Refusal::BadCount);
     }
-    if 64 < n {
-        return 21;
-    }
-    if k == 0 {
-        return 21;
-    }
-    if 3 < k {
-        return 21;
-    }
-    0
+    Ok(())
 }
 
 // A sum over the sets of k numbers, from the sums over single numbers, over pairs and over triples of them.
@@ -72,14 +59,12 @@ fn listed_count(n: u32, k: u32) -> u32
     of_tuples(k, 3u32.pow(m), 7u32.pow(m), 15u32.pow(m))
 }
 
-pub fn tile_counts(n: u32, k: u32) -> Counting
+#[tactic(auto, using(crate::proofs::Calls::counted_laws))]
+pub fn tile_counts(n: u32, k: u32) -> Result<Counts, Refusal>
     ensures { result ≡ counted n k }
 {
-    let number = refusal(n, k);
-    if number != 0 {
-        return Counting::Refused(number);
-    }
-    Counting::Counted(Counts {
+    test_count(n, k)?;
+    Ok(Counts {
         sets: set_count(n, k),
         listed: listed_count(n, k),
     })
