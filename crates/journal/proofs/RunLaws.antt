@@ -22,11 +22,11 @@ use Rattle.chains.specs.Step.{start_value}
 use Rattle.chains.proofs.Running.{Holds, holds_fresh, holds_next, day_values_are}
 use Rattle.chains.proofs.BookLaws.{book_suc, values_of_length}
 use Rattle.service.specs.declared.Record.{Record}
-use Rattle.service.specs.Contract.{at_start, fresh, opened, allowed_record, current, add_refusal, open_day, grown, added, day_count, close_refusal, digest_of, day_bytes, next_day, count_of, closing}
+use Rattle.service.specs.Contract.{at_start, fresh, opened, allowed_record, current, add_tested, add_refusal, open_day, grown, added, day_count, close_tested, close_refusal, digest_of, day_bytes, next_day, count_of, closing}
 use Rattle.journal.specs.Journal.{Journal, empty, Argument, adds, closes, tests_of, refusal_of, entered}
 use Rattle.journal.specs.Run.{Call, add, close, argument_of, called}
 use Rattle.service.proofs.RecordLaws.{is_allowed, current_before}
-use Rattle.service.proofs.CallLaws.{added_number, closing_number}
+use Rattle.service.proofs.CallLaws.{added_number, closing_number, closing_taken}
 
 -- ---- the record holds what the journal says
 
@@ -67,8 +67,8 @@ keeps_start s n f season e l =
 
 -- a call that is taken finds a day left
 day_left : (s n : ℕ) (j : Journal) (a : Argument) → refusal_of s n j a ≡ 0 → length j.entries < book_limit
-day_left s n j (adds piece) e = ltb-true (length j.entries) book_limit (none_fails (tests_of s n j (adds piece)) refl e).0
-day_left s n j (closes size) e = ltb-true (length j.entries) book_limit (none_fails (tests_of s n j (closes size)) refl e).0
+day_left s n j (adds piece) e = ltb-true (length j.entries) book_limit (none_fails (tests_of s n j (adds piece)) e).0
+day_left s n j (closes size) e = ltb-true (length j.entries) book_limit (none_fails (tests_of s n j (closes size)) e).0
 
 pub keeps_open : (s n f : ℕ) → setup_refusal s n f ≡ 0 → Keeps s n f empty (opened s n f).state
 unfolding opened fresh
@@ -100,7 +100,7 @@ module _ {s n f : ℕ} {j : Journal} {r : Record} (k : Keeps s n f j r) where
   pub keeps_grown : (piece : List ℕ) → refusal_of s n j (adds piece) ≡ 0 → Keeps s n f (entered j (adds piece)) (grown r piece)
   unfolding grown
   keeps_grown piece e =
-      let passed = none_fails (tests_of s n j (adds piece)) refl e in
+      let passed = none_fails (tests_of s n j (adds piece)) e in
       let left = ltb-true (length j.entries) book_limit passed.0 in
       let fits = leb-true (length j.day + length piece) day_limit passed.1.0 in
       record {
@@ -168,11 +168,11 @@ module _ {s n f : ℕ} {j : Journal} {r : Record} (k : Keeps s n f j r) where
 module _ {s n f : ℕ} {j : Journal} (r : Record) (a : allowed_record r ≡ true) (k : Keeps s n f j (current r)) where
   -- the same refusals
   pub add_same : (piece : List ℕ) → add_refusal r (length piece) ≡ refusal_of s n j (adds piece)
-  unfolding add_refusal
+  unfolding add_tested
   add_same piece = rw (a, k.days_are, k.bytes_are)
 
   pub close_same : (size : ℕ) → close_refusal r size ≡ refusal_of s n j (closes size)
-  unfolding close_refusal
+  unfolding close_tested
   close_same size = rw (a, count_kept k, k.days_are)
 
   pub number_called : (c : Call) → (called r c).number ≡ refusal_of s n j (argument_of c)
@@ -191,7 +191,7 @@ module _ {s n f : ℕ} {j : Journal} (r : Record) (a : allowed_record r ≡ true
   book_called (add piece) e = append-nil (book_of s n j.entries)
   book_called (close part) e =
       let made = current r in
-      rw (close_same (length part), e)
+      rw (closing_taken r part (close_same (length part) ∙ e), close_same (length part), e)
       (ap (λ (l : List ℕ). book_of s n j.entries ++ l)
       (take_at (day_bytes made) (drop (length (day_bytes made)) part) (32 * day_count made) (day_bytes_length k (length part) e) ∙ day_bytes_are k (length part) e) ∙
       sym (book_suc s n j.entries j.day))
@@ -216,8 +216,7 @@ module _ {s n f : ℕ} {j : Journal} {r : Record} (k : Keeps s n f j r) where
     taken_close = keeps_called r (record_allowed k) made_on (close part) e
 
     pub taken_count : count_of (closing r part).result.answer ≡ length (chains_of_day s n (suc (length j.entries)))
-    unfolding closing
-    taken_count = rw (close_same r (record_allowed k) made_on (length part), e) (count_kept made_on)
+    taken_count = closing_taken r part (close_same r (record_allowed k) made_on (length part) ∙ e) ∙ count_kept made_on
 
     pub taken_part : (closing r part).part ≡ values sha256 (start s n) (j.entries ++ (j.day ∷ [])) (chains_of_day s n (suc (length j.entries))) ++ drop
         (32 * length (chains_of_day s n (suc (length j.entries)))) part

@@ -21,7 +21,7 @@ use Rattle.service.specs.declared.Record.{Record}
 use Rattle.service.specs.Contract as service
 use Rattle.service.specs.Contract.{at_start, fresh, opened, turned, grown, next_day, added, closing}
 use Rattle.service.proofs.RecordLaws.{current_turned, current_same}
-use Rattle.service.proofs.CallLaws.{opened_number}
+use Rattle.service.proofs.CallLaws.{opened_number, closing_number, closing_none}
 use Rattle.journal.specs.Journal.{Journal, empty, Argument, adds, closes, refusal_of, entered, kept, journal_after, refusals}
 use Rattle.journal.specs.Seasons.{Seasons, first, turns, next, current, refusal_in, entered_in, kept_in, seasons_after, refusals_in, all_entries, entries_of}
 use Rattle.journal.specs.Run.{Call, add, close, argument_of, Called, called, state_after, answers, book_written, called_all, of_season, made_in, wrote_all, seasons_of}
@@ -154,7 +154,12 @@ module _ {s n f : ℕ} {d : Seasons} {r : Record} (k : InSeason s n f d r) where
       rw q (record { state_is = refl; wrote_none = refl; blocks_none = refl; closed_none = refl })
   refused_left (close part) x e =
       let q = close_same r allowed made.keeps (length part) ∙ e in
-      rw q (record { state_is = refl; wrote_none = refl; blocks_none = refl; closed_none = refl })
+      record {
+        state_is = rw q refl;
+        wrote_none = rw (closing_none r part q) refl;
+        blocks_none = rw q refl;
+        closed_none = rw (closing_number r part ∙ q) refl;
+      }
 
   -- a call that is taken is one of the season that it is made on
   pub season_taken : (c : Call) → refusal_in s n d (argument_of c) ≡ 0 → (called r c).state.season ≡ length (current d).past

@@ -2,6 +2,7 @@
 -- of records, answers or written bytes. Definitions only.
 use Rattle.std.specs.Prelude.{List, [], ◌∷◌, ◌++◌, ℕ, suc, ◌+◌, ◌*◌, leb, ltb, length}
 use Rattle.refusals.specs.Refusals.{book_limit, day_limit, Test, ◌or_refuse◌, first_refusal, unless_refused}
+use Rattle.refusals.specs.declared.Refusal.TheVariants as cause
 use Rattle.layouts.specs.Layouts.{chains_of_day}
 
 -- 01's entries (SPEC 6.2), one for each closed day, its bytes; and the open day's bytes
@@ -21,10 +22,10 @@ pub data Argument : Type 0 where
 -- 01's tests: add 5 4 (SPEC 6.3), close 5 8 (SPEC 6.4)
 abbrev pub tests_of : ℕ → ℕ → Journal → Argument → List Test
 tests_of scheme n j (adds piece) =
-    ltb (length j.entries) book_limit or_refuse 5 ∷ leb (length j.day + length piece) day_limit or_refuse 4 ∷ []
+    ltb (length j.entries) book_limit or_refuse cause.LastSeasonFull ∷ leb (length j.day + length piece) day_limit or_refuse cause.LongDay ∷ []
 tests_of scheme n j (closes size) =
-    ltb (length j.entries) book_limit or_refuse 5
-    ∷ leb (32 * length (chains_of_day scheme n (suc (length j.entries)))) size or_refuse 8
+    ltb (length j.entries) book_limit or_refuse cause.LastSeasonFull
+    ∷ leb (32 * length (chains_of_day scheme n (suc (length j.entries)))) size or_refuse cause.ShortBuffer
     ∷ []
 
 abbrev pub refusal_of : ℕ → ℕ → Journal → Argument → ℕ

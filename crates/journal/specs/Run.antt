@@ -3,7 +3,7 @@
 use Rattle.std.specs.Prelude.{Bool, cond, List, [], ◌∷◌, ◌++◌, map, ℕ, zero, suc, ◌+◌, ◌-◌, ◌*◌, eqb, length, take}
 use Rattle.refusals.specs.Refusals.{number_of, unless_refused}
 use Rattle.service.specs.declared.Record.{Record}
-use Rattle.service.specs.Contract.{writing_number, count_of, added, closing}
+use Rattle.service.specs.Contract.{count_of, added, closing}
 use Rattle.journal.specs.Journal.{Journal, empty, Argument, adds, closes, journal_after}
 use Rattle.journal.specs.Seasons.{Seasons, first, seasons_after}
 
@@ -32,11 +32,11 @@ called r (add piece) =
 called r (close part) =
     let c = closing r part in
     record {
-      number = writing_number c.result.answer;
+      number = number_of c.result.answer;
       state = c.result.state;
       wrote = take (32 * count_of c.result.answer) c.part;
       blocks = c.result.blocks;
-      closed = unless_refused (writing_number c.result.answer) 1 0;
+      closed = unless_refused (number_of c.result.answer) 1 0;
     }
 
 -- each call is handed the record that the call before gave back, refused or not (SPEC 5.6)

@@ -6,16 +6,16 @@ use native.Mathlib.Omega.{arith}
 use lib.Dec.{leb}
 use lib.ListN.{length}
 use borrow.Author.Tests.{le-leb, lt-leb, leb-true}
-use Rattle.std.specs.Prelude.{Ok, Err}
+use Rattle.std.specs.Prelude.{Result, Ok, Err}
 use Rattle.refusals.specs.declared.Refusal.{Refusal}
 use Rattle.refusals.specs.declared.Refusal.TheVariants as cause
 use Rattle.refusals.specs.Refusals.{day_limit, ◌or_refuse◌, number_of, tested, answered}
-use Rattle.refusals.proofs.TestLaws.{none_fails, passed_number, refused_before, passed_before, number_answered, old_stays, front_stands}
+use Rattle.refusals.proofs.TestLaws.{none_fails, passed_number, number_passed, refused_before, passed_before, number_answered, old_stays, front_stands}
 use Rattle.layouts.specs.Layouts.{setup_tested, setup_refusal, chains_of_day}
 use Rattle.service.specs.declared.Record.{Record}
 use Rattle.service.specs.declared.Closed.{Closed}
 use Rattle.service.specs.Contract.{fresh, opened, current, record_tests, add_tests, add_tested, add_refusal, grown, grown_blocks, added}
-use Rattle.service.specs.Contract.{day_count, close_tests, close_tested, close_refusal, day_bytes, both_of, closing}
+use Rattle.service.specs.Contract.{day_count, close_tests, close_tested, close_refusal, day_bytes, count_of, both_of, closing}
 use Rattle.service.specs.Private.{record_tested, Open, ClosedDay}
 use Rattle.service.proofs.RecordLaws.{record_passes, record_open, current_bytes, current_scheme, current_n}
 
@@ -160,6 +160,21 @@ added_number r piece = refl
 pub closing_number : (r : Record) (part : List ℕ) → number_of (closing r part).result.answer ≡ close_refusal r (length part)
 unfolding closing
 closing_number r part = number_answered (close_tested r (length part)) (day_count (current r))
+
+-- ---- the values of a close that is not refused, and of one that is
+
+count_refused : (t : Result Unit Refusal) (k : ℕ) {x : ℕ} → number_of t ≡ suc x → count_of (answered t k) ≡ 0
+count_refused (Ok u) k e = absurd (omega arith)
+count_refused (Err r) k e = refl
+
+module _ (r : Record) (part : List ℕ) where
+  pub closing_taken : close_refusal r (length part) ≡ 0 → count_of (closing r part).result.answer ≡ day_count (current r)
+  unfolding closing
+  closing_taken e = rw (number_passed (close_tested r (length part)) e) refl
+
+  pub closing_none : {x : ℕ} → close_refusal r (length part) ≡ suc x → count_of (closing r part).result.answer ≡ 0
+  unfolding closing
+  closing_none e = count_refused (close_tested r (length part)) (day_count (current r)) e
 
 -- ---- what functions of the code are proved by
 
