@@ -193,6 +193,8 @@ through_2 s n g k q e h = rw (h, q) (sym (chains_through 2 n g refl e))
 pub through_3 : (s n g r : ℕ) → allowed_scheme s ≡ true → (s ≡ 1 → ⊥) → (s ≡ 2 → ⊥) → r ≡ length (chains 3 n g) → r ≡ length (chains s n g)
 through_3 s n g r a h k e = let b = allowed_scheme_is s a in let q : s ≡ 3 = omega arith in rw q e
 
+pub ruleset count_by_scheme = (allowed_n_is, through_1, through_2, through_3)
+
 -- the values of a day are the difference of two counts
 pub day_values_lem : (s n g : ℕ) {p q : ℕ} → 1 ≤ g → p ≡ length (chains s n g) → q ≡ length (chains s n (g - 1)) → (q ≤ p) × (p - q ≡ length (chains_of_day s n g))
 day_values_lem s n zero l e h = absurd (omega arith)

@@ -103,7 +103,7 @@ fn tree_through(n: u32, g: u32) -> u32
 }
 
 // The values of the days 1 to g.
-#[tactic(auto, using(crate::proofs::AllowedLaws::allowed_n_is, crate::proofs::AllowedLaws::through_1, crate::proofs::AllowedLaws::through_2, crate::proofs::AllowedLaws::through_3))]
+#[tactic(auto, using(crate::proofs::AllowedLaws::count_by_scheme))]
 pub fn values_through(scheme: u32, n: u32, g: u32) -> u32
     requires { (allowed_scheme scheme ≡ true) × (allowed_n n ≡ true) × (g ≤ book_limit) }
     ensures { result ≡ length (chains scheme n g) }

@@ -16,7 +16,7 @@ use Rattle.layouts.proofs.AllowedLaws.{layout_asks, values_counted, chains_few}
 use Rattle.positions.specs.declared.Chain.{Chain}
 use Rattle.positions.specs.declared.Located.TheVariants as case-of-located
 use Rattle.positions.specs.declared.Place.TheVariants as case-of-place
-use Rattle.positions.proofs.BookLaws.{numbers_length, Closes, chain_there, below, Found, found, is_found}
+use Rattle.positions.proofs.BookLaws.{numbers_length, Closes, closes_by, chain_there, below, Found, found, is_found}
 use Rattle.positions.specs.Private.{day_within, closing_day, place_in_day, is_named}
 use Rattle.positions.specs.declared.Place.{Place}
 use Rattle.positions.specs.Positions.{chain_of, book_chains, book_numbers, first_place, located, placed}
@@ -155,3 +155,6 @@ module _ (s n f d : ℕ) (l : List ℕ) (four : length l ≡ 4) {x g : ℕ} (tol
 
       pub placed_there : case-of-place.At (v + i) ≡ placed s n f d l
       placed_there = is_l (placed_at s n f d told numbers none there_is sum_is)
+
+-- what `chain_at` names
+pub ruleset chain_located = (layout_asks, closes_by, located_refused, located_beyond)

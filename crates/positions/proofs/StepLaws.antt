@@ -5,7 +5,7 @@ use mathlib.Core.Logic.{◌⊎◌, inl, inr}
 use mathlib.Core.List.{List, flat_map}
 use Prim.Native.Nat.{ℕ, zero, suc, pred, ◌+◌, ◌-◌, ◌/◌, ◌^◌, ◌≤◌, ◌<◌}
 use native.Mathlib.{Nat.div-le_self, Omega.arith}
-use lib.{Dec.ltb, Count.ones, ListN.length, ListN.get_or, ListN.length-map}
+use lib.{Pow.pow_pos, Dec.ltb, Count.ones, ListN.length, ListN.get_or, ListN.length-map}
 use borrow.Author.Tests.{le-leb, lt-leb}
 use Rattle.lists.specs.Lists.{same}
 use Rattle.refusals.specs.Refusals.{book_limit}
@@ -167,3 +167,13 @@ module _ (s n g i : ℕ) {v : ℕ} (told : v ≡ length (chains_of_day s n g)) w
 
     pub by_numbers : {c : Chain} {r : Bool} → i < v → c ≡ chain_of n (get_or (names_of_day s n g) i (black 0)) → r ≡ same (numbers_of c) numbers → r ≡ is_named s n g i numbers
     by_numbers h e q = rw (le-leb (suc i) (length (names_of_day s n g)) (a_value h)) (q ∙ ap (λ (x : Chain). same (numbers_of x) numbers) e)
+
+-- ---- what the functions' attributes name
+
+pub ruleset place_of_black = (tiles_by, levels_by, allowed_n_is)
+
+pub ruleset last_of_tile = (tile_last_0, tile_last_by, weight_fits)
+
+pub ruleset chain_of_tree = (tree_of, divisor_le, pow_pos)
+
+pub ruleset chain_of_day = (black_1, black_2, black_3, is_tile, is_level)

@@ -77,7 +77,7 @@ fn day_of(scheme: u32, n: u32, d: u32, position: u32) -> u32
 }
 
 // Where black stands, or would stand, among the values of day g: behind the tile chains, or the tree's levels.
-#[tactic(auto, using(crate::proofs::StepLaws::tiles_by, crate::proofs::StepLaws::levels_by, layouts::proofs::AllowedLaws::allowed_n_is))]
+#[tactic(auto, using(crate::proofs::StepLaws::place_of_black))]
 fn black_place(scheme: u32, n: u32, g: u32) -> u32
     requires { (allowed_scheme scheme ≡ true) × (allowed_n n ≡ true) × (1 ≤ g) × (g ≤ book_limit) }
     ensures { result ≡ black_place scheme n g }
@@ -104,7 +104,7 @@ fn black_chain(g: u32) -> Chain
 }
 
 // The last day of c(i) of the tile that ends at g: from i = 1 on the last whose bit of weight n / 2^i is 0.
-#[tactic(auto, using(crate::proofs::StepLaws::tile_last_0, crate::proofs::StepLaws::tile_last_by, crate::proofs::StepLaws::weight_fits))]
+#[tactic(auto, using(crate::proofs::StepLaws::last_of_tile))]
 fn tile_last(n: u32, i: u32, g: u32) -> u32
     requires { (allowed_n n ≡ true) × (i ≤ lg n) × (1 ≤ g) × (divides n g ≡ true) }
     ensures { result ≡ (chain_of n (tile i g)).last }
@@ -128,7 +128,7 @@ fn tile_chain(n: u32, i: u32, g: u32) -> Chain
 }
 
 // The tree's level l that ends at g.
-#[tactic(auto, using(crate::proofs::StepLaws::tree_of, layouts::proofs::Coverage::divisor_le, std::proofs::Common::pow_pos))]
+#[tactic(auto, using(crate::proofs::StepLaws::chain_of_tree))]
 fn tree_chain(l: u32, g: u32) -> Chain
     requires { (l ≤ 16) × (1 ≤ g) × (divides (2 ^ l) g ≡ true) }
     ensures { result ≡ chain_over Tree l (last_days (2 ^ l) g) }
@@ -144,7 +144,7 @@ fn tree_chain(l: u32, g: u32) -> Chain
 
 // The chain of value i of day g, i from 0. It stands e places in front of black's: none is black itself, up to nine
 // a tile chain, up to seventeen a level.
-#[tactic(auto, using(crate::proofs::StepLaws::black_1, crate::proofs::StepLaws::black_2, crate::proofs::StepLaws::black_3, crate::proofs::StepLaws::is_tile, crate::proofs::StepLaws::is_level))]
+#[tactic(auto, using(crate::proofs::StepLaws::chain_of_day))]
 fn chain_in_day(scheme: u32, n: u32, g: u32, i: u32) -> Chain
     requires { (allowed_scheme scheme ≡ true) × (allowed_n n ≡ true) × (1 ≤ g) × (g ≤ book_limit)
         × (i < length (names_of_day scheme n g)) }
@@ -165,7 +165,7 @@ fn chain_in_day(scheme: u32, n: u32, g: u32, i: u32) -> Chain
 }
 
 // The chain at a position of the book.
-#[tactic(auto, using(layouts::proofs::AllowedLaws::layout_asks, crate::proofs::BookLaws::closes_by, crate::proofs::CallLaws::located_refused, crate::proofs::CallLaws::located_beyond))]
+#[tactic(auto, using(crate::proofs::CallLaws::chain_located))]
 pub fn chain_at(scheme: u32, n: u32, f: u32, d: u32, position: u32) -> Located
     ensures { result ≡ located scheme n f d position }
 {
