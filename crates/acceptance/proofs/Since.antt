@@ -177,9 +177,6 @@ module _ {n g : ℕ} {t : List ℕ} (h : Has 3 n g t) where
       let c = small_level (l - 1) g 1 (omega arith) (rw e (omega arith)) h.most in
       record { has = h; whole = v; level = omega arith }
 
-  pub day_size : (l : ℕ) → 1 ≤ l → l ≤ top → 2 ^ l ≤ g
-  day_size l p a = divisor_le (2 ^ l) g h.some (closes l a)
-
   pub day_place : {p : ℕ} (l : ℕ) → 1 ≤ l → l ≤ top → p ≡ position 3 n (tree 0 g) → (p + l ≡ position 3 n (tree l g)) × (p + l < 2 ^ 32)
   day_place l o a e =
       let q = day_chain l o a in

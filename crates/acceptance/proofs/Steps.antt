@@ -1,10 +1,9 @@
 -- What the functions that test a table need: values in range, and each rule from its parts.
-use mathlib.Core.{Path.◌≡◌, Path.refl, Path.sym, Path.◌∙◌, Bool.Bool, Bool.true, Bool.false, Bool.not, Bool.beq, List.List}
+use mathlib.Core.{Path.◌≡◌, Path.refl, Path.sym, Path.◌∙◌, Bool.Bool, Bool.true, Bool.false, Bool.beq, List.List}
 use Prim.Native.Nat.{ℕ, suc, pred, ◌+◌, ◌-◌, ◌*◌, ◌/◌, ◌^◌, ◌≤◌, ◌<◌}
-use native.Mathlib.Nat.{mul-pos, le_trans, mul-le-mul_right, div-mul-le_self, div-le_self}
-use native.Mathlib.{Numerals.add-one, Omega.arith}
+use native.Mathlib.Nat.{mul-pos, le_trans, mul-le-mul_right, div-mul-le_self}
+use native.Mathlib.{Omega.arith}
 use lib.{Dec.eqb, ListN.length, ListN.get_or, ListN.length-append, Pow.pow_pos}
-use borrow.Author.Tests.{not-false}
 use Rattle.lists.specs.Lists.{up_from, every}
 use Rattle.lists.proofs.Laws.{up_from_mem, every_more, every_fails}
 use Rattle.layouts.specs.Layouts.{divides, allowed_scheme, allowed_n, lg, Name, black, tile, tree, chains}
@@ -121,9 +120,6 @@ chain_room m h e = let b = chain_point h in omega (arith, b.0)
 
 -- ---- loops over a rule
 
-pub every_next : (p : ℕ → Bool) (s i x : ℕ) {r : Bool} → x ≡ s + i → every p (up_from s i) ≡ true → r ≡ p x → not r ≡ false → every p (up_from s (i + 1)) ≡ true
-every_next p s i x {r} e h q f = rw add-one (every_more p s i h (rw (← e, ← q) (not-false r f)))
-
 pub every_turn : (p : ℕ → Bool) (x : ℕ) {r : Bool} → 1 ≤ x → every p (up_from 1 (x - 1)) ≡ true → r ≡ p x → r ≡ true → every p (up_from 1 (x + 1 - 1)) ≡ true
 every_turn p x a h q f = let e : x + 1 - 1 ≡ suc (x - 1) = omega arith in let k : 1 + (x - 1) ≡ x = omega arith in rw e (every_more p 1 (x - 1) h (rw (k, ← q) f))
 
@@ -155,9 +151,3 @@ third s a f h = let b = allowed_scheme_is s a in omega arith
 
 pub weight_positive : (w l : ℕ) → w ≡ 2 ^ l → 0 < w
 weight_positive w l e = rw e (pow_pos l)
-
-pub product_fits : (n d k : ℕ) → k ≤ d / n → d ≤ 65536 → k * n < 2 ^ 32
-product_fits n d k l b = let u = interval_end n d k l in omega arith
-
-pub count_fits : (w d k : ℕ) → k < d / w → d ≤ 65536 → k + 1 < 2 ^ 32
-count_fits w d k l b = let u = div-le_self d w in omega arith

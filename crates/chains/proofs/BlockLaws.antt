@@ -1,5 +1,7 @@
 -- Links counted, and the blocks that they compress: two each.
-use mathlib.Core.Path.{◌≡◌, refl, ap, ◌∙◌}
+use mathlib.Core.Path.{◌≡◌, refl, sym, ap, ◌∙◌}
+use native.Mathlib.Numerals.{add-one}
+use mir.Val.{bool_byte}
 use mathlib.Core.Bool.{Bool, true, false, cond}
 use mathlib.Core.List.{List, [], ◌∷◌}
 use Prim.Native.Nat.{ℕ, zero, suc, ◌+◌, ◌*◌, ◌≤◌}
@@ -13,29 +15,9 @@ use Rattle.chains.specs.Step.{link_bytes, link_blocks, links_slot, slot_blocks, 
 
 -- ---- counted by a loop
 
-pub links_more : (s n g i : ℕ) {k x : ℕ} → k ≡ suc (slot_links s n g i) → x ≡ cond (links_slot s n g i) 1 0 → k + x ≡ suc (slot_links s n g (i + 1))
-links_more s n g i h e = let p : i + 1 ≡ suc i = omega arith in rw (p, h, e) (omega arith)
-
-pub links_done : (s n g i k : ℕ) → k ≡ suc (slot_links s n g i) → i ≡ 17 → k ≡ links_of s n g
-unfolding links_of
-links_done s n g i k h e = rw e at h
-
--- ---- scheme by scheme
-
-pub links_of_tile : (s n g : ℕ) {k : ℕ} → s ≡ 2 → k ≡ links_of 2 n g → k ≡ links_of s n g
-links_of_tile s n g e h = rw e h
-
-pub links_of_tree : (s n g : ℕ) → s ≡ 3 → 18 ≡ links_of s n g
-unfolding links_of
-links_of_tree s n g e = rw e
-
-pub links_of_black : (s n g : ℕ) → (s ≡ 2 → ⊥) → (s ≡ 3 → ⊥) → 1 ≡ links_of s n g
-unfolding links_of
-links_of_black zero n g h k = refl
-links_of_black (suc zero) n g h k = refl
-links_of_black (suc (suc zero)) n g h k = absurd (h refl)
-links_of_black (suc (suc (suc zero))) n g h k = absurd (k refl)
-links_of_black (suc (suc (suc (suc s)))) n g h k = refl
+pub links_more : (s n g i : ℕ) (b : Bool) {k x : ℕ} → k ≡ suc (slot_links s n g i) → b ≡ links_slot s n g i → x ≡ bool_byte b → k + x ≡ suc (slot_links s n g (i + 1))
+links_more s n g i true h e q = rw (add-one, h, q, sym e) (omega arith)
+links_more s n g i false h e q = rw (add-one, h, q, sym e) (omega arith)
 
 -- at most one for each slot
 pub one_link : (b : Bool) {x : ℕ} → x ≡ cond b 1 0 → x ≤ 1

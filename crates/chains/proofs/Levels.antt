@@ -1,7 +1,7 @@
 -- The slots 0 to 15 linked in lanes.
 -- Assumes nothing.
-use Prim.Native.Nat.{ℕ, zero, suc, ◌+◌, ◌≤◌, ◌<◌}
-use mathlib.Core.Path.{◌≡◌, refl, sym, ap, ◌∙◌}
+use Prim.Native.Nat.{ℕ, zero, suc, ◌+◌, ◌<◌}
+use mathlib.Core.Path.{◌≡◌, refl, ap, ◌∙◌}
 use mathlib.Core.List.{List, [], ◌∷◌}
 use native.Mathlib.Omega.{arith}
 use borrow.Author.Count.{below_more}
@@ -14,7 +14,7 @@ use Rattle.links.proofs.Links.{link_of_lem}
 use Rattle.chains.specs.declared.Value.{Value}
 use Rattle.chains.specs.Step.{linked, linked_slots}
 use Rattle.chains.specs.Private.{none, words_at, front_of, Fronts, link_each, levels_linked}
-use Rattle.chains.proofs.Slots.{upto, upto_next, upto_all}
+use Rattle.chains.proofs.Slots.{upto, upto_put, upto_all}
 
 -- an element that is there, whatever stands for one that is not
 any_default : (l : List Value) (i : ℕ) (y z : Value) → i < length l → get_or l i y ≡ get_or l i z
@@ -28,8 +28,8 @@ length_front v h = refl
 
 -- ---- the first blocks
 
-pub fronts_turn : (slots : List Value) (z : Value) (h : List ℕ) (j : ℕ) (w₀ w : List ℕ) {m q : List ℕ} → Through 16 (front_of slots h) j w₀ w
-    → m ≡ front (get_or slots j z).words h → q ≡ puts 16 w j m → j < 16 → length slots ≡ 17 → Through 16 (front_of slots h) (j + 1) w₀ q
+pub fronts_turn : (slots : List Value) (z : Value) (h : List ℕ) (j : ℕ) (w₀ w : List (List ℕ)) {m : List ℕ} {q : List (List ℕ)} → Through 16 (front_of slots h) j w₀ w
+    → m ≡ front (get_or slots j z).words h → q ≡ puts w j m → j < 16 → length slots ≡ 17 → Through 16 (front_of slots h) (j + 1) w₀ q
 fronts_turn slots z h j w₀ w {m} b em eq l n =
     through_next 16 (front_of slots h) j w₀ w m b eq (em ∙ ap (λ (v : Value). front v.words h) (any_default slots j z none (omega arith)))
     (ap length em ∙ length_front (get_or slots j z).words h) l
@@ -41,38 +41,25 @@ eight_more slots z j h e l n =
 
 -- ---- both blocks
 
-pub links_are : (slots : List Value) (h m s : List ℕ) → Fronts slots h m → Lanes 8 (link_of m h) s → length h ≡ 8 → (j : ℕ) → j < 16
-    → lane 8 s j ≡ (linked (get_or slots j none) h).words
+pub links_are : (slots : List Value) (h : List ℕ) (m s : List (List ℕ)) → Fronts slots h m → Lanes 8 (link_of m h) s → length h ≡ 8 → (j : ℕ) → j < 16
+    → lane s j ≡ (linked (get_or slots j none) h).words
 unfolding linked
 links_are slots h m s f ls lh j l = link_of_lem (words_at slots j) h (f.blocks_are.each j l) refl refl refl (ls.each j l) (f.eights j l) lh
 
 -- ---- the links as values, one by one
 
-upto_at : (z : Value) (f : ℕ → Value → Value) (j k : ℕ) (l : List Value) → get_or (upto f j k l) k z ≡ get_or l k z
-upto_at z f j zero l = refl
-upto_at z f j (suc k) [] = refl
-upto_at z f j (suc k) (x ∷ l) = upto_at z f (suc j) k l
-
 value_of : (v : Value) (h : List ℕ) {u : List ℕ} → u ≡ (linked v h).words → record { words = u } ≡ linked v h
 unfolding linked
 value_of v h e = rw e
 
-pub levels_next : (z : Value) (h s : List ℕ) (i : ℕ) (l r : List Value) {u : List ℕ} → r ≡ upto (link_each h) 0 i l → u ≡ lane 8 s i → lane 8 s i ≡ (linked (get_or l i none) h).words
-    → i < 16 → length l ≡ 17 → set r i (record { words = u }) ≡ upto (link_each h) 0 (i + 1) l
-unfolding linked
-levels_next z h s i l r e eu ls b n =
-    upto_next z (link_each h) i l r _ e
-    (value_of (get_or r i z) h
-    (eu ∙ ls ∙ ap (λ (v : Value). (linked v h).words)
-    (any_default l i none z (omega arith) ∙ sym (upto_at z (link_each h) 0 i l) ∙ ap (λ (x : List Value). get_or x i z) (sym e))))
-    (omega arith)
+pub levels_next : (h : List ℕ) (s : List (List ℕ)) (i : ℕ) (l r : List Value) {u : List ℕ} → r ≡ upto (link_each h) 0 i l → u ≡ lane s i → lane s i ≡ (linked (get_or l i none) h).words
+    → i < length l → set r i (record { words = u }) ≡ upto (link_each h) 0 (i + 1) l
+levels_next h s i l r e eu ls b = upto_put none (link_each h) i l r e (value_of (get_or l i none) h (eu ∙ ls)) b
 
-pub levels_done : (z : Value) (h : List ℕ) (i : ℕ) (l r : List Value) {w : Value} → r ≡ upto (link_each h) 0 i l → i ≤ 16 → 16 ≤ i → w ≡ linked (get_or r 16 z) h
+pub levels_done : (z : Value) (h : List ℕ) (i : ℕ) (l r : List Value) {w : Value} → r ≡ upto (link_each h) 0 i l → i ≡ 16 → w ≡ linked (get_or l 16 z) h
     → length l ≡ 17 → set r 16 w ≡ levels_linked h l
 unfolding levels_linked
-levels_done z h i l r e a b ew n =
-    let q : i ≡ 16 = omega arith in
-    upto_next z (link_each h) 16 l r _ (rw q at e) ew (omega arith) ∙ upto_all (link_each h) 0 17 l (omega arith)
+levels_done z h i l r e q ew n = upto_put z (link_each h) 16 l r (rw q at e) ew (omega arith) ∙ upto_all (link_each h) 0 17 l (omega arith)
 
 pub tree_linked : (s n g : ℕ) (h : List ℕ) (l : List Value) {r : List Value} → s ≡ 3 → r ≡ levels_linked h l → r ≡ linked_slots s n g h l
 unfolding levels_linked linked_slots

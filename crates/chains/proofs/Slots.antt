@@ -3,53 +3,19 @@ use mathlib.Core.Path.{◌≡◌, refl, sym, ap, ap₂, ◌∙◌}
 use mathlib.Core.Bool.{Bool, true, false, not, ◌&&◌, cond}
 use mathlib.Core.Logic.{◌⊎◌, inl, inr}
 use mathlib.Core.List.{List, [], ◌∷◌, map}
-use Prim.Native.Nat.{ℕ, zero, suc, pred, ◌+◌, ◌-◌, ◌%◌, ◌^◌, ◌≤◌, ◌<◌}
+use Prim.Native.Nat.{ℕ, zero, suc, ◌+◌, ◌%◌, ◌^◌, ◌≤◌, ◌<◌}
 use native.Mathlib.Omega.{arith}
+use native.Mathlib.Numerals.{add-one}
 use lib.Dec.{eqb, leb}
 use lib.ListN.{length, get_or, set, length-append, length-map}
 use lib.Pow.{pow-lt, pow_mono}
-use borrow.Author.Tests.{eqb-true, eq-eqb, ne_eqb, leb-true, leb-false, le-leb, lt-leb}
+use borrow.Author.Tests.{eqb-true, eq-eqb, leb-true, leb-false, lt-leb}
 use Rattle.lists.proofs.Laws.{split, bool_ext}
-use Rattle.layouts.specs.Layouts.{divides, allowed_scheme, lg, covers, black, tree, levels, stored_once, stores_black_of_tree, names_of_day}
-use Rattle.layouts.proofs.AllowedLaws.{allowed_scheme_is}
+use Rattle.layouts.specs.Layouts.{divides, lg, black, tree, levels, stored_once, stores_black_of_tree, names_of_day}
 use Rattle.layouts.proofs.Counts.{lg_unique, lg_bounds, power_of, of_power}
 use Rattle.chains.specs.declared.Value.{Value}
-use Rattle.chains.specs.Step.{links_slot, stores_slot, stores_black, link_slot, restart_slot, each, linked_slots, restarted}
-
--- ---- whether a day is linked to a slot
-
-pub links_above : (s n g i k : ℕ) → s ≡ 2 → k ≡ lg n → k < i → false ≡ links_slot s n g i
-links_above s n g i k e h l = rw (e, lt-leb i (lg n) (rw h at l))
-
-pub links_tile : (s n g i k : ℕ) {r : Bool} → s ≡ 2 → k ≡ lg n → i ≤ k → r ≡ covers n i ((g - 1) % n) → r ≡ links_slot s n g i
-links_tile s n g i k e h l q =
-    let p : g - 1 ≡ pred g = omega arith in
-    q ∙ ap (λ (x : ℕ). covers n i (x % n)) p ∙ rw (e, le-leb i (lg n) (rw h at l))
-
-pub links_other : (s n g i : ℕ) → (s ≡ 2 → ⊥) → eqb s 3 ≡ links_slot s n g i
-links_other zero n g i h = refl
-links_other (suc zero) n g i h = refl
-links_other (suc (suc zero)) n g i h = absurd (h refl)
-links_other (suc (suc (suc zero))) n g i h = refl
-links_other (suc (suc (suc (suc s)))) n g i h = ne_eqb (suc (suc (suc (suc s)))) 3 (λ e. omega arith)
-
--- ---- whether a slot's chain is a value
-
-pub stores_above : (s n g i k : ℕ) → s ≡ 2 → k ≡ lg n → k < i → false ≡ stores_slot s n g i
-stores_above s n g i k e h l = rw (e, lt-leb i (lg n) (rw h at l))
-
-pub stores_tile : (s n g i k : ℕ) → s ≡ 2 → k ≡ lg n → i ≤ k → eqb (g % n) 0 ≡ stores_slot s n g i
-stores_tile s n g i k e h l = rw (e, le-leb i (lg n) (rw h at l))
-
-pub stores_tree : (s n g i w : ℕ) → s ≡ 3 → w ≡ 2 ^ i → eqb (g % w) 0 ≡ stores_slot s n g i
-stores_tree s n g i w e h = rw (e, h)
-
-pub stores_none : (s n g i : ℕ) → (s ≡ 2 → ⊥) → (s ≡ 3 → ⊥) → false ≡ stores_slot s n g i
-stores_none zero n g i h k = refl
-stores_none (suc zero) n g i h k = refl
-stores_none (suc (suc zero)) n g i h k = absurd (h refl)
-stores_none (suc (suc (suc zero))) n g i h k = absurd (k refl)
-stores_none (suc (suc (suc (suc s)))) n g i h k = refl
+use Rattle.chains.specs.Private.{none}
+use Rattle.chains.specs.Step.{linked, links_slot, stores_slot, stores_black, link_slot, restart_slot, each, linked_slots, restarted}
 
 -- ---- whether black is a value of its own
 
@@ -65,20 +31,6 @@ once_power g p = bool_ext (stored_once g) (eqb (2 ^ lg g) g) forth (λ e. of_pow
 
     forth : stored_once g ≡ true → eqb (2 ^ lg g) g ≡ true
     forth e = is (power_of g e)
-
-pub black_off : (s n g : ℕ) → allowed_scheme s ≡ true → (g % n ≡ 0 → ⊥) → false ≡ stores_black s n g
-black_off zero n g a h = refl
-black_off (suc zero) n g a h = sym (ne_eqb (g % n) 0 h)
-black_off (suc (suc zero)) n g a h = sym (ne_eqb (g % n) 0 h)
-black_off (suc (suc (suc zero))) n g a h = rw (ne_eqb (g % n) 0 h)
-black_off (suc (suc (suc (suc s)))) n g a h = refl
-
-pub black_on : (s n g : ℕ) → allowed_scheme s ≡ true → g % n ≡ 0 → (s ≡ 3 → ⊥) → true ≡ stores_black s n g
-black_on zero n g a h k = let b = allowed_scheme_is 0 a in absurd (omega (arith, b.0))
-black_on (suc zero) n g a h k = sym (eq-eqb (g % n) 0 h)
-black_on (suc (suc zero)) n g a h k = sym (eq-eqb (g % n) 0 h)
-black_on (suc (suc (suc zero))) n g a h k = absurd (k refl)
-black_on (suc (suc (suc (suc s)))) n g a h k = let b = allowed_scheme_is (suc (suc (suc (suc s)))) a in absurd (omega (arith, b.1))
 
 pub black_tree : (s n g k w : ℕ) → s ≡ 3 → 1 ≤ g → g % n ≡ 0 → k ≡ lg g → w ≡ 2 ^ k → not (eqb w g) ≡ stores_black s n g
 black_tree s n g k w e p h q v = rw (e, eq-eqb (g % n) 0 h, once_power g p, v, q)
@@ -105,17 +57,44 @@ upto f j zero l = l
 upto f j (suc k) [] = []
 upto f j (suc k) (x ∷ l) = f j x ∷ upto f (suc j) k l
 
-upto_step : (z : Value) (f : ℕ → Value → Value) (j k : ℕ) (l : List Value) → k < length l → set (upto f j k l) k (f (j + k) (get_or (upto f j k l) k z)) ≡ upto f j (suc k) l
-upto_step z f j zero [] h = absurd (omega arith)
-upto_step z f j zero (x ∷ l) h = let e : j + 0 ≡ j = omega arith in rw e
-upto_step z f j (suc k) [] h = absurd (omega arith)
-upto_step z f j (suc k) (x ∷ l) h = let e : j + suc k ≡ suc j + k = omega arith in rw e (ap (λ (r : List Value). f j x ∷ r) (upto_step z f (suc j) k l (omega arith)))
+put_at : (z : Value) (f : ℕ → Value → Value) (j k : ℕ) (l : List Value) → k < length l → set (upto f j k l) k (f (j + k) (get_or l k z)) ≡ upto f j (suc k) l
+put_at z f j k [] h = absurd (omega arith)
+put_at z f j zero (x ∷ l) h = let e : j + 0 ≡ j = omega arith in rw e
+put_at z f j (suc k) (x ∷ l) h = let e : j + suc k ≡ suc j + k = omega arith in rw e (ap (λ (r : List Value). f j x ∷ r) (put_at z f (suc j) k l (omega arith)))
 
-pub upto_next : (z : Value) (f : ℕ → Value → Value) (i : ℕ) (l r : List Value) (w : Value) → r ≡ upto f 0 i l → w ≡ f i (get_or r i z) → i < length l → set r i w ≡ upto f 0 (i + 1) l
-upto_next z f i l r w e q h =
-    let p : i + 1 ≡ suc i = omega arith in
+keep_at : (z : Value) (f : ℕ → Value → Value) (j k : ℕ) (l : List Value) → f (j + k) (get_or l k z) ≡ get_or l k z → upto f j k l ≡ upto f j (suc k) l
+keep_at z f j zero [] h = refl
+keep_at z f j zero (x ∷ l) h = let e : j + 0 ≡ j = omega arith in ap (λ (v : Value). v ∷ l) (sym (rw e at h))
+keep_at z f j (suc k) [] h = refl
+keep_at z f j (suc k) (x ∷ l) h = let e : j + suc k ≡ suc j + k = omega arith in ap (λ (r : List Value). f j x ∷ r) (keep_at z f (suc j) k l (rw e at h))
+
+-- a turn of the loop: slot i is written, or stays as f leaves it
+pub upto_put : (z : Value) (f : ℕ → Value → Value) (i : ℕ) (l r : List Value) {w : Value} → r ≡ upto f 0 i l → w ≡ f i (get_or l i z) → i < length l → set r i w ≡ upto f 0 (i + 1) l
+upto_put z f i l r e q h =
     let o : 0 + i ≡ i = omega arith in
-    rw (p, q, e) (ap (λ (x : ℕ). set (upto f 0 i l) i (f x (get_or (upto f 0 i l) i z))) (sym o) ∙ upto_step z f 0 i l h)
+    rw (add-one, q, e) (ap (λ (x : ℕ). set (upto f 0 i l) i (f x (get_or l i z))) (sym o) ∙ put_at z f 0 i l h)
+
+upto_keep : (z : Value) (f : ℕ → Value → Value) (i : ℕ) (l r : List Value) → r ≡ upto f 0 i l → f i (get_or l i z) ≡ get_or l i z → r ≡ upto f 0 (i + 1) l
+upto_keep z f i l r e h =
+    let o : 0 + i ≡ i = omega arith in
+    rw add-one (e ∙ keep_at z f 0 i l (rw o h))
+
+-- slot i by the code's tests
+pub tile_put : (z : Value) (n g : ℕ) (h : List ℕ) (i : ℕ) (l r : List Value) (b : Bool) {w : Value} → r ≡ upto (link_slot 2 n g h) 0 i l → b ≡ links_slot 2 n g i → b ≡ true
+    → w ≡ linked (get_or l i z) h → i < length l → set r i w ≡ upto (link_slot 2 n g h) 0 (i + 1) l
+tile_put z n g h i l r b e t q ew k = upto_put z (link_slot 2 n g h) i l r e (rw (sym t ∙ q) ew) k
+
+pub tile_keep : (n g : ℕ) (h : List ℕ) (i : ℕ) (l r : List Value) (b : Bool) → r ≡ upto (link_slot 2 n g h) 0 i l → b ≡ links_slot 2 n g i → b ≡ false
+    → r ≡ upto (link_slot 2 n g h) 0 (i + 1) l
+tile_keep n g h i l r b e t q = upto_keep none (link_slot 2 n g h) i l r e (rw (sym t ∙ q))
+
+pub restart_put : (s n g : ℕ) (start : Value) (i : ℕ) (l r : List Value) (b : Bool) → r ≡ upto (restart_slot s n g start) 0 i l → b ≡ stores_slot s n g i → b ≡ true
+    → i < length l → set r i start ≡ upto (restart_slot s n g start) 0 (i + 1) l
+restart_put s n g start i l r b e t q k = upto_put none (restart_slot s n g start) i l r e (rw (sym t ∙ q)) k
+
+pub restart_keep : (s n g : ℕ) (start : Value) (i : ℕ) (l r : List Value) (b : Bool) → r ≡ upto (restart_slot s n g start) 0 i l → b ≡ stores_slot s n g i → b ≡ false
+    → r ≡ upto (restart_slot s n g start) 0 (i + 1) l
+restart_keep s n g start i l r b e t q = upto_keep none (restart_slot s n g start) i l r e (rw (sym t ∙ q))
 
 pub upto_all : (f : ℕ → Value → Value) (j k : ℕ) (l : List Value) → length l ≤ k → upto f j k l ≡ each f j l
 upto_all f j zero [] h = refl

@@ -20,8 +20,9 @@ use Rattle.layouts.proofs.Positions.{levels_run}
 use Rattle.chains.specs.declared.Value.{Value}
 use Rattle.chains.specs.declared.DayStep.{DayStep}
 use Rattle.chains.specs.Step.{linked, stores_black, linked_slots, restarted, current, day_values}
-use Rattle.chains.specs.Private.{DayLinked, Stepped}
-use Rattle.chains.proofs.Slots.{none_restarted, black_kept}
+use Rattle.chains.specs.Private.{DayLinked, Stepped, levels_linked}
+use Rattle.chains.proofs.Slots.{none_restarted, black_slots, black_kept}
+use Rattle.chains.proofs.Levels.{tree_linked}
 
 -- the names of a day: m of slots, in order, then black where it is a value of its own
 pub record InSlots (s n g : ℕ) : Type 0 where
@@ -155,6 +156,18 @@ chains_of_day-length s n g = length-map (names_of_day s n g) (covered_days n)
 pub day_linked : (s n g : ℕ) (old : Value) (slots : List Value) (h : List ℕ) {b : Value} {l : List Value} {k : ℕ} → k ≡ length (chains_of_day s n g) → b ≡ linked old h → l ≡ linked_slots s n g h slots →
     DayLinked s n g old slots h (record { black = b; slots = l; count = k })
 day_linked s n g old slots h ek eb el = record { black_is = eb; slots_are = el; count_is = ek ∙ chains_of_day-length s n g }
+
+-- scheme by scheme
+pub day_tree : (s n g : ℕ) (old : Value) (slots : List Value) (h : List ℕ) {b : Value} {l : List Value} {k : ℕ} → s ≡ 3 → k ≡ length (chains_of_day s n g) → b ≡ linked old h
+    → l ≡ levels_linked h slots → DayLinked s n g old slots h (record { black = b; slots = l; count = k })
+day_tree s n g old slots h es ek eb el = day_linked s n g old slots h ek eb (tree_linked s n g h slots es el)
+
+pub day_black : (s n g : ℕ) (old : Value) (slots : List Value) (h : List ℕ) {b : Value} {k : ℕ} → allowed_scheme s ≡ true → (s ≡ 2 → ⊥) → (s ≡ 3 → ⊥) → k ≡ length (chains_of_day s n g)
+    → b ≡ linked old h → DayLinked s n g old slots h (record { black = b; slots = slots; count = k })
+day_black s n g old slots h a two three ek eb =
+    let r = allowed_scheme_is s a in
+    let one : s ≡ 1 = omega (arith, two, three) in
+    day_linked s n g old slots h ek eb (rw one (black_slots n g h slots))
 
 -- and started again: on a day that has values, and on one that has none
 pub day_ended : (s n g : ℕ) (start old : Value) (slots : List Value) (h : List ℕ) (d : DayStep) {next : List Value} → DayLinked s n g old slots h d → next ≡ restarted s n g start d.slots →

@@ -32,7 +32,7 @@ abbrev pub front_of : List Value → List ℕ → ℕ → List ℕ
 front_of slots h j = front (words_at slots j) h
 
 -- r has the first block of the link of slot j in lane j
-pub record Fronts (slots : List Value) (h r : List ℕ) : Type 0 where
+pub record Fronts (slots : List Value) (h : List ℕ) (r : List (List ℕ)) : Type 0 where
   pub blocks_are : Lanes 16 (front_of slots h) r
   pub eights : (j : ℕ) → j < 16 → length (words_at slots j) ≡ 8
 

@@ -11,6 +11,8 @@ ghost use Rattle.prepared.specs.Private.{Prepared};
 ghost use Rattle.links.specs.Private.{front, back};
 ghost use Rattle.chains.specs.Private.{DayLinked, Fronts, levels_linked};
 
+use lanes::Rows;
+
 #[derive(Clone, Copy)]
 pub struct Value {
     pub words: [u32; 8],
@@ -37,23 +39,23 @@ pub fn start(scheme: u32, n: u32) -> Value
 }
 
 // A value linked to the digest h.
+#[tactic(auto, unfolding(crate::specs::Step::linked))]
 pub fn link_value(v: Value, h: [u32; 8]) -> Value
     ensures { result ≡ linked v h }
 {
-    let w = v.words;
     Value {
-        words: links::link_words(w, h),
+        words: links::link_words(v.words, h),
     }
 }
 
 // The same, with the second block of every link to h prepared.
+#[tactic(auto, unfolding(crate::specs::Step::linked))]
 pub fn link_by(v: Value, h: [u32; 8], t: &[u32; 64]) -> Value
     requires { Prepared (back h) t.now }
     ensures { result ≡ linked v h }
 {
-    let w = v.words;
     Value {
-        words: links::link_by(w, h, t),
+        words: links::link_by(v.words, h, t),
     }
 }
 
@@ -61,123 +63,65 @@ fn links_slot(scheme: u32, n: u32, g: u32, i: u32) -> bool
     requires { (allowed_n n ≡ true) × (1 ≤ g) }
     ensures { result ≡ links_slot scheme n g i }
 {
-    if scheme == 2 {
-        if layouts::lg(n) < i {
-            return false;
-        }
-        return layouts::covers(n, i, (g - 1) % n);
+    match scheme {
+        2 => i <= layouts::lg(n) && layouts::covers(n, i, (g - 1) % n),
+        3 => true,
+        _ => false,
     }
-    scheme == 3
-}
-
-// 1 if day g is linked to slot i, else 0.
-fn links_to(scheme: u32, n: u32, g: u32, i: u32) -> u32
-    requires { (allowed_n n ≡ true) × (1 ≤ g) }
-    ensures { result ≡ cond (links_slot scheme n g i) 1 0 }
-{
-    if links_slot(scheme, n, g, i) {
-        return 1;
-    }
-    0
 }
 
 // How often day g is linked under scheme 2: to black, and to the slots of tile chains that cover it.
+#[tactic(auto, using(crate::proofs::BlockLaws::slot_links_most), unfolding(crate::specs::Step::links_of))]
 fn tile_link_count(n: u32, g: u32) -> u32
     requires { (allowed_n n ≡ true) × (1 ≤ g) }
     ensures { result ≡ links_of 2 n g }
 {
-    let mut k = 1u32;
-    let mut i = 0u32;
-    while i < 17 {
-        k += links_to(2, n, g, i);
-        i += 1;
+    let mut links = 1;
+    for i in 0..17 {
+        links += u32::from(links_slot(2, n, g, i));
     }
-    k
+    links
 }
 
 // How often day g is linked (SPEC 17.2): to black, to tile chains, to the levels of the tree.
+#[tactic(auto, unfolding(crate::specs::Step::links_of))]
 pub fn link_count(scheme: u32, n: u32, g: u32) -> u32
     requires { (allowed_n n ≡ true) × (1 ≤ g) }
     ensures { result ≡ links_of scheme n g }
 {
-    if scheme == 2 {
-        return tile_link_count(n, g);
+    match scheme {
+        2 => tile_link_count(n, g),
+        3 => 18,
+        _ => 1,
     }
-    if scheme == 3 {
-        return 18;
-    }
-    1
 }
 
 fn stores_slot(scheme: u32, n: u32, g: u32, i: u32) -> bool
     requires { (allowed_n n ≡ true) × (i ≤ 16) }
     ensures { result ≡ stores_slot scheme n g i }
 {
-    if scheme == 2 {
-        if layouts::lg(n) < i {
-            return false;
-        }
-        return g % n == 0;
+    match scheme {
+        2 => i <= layouts::lg(n) && g % n == 0,
+        3 => g % layouts::size(i) == 0,
+        _ => false,
     }
-    if scheme == 3 {
-        return g % layouts::size(i) == 0;
-    }
-    false
 }
 
+#[tactic(auto, using(crate::proofs::Slots::lg_day, crate::proofs::Slots::black_tree))]
 fn stores_black(scheme: u32, n: u32, g: u32) -> bool
     requires { (allowed_scheme scheme ≡ true) × (allowed_n n ≡ true) × (1 ≤ g) × (g ≤ book_limit) }
     ensures { result ≡ stores_black scheme n g }
 {
-    if g % n != 0 {
-        return false;
-    }
-    if scheme != 3 {
-        return true;
-    }
-    layouts::size(layouts::lg(g)) != g
-}
-
-// Slot i of a tile chain, linked if the chain covers day g.
-fn tile_linked(n: u32, g: u32, i: usize, v: Value, h: [u32; 8], t: &[u32; 64]) -> Value
-    requires { (allowed_n n ≡ true) × (1 ≤ g) × (i < 17) × Prepared (back h) t.now }
-    ensures { result ≡ link_slot 2 n g h i v }
-{
-    if links_slot(2, n, g, i as u32) {
-        return link_by(v, h, t);
-    }
-    v
-}
-
-fn slot_restarted(scheme: u32, n: u32, g: u32, start: Value, i: usize, v: Value) -> Value
-    requires { (allowed_n n ≡ true) × (i < 17) }
-    ensures { result ≡ restart_slot scheme n g start i v }
-{
-    if stores_slot(scheme, n, g, i as u32) {
-        return start;
-    }
-    v
-}
-
-// The first block of the link of a value.
-fn front_of(v: Value, h: [u32; 8]) -> [u32; 16]
-    ensures { (result ≡ front v.words h) × (length v.words ≡ 8) }
-{
-    let w = v.words;
-    links::front(w, h)
+    g % n == 0 && (scheme != 3 || layouts::size(layouts::lg(g)) != g)
 }
 
 // The first blocks of the links of the slots 0 to 15, in lanes.
-fn fronts(slots: [Value; 17], h: [u32; 8]) -> [u32; 256]
+fn fronts(slots: [Value; 17], h: [u32; 8]) -> Rows<16>
     ensures { Fronts slots h result }
 {
-    let mut w = [0u32; 256];
-    let mut j = 0usize;
-    while j < 16 {
-        let v = slots[j];
-        let m = front_of(v, h);
-        lanes::put_block(&mut w, j, m);
-        j += 1;
+    let mut w = [[0; 16]; 16];
+    for j in 0..16 {
+        lanes::put(&mut w, j, links::front(slots[j].words, h));
     }
     w
 }
@@ -188,15 +132,12 @@ pub fn link_levels(slots: [Value; 17], h: [u32; 8]) -> [Value; 17]
 {
     let s = links::link_lanes(fronts(slots, h), h);
     let mut r = slots;
-    let mut i = 0usize;
-    while i < 16 {
-        let u = lanes::state(&s, i);
-        r[i] = Value { words: u };
-        i += 1;
+    for i in 0..16 {
+        r[i] = Value {
+            words: lanes::state(&s, i),
+        };
     }
-    let v = r[16];
-    let w = link_value(v, h);
-    r[16] = w;
+    r[16] = link_value(slots[16], h);
     r
 }
 
@@ -206,12 +147,10 @@ pub fn restart_slots(scheme: u32, n: u32, g: u32, start: Value, slots: [Value; 1
     ensures { result ≡ restarted scheme n g start slots }
 {
     let mut r = slots;
-    let mut i = 0usize;
-    while i < 17 {
-        let v = r[i];
-        let w = slot_restarted(scheme, n, g, start, i, v);
-        r[i] = w;
-        i += 1;
+    for i in 0..17 {
+        if stores_slot(scheme, n, g, i) {
+            r[i as usize] = start;
+        }
     }
     r
 }
@@ -231,8 +170,7 @@ pub fn day_values(
 {
     let mut r = slots;
     if stores_black(scheme, n, g) {
-        let at = (k - 1) as usize;
-        r[at] = black;
+        r[k as usize - 1] = black;
     }
     r
 }
@@ -242,28 +180,25 @@ pub fn link_tiles(n: u32, g: u32, slots: [Value; 17], h: [u32; 8], t: &[u32; 64]
     requires { (allowed_n n ≡ true) × (1 ≤ g) × Prepared (back h) t.now }
     ensures { result ≡ linked_slots 2 n g h slots }
 {
-    let m = layouts::lg(n) as usize + 1;
     let mut r = slots;
-    let mut i = 0usize;
-    while i < m {
-        let v = r[i];
-        let w = tile_linked(n, g, i, v, h, t);
-        r[i] = w;
-        i += 1;
+    for i in 0..=layouts::lg(n) {
+        if links_slot(2, n, g, i) {
+            r[i as usize] = link_by(slots[i as usize], h, t);
+        }
     }
     r
 }
 
 // Day g under scheme 2. The second block of a link depends on the digest alone, so it is prepared once for all.
-fn tile_step(n: u32, g: u32, k: u32, black: Value, slots: [Value; 17], h: [u32; 8]) -> DayStep
-    requires { (allowed_n n ≡ true) × (1 ≤ g) × (k ≡ length (chains_of_day 2 n g)) }
+fn tile_step(n: u32, g: u32, count: u32, black: Value, slots: [Value; 17], h: [u32; 8]) -> DayStep
+    requires { (allowed_n n ≡ true) × (1 ≤ g) × (count ≡ length (chains_of_day 2 n g)) }
     ensures { DayLinked 2 n g black slots h result }
 {
     let t = links::tail(h);
     DayStep {
         black: link_by(black, h, &t),
         slots: link_tiles(n, g, slots, h, &t),
-        count: k,
+        count,
     }
 }
 
@@ -274,21 +209,18 @@ pub fn step(scheme: u32, n: u32, g: u32, black: Value, slots: [Value; 17], h: [u
     requires { (allowed_scheme scheme ≡ true) × (allowed_n n ≡ true) × (1 ≤ g) × (g ≤ book_limit) }
     ensures { DayLinked scheme n g black slots h result }
 {
-    let k = layouts::values_of_day(scheme, n, g);
-    if scheme == 2 {
-        return tile_step(n, g, k, black, slots, h);
-    }
-    let b = link_value(black, h);
-    if scheme == 3 {
-        return DayStep {
-            black: b,
+    let count = layouts::values_of_day(scheme, n, g);
+    match scheme {
+        2 => tile_step(n, g, count, black, slots, h),
+        3 => DayStep {
+            black: link_value(black, h),
             slots: link_levels(slots, h),
-            count: k,
-        };
-    }
-    DayStep {
-        black: b,
-        slots,
-        count: k,
+            count,
+        },
+        _ => DayStep {
+            black: link_value(black, h),
+            slots,
+            count,
+        },
     }
 }

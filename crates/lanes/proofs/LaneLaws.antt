@@ -1,170 +1,152 @@
--- Laws of lanes: their words, lists with the same lanes, a lane put into rows, and a loop over all lanes.
+-- Laws of lanes: their words, rows with given lanes, a lane put into rows, and a loop over all lanes.
 -- Assumes nothing.
-use Prim.Native.Nat.{ℕ, zero, suc, ◌+◌, ◌*◌, ◌/◌, ◌%◌, ◌≤◌, ◌<◌}
-use mathlib.Core.{Path.◌≡◌, Path.refl, Path.sym, Path.ap, Path.◌∙◌, List.List, List.map, Logic.⊎_elim}
-use native.Mathlib.{Omega.arith, Nat.eq-or-lt_of_le, Nat.le_of_suc-le-suc}
-use lib.ListN.{length, get_or, set, length-set, length-map}
-use lib.Seq.{get_or-set_same, get_or-set_other, ext_get_or}
+use Prim.Native.Nat.{ℕ, zero, suc, ◌+◌, ◌≤◌, ◌<◌}
+use mathlib.Core.{Path.◌≡◌, Path.refl, Path.sym, Path.ap, Path.◌∙◌, List.List, List.[], List.◌∷◌, List.map, Logic.⊎_elim}
+use native.Mathlib.{Omega.arith, Numerals.add-one, Nat.eq-or-lt_of_le}
+use lib.ListN.{length, get_or, set, take, get_or-map, length-map, length-set}
+use lib.Seq.{ext_get_or, get_or-set_same, get_or-set_other}
+use mir.Syntax.{w32}
+use mir.Val.{Val}
+use denote.Shadow.{shadow}
+use denote.Array.{each}
+use borrow.Kind.Array.{e_int, e_arr}
 use Rattle.lists.specs.Lists.{up_from}
 use Rattle.lists.proofs.Laws.{length-up_from}
-use Rattle.lanes.specs.Lanes.{word_of, lane, place_of, rows}
-use Rattle.lanes.specs.Private.{puts, fills, Lanes}
+use Rattle.lanes.specs.Lanes.{word_of, lane, row_of, rows}
+use Rattle.lanes.specs.Private.{puts, Wide, Lanes}
 
 -- ---- words of lanes and of rows
 
-at_map : (g : ℕ → ℕ) (i n k : ℕ) → k < n → get_or (map g (up_from i n)) k 0 ≡ g (i + k)
-at_map g i zero k l = absurd (omega arith)
-at_map g i (suc n) zero l = let e : i + 0 ≡ i = omega arith in rw e
-at_map g i (suc n) (suc k) l = let e : i + suc k ≡ suc i + k = omega arith in rw e (at_map g (suc i) n k (omega arith))
+pub length_lane : (l : List (List ℕ)) (j : ℕ) → length (lane l j) ≡ length l
+unfolding lane
+length_lane l j = length-map l (word_of j)
 
-made : (g : ℕ → ℕ) (n k : ℕ) → k < n → get_or (map g (up_from 0 n)) k 0 ≡ g k
-made g n k l = let e : 0 + k ≡ k = omega arith in at_map g 0 n k l ∙ ap g e
+pub at_lane : (l : List (List ℕ)) (j i : ℕ) → get_or (lane l j) i 0 ≡ get_or (get_or l i []) j 0
+unfolding lane
+at_lane l j i = get_or-map (word_of j) l i []
 
-length_made : (g : ℕ → ℕ) (n : ℕ) → length (map g (up_from 0 n)) ≡ n
+made_from : {A : Type 0} (g : ℕ → A) (i n k : ℕ) (d : A) → k < n → get_or (map g (up_from i n)) k d ≡ g (i + k)
+made_from g i zero k d l = absurd (omega arith)
+made_from g i (suc n) zero d l = let e : i + 0 ≡ i = omega arith in rw e
+made_from g i (suc n) (suc k) d l = let e : i + suc k ≡ suc i + k = omega arith in rw e (made_from g (suc i) n k d (omega arith))
+
+made : {A : Type 0} (g : ℕ → A) (n k : ℕ) (d : A) → k < n → get_or (map g (up_from 0 n)) k d ≡ g k
+made g n k d l = let e : 0 + k ≡ k = omega arith in made_from g 0 n k d l ∙ ap g e
+
+length_made : {A : Type 0} (g : ℕ → A) (n : ℕ) → length (map g (up_from 0 n)) ≡ n
 length_made g n = length-map (up_from 0 n) g ∙ length-up_from 0 n
 
-pub length_lane : (n : ℕ) (l : List ℕ) (j : ℕ) → length (lane n l j) ≡ n
-unfolding lane
-length_lane n l j = length_made (word_of l j) n
-
-pub at_lane : (n : ℕ) (l : List ℕ) (j i : ℕ) → i < n → get_or (lane n l j) i 0 ≡ get_or l (i * 16 + j) 0
-unfolding lane
-at_lane n l j i h = made (word_of l j) n i h
-
-pub length_rows : (n : ℕ) (f : ℕ → List ℕ) → length (rows n f) ≡ n * 16
+pub length_rows : (n : ℕ) (f : ℕ → List ℕ) → length (rows n f) ≡ n
 unfolding rows
-length_rows n f = length_made (place_of f) (n * 16)
+length_rows n f = length_made (row_of f) n
 
-at_rows : (n : ℕ) (f : ℕ → List ℕ) (p : ℕ) → p < n * 16 → get_or (rows n f) p 0 ≡ get_or (f (p % 16)) (p / 16) 0
+at_row : (n : ℕ) (f : ℕ → List ℕ) (i : ℕ) → i < n → get_or (rows n f) i [] ≡ row_of f i
 unfolding rows
-at_rows n f p h = made (place_of f) (n * 16) p h
+at_row n f i h = made (row_of f) n i [] h
 
--- ---- lists with the same lanes
+at_rows : (n : ℕ) (f : ℕ → List ℕ) (i j : ℕ) → i < n → j < 16 → get_or (get_or (rows n f) i []) j 0 ≡ get_or (f j) i 0
+at_rows n f i j h l = ap (λ (r : List ℕ). get_or r j 0) (at_row n f i h) ∙ made (λ (k : ℕ). get_or (f k) i 0) 16 j 0 l
 
-pub lane_same : (n : ℕ) (l v : List ℕ) (j : ℕ) → length v ≡ n → ((i : ℕ) → i < n → get_or l (i * 16 + j) 0 ≡ get_or v i 0) → lane n l j ≡ v
-lane_same n l v j e h = ext_get_or 0 (lane n l j) v (length_lane n l j ∙ sym e)
-    (λ i k. let b : i < n = omega (arith, length_lane n l j) in at_lane n l j i b ∙ h i b)
+-- ---- rows with given lanes
 
-pub lane_read : (n : ℕ) (l : List ℕ) (j : ℕ) (v : List ℕ) (i : ℕ) → ((q : ℕ) → q < i → get_or v q 0 ≡ word_of l j q) → n ≤ i → length v ≡ n → v ≡ lane n l j
-lane_read n l j v i h b e = sym (lane_same n l v j e (λ q k. sym (h q (omega arith))))
+-- that an array's rows are arrays of sixteen words, as its type says
+pub wide_by_type : (l : List (List ℕ)) (us : List Val) → shadow (each (List ℕ) (e_arr (e_int w32) 16).ty.own_val l us) → Wide l
+wide_by_type [] us h = tt
+wide_by_type (r ∷ l) [] h = absurd h
+wide_by_type (r ∷ l) (u ∷ us) h = (h.0.1.0.1, wide_by_type l us h.1)
 
-pub lane_rows : (n : ℕ) (f : ℕ → List ℕ) (j : ℕ) → j < 16 → length (f j) ≡ n → lane n (rows n f) j ≡ f j
-lane_rows n f j h e = lane_same n (rows n f) (f j) j e
-    (λ i b. let x : (i * 16 + j) % 16 ≡ j = omega arith in let y : (i * 16 + j) / 16 ≡ i = omega arith in
-    at_rows n f (i * 16 + j) (omega arith) ∙ rw (x, y))
+pub lane_rows : (n : ℕ) (f : ℕ → List ℕ) (j : ℕ) → j < 16 → length (f j) ≡ n → lane (rows n f) j ≡ f j
+lane_rows n f j h e =
+    let s : length (lane (rows n f) j) ≡ n = length_lane (rows n f) j ∙ length_rows n f in
+    ext_get_or 0 (lane (rows n f) j) (f j) (s ∙ sym e)
+    (λ i b. at_lane (rows n f) j i ∙ at_rows n f i j (omega (arith, s)) h)
 
--- the word at a place, by its lane
-pub at_place : (n : ℕ) (l : List ℕ) (p : ℕ) → p < n * 16 → get_or l p 0 ≡ get_or (lane n l (p % 16)) (p / 16) 0
-at_place n l p h =
-    let e : p / 16 * 16 + p % 16 ≡ p = omega arith in
-    ap (λ (q : ℕ). get_or l q 0) (sym e) ∙ sym (at_lane n l (p % 16) (p / 16) (omega arith))
+pub lane_read : (s : List (List ℕ)) (j : ℕ) (v : List ℕ) → length v ≡ length s → ((i : ℕ) → i < length s → get_or v i 0 ≡ get_or (get_or s i []) j 0) → v ≡ lane s j
+lane_read s j v e h = ext_get_or 0 v (lane s j) (e ∙ sym (length_lane s j)) (λ i b. h i (omega (arith, e)) ∙ sym (at_lane s j i))
 
-pub by_lanes : (n : ℕ) (f : ℕ → List ℕ) (l : List ℕ) → Lanes n f l → l ≡ rows n f
-by_lanes n f l h = ext_get_or 0 l (rows n f) (h.size ∙ sym (length_rows n f))
-    (λ p b. let q : p < n * 16 = omega (arith, h.size) in
-    at_place n l p q ∙ ap (λ (v : List ℕ). get_or v (p / 16) 0) (h.each (p % 16) (omega arith)) ∙ sym (at_rows n f p q))
+width : (l : List (List ℕ)) (i : ℕ) → Wide l → i < length l → length (get_or l i []) ≡ 16
+width [] i w h = absurd (omega arith)
+width (r ∷ l) zero w h = w.0
+width (r ∷ l) (suc i) w h = width l i w.1 (omega arith)
+
+pub by_lanes : (n : ℕ) (f : ℕ → List ℕ) (l : List (List ℕ)) → Wide l → Lanes n f l → l ≡ rows n f
+by_lanes n f l w h = ext_get_or [] l (rows n f) (h.size ∙ sym (length_rows n f))
+    (λ i b. let c : i < n = omega (arith, h.size) in
+    let wide : length (get_or l i []) ≡ 16 = width l i w b in
+    ext_get_or 0 (get_or l i []) (get_or (rows n f) i []) (wide ∙ sym (ap length (at_row n f i c) ∙ length_made (λ (k : ℕ). get_or (f k) i 0) 16))
+    (λ j d. let k : j < 16 = omega (arith, wide) in
+    sym (at_lane l j i) ∙ ap (λ (v : List ℕ). get_or v i 0) (h.each j k) ∙ sym (at_rows n f i j c k)))
 
 -- ---- a lane put into rows
 
-pub length_puts : (n : ℕ) (s : List ℕ) (j : ℕ) (v : List ℕ) → length (puts n s j v) ≡ length s
+pub length_puts : (l : List (List ℕ)) (j : ℕ) (v : List ℕ) → length (puts l j v) ≡ length l
 unfolding puts
-length_puts zero s j v = refl
-length_puts (suc n) s j v = rw length-set (length_puts n s j v)
+length_puts [] j v = refl
+length_puts (r ∷ l) j [] = refl
+length_puts (r ∷ l) j (x ∷ v) = ap suc (length_puts l j v)
 
-puts_in : (n : ℕ) (s : List ℕ) (j : ℕ) (v : List ℕ) (i : ℕ) → i < n → j < 16 → n * 16 ≤ length s → get_or (puts n s j v) (i * 16 + j) 0 ≡ get_or v i 0
+wide_puts : (l : List (List ℕ)) (j : ℕ) (v : List ℕ) → Wide l → Wide (puts l j v)
 unfolding puts
-puts_in zero s j v i l h b = absurd (omega arith)
-puts_in (suc n) s j v i l h b = ⊎_elim
-    (λ e. rw e (get_or-set_same (puts n s j v) (n * 16 + j) (get_or v n 0) 0 (omega (arith, length_puts n s j v))))
-    (λ k. get_or-set_other (puts n s j v) (n * 16 + j) (i * 16 + j) (get_or v n 0) 0 (λ e. omega arith) ∙ puts_in n s j v i k h (omega arith))
-    (eq-or-lt_of_le (le_of_suc-le-suc l))
+wide_puts [] j v w = w
+wide_puts (r ∷ l) j [] w = w
+wide_puts (r ∷ l) j (x ∷ v) w = (length-set r j x ∙ w.0, wide_puts l j v w.1)
 
-puts_off : (n : ℕ) (s : List ℕ) (j : ℕ) (v : List ℕ) (i k : ℕ) → j < 16 → k < 16 → (k ≡ j → ⊥) → get_or (puts n s j v) (i * 16 + k) 0 ≡ get_or s (i * 16 + k) 0
-unfolding puts
-puts_off zero s j v i k h l ne = refl
-puts_off (suc n) s j v i k h l ne =
-    get_or-set_other (puts n s j v) (n * 16 + j) (i * 16 + k) (get_or v n 0) 0 (λ e. ne (omega arith)) ∙ puts_off n s j v i k h l ne
+put_lane : (l : List (List ℕ)) (j : ℕ) (v : List ℕ) → j < 16 → Wide l → length v ≡ length l → lane (puts l j v) j ≡ v
+unfolding puts lane
+put_lane [] j [] h w e = refl
+put_lane [] j (x ∷ v) h w e = absurd (omega arith)
+put_lane (r ∷ l) j [] h w e = absurd (omega arith)
+put_lane (r ∷ l) j (x ∷ v) h w e =
+    rw (get_or-set_same r j x 0 (omega (arith, w.0))) (ap (λ (u : List ℕ). x ∷ u) (put_lane l j v h w.1 (omega arith)))
 
-pub put_lane : (n : ℕ) (s : List ℕ) (j : ℕ) (v : List ℕ) → j < 16 → length s ≡ n * 16 → length v ≡ n → lane n (puts n s j v) j ≡ v
-put_lane n s j v h e l = lane_same n (puts n s j v) v j l (λ i b. puts_in n s j v i b h (omega arith))
-
-pub put_other : (n : ℕ) (s : List ℕ) (j : ℕ) (v : List ℕ) (k : ℕ) → j < 16 → k < 16 → (k ≡ j → ⊥) → lane n (puts n s j v) k ≡ lane n s k
-put_other n s j v k h l ne = lane_same n (puts n s j v) (lane n s k) k (length_lane n s k)
-    (λ i b. puts_off n s j v i k h l ne ∙ sym (at_lane n s k i b))
+put_other : (l : List (List ℕ)) (j : ℕ) (v : List ℕ) (k : ℕ) → (k ≡ j → ⊥) → lane (puts l j v) k ≡ lane l k
+unfolding puts lane
+put_other [] j v k n = refl
+put_other (r ∷ l) j [] k n = refl
+put_other (r ∷ l) j (x ∷ v) k n =
+    rw (get_or-set_other r j k x 0 n) (ap (λ (u : List ℕ). get_or r k 0 ∷ u) (put_other l j v k n))
 
 -- the loop of a put
-pub puts_none : (s : List ℕ) (j : ℕ) (v : List ℕ) → s ≡ puts 0 s j v
+pub puts_none : (l : List (List ℕ)) (j : ℕ) → l ≡ puts l j []
 unfolding puts
-puts_none s j v = refl
+puts_none [] j = refl
+puts_none (r ∷ l) j = refl
 
-pub puts_next : (i : ℕ) (s : List ℕ) (j : ℕ) (v : List ℕ) {r : List ℕ} → r ≡ puts i s j v → set r (i * 16 + j) (get_or v i 0) ≡ puts (i + 1) s j v
+puts_more : (l : List (List ℕ)) (j : ℕ) (v : List ℕ) (i : ℕ) → i < length l → i < length v
+    → set (puts l j (take i v)) i (set (get_or (puts l j (take i v)) i []) j (get_or v i 0)) ≡ puts l j (take (suc i) v)
 unfolding puts
-puts_next i s j v e = let q : i + 1 ≡ suc i = omega arith in rw (q, e)
+puts_more [] j v i h b = absurd (omega arith)
+puts_more (r ∷ l) j [] i h b = absurd (omega arith)
+puts_more (r ∷ l) j (x ∷ v) zero h b = ap (λ (u : List (List ℕ)). set r j x ∷ u) (puts_none l j)
+puts_more (r ∷ l) j (x ∷ v) (suc i) h b = ap (λ (u : List (List ℕ)). set r j x ∷ u) (puts_more l j v i (omega arith) (omega arith))
 
-pub puts_all : (n : ℕ) (s : List ℕ) (j : ℕ) (v : List ℕ) (i : ℕ) {r : List ℕ} → r ≡ puts i s j v → i ≤ n → n ≤ i → r ≡ puts n s j v
-puts_all n s j v i e a b = let q : i ≡ n = omega arith in rw q at e
-
--- ---- a row filled with one word
-
-pub length_fills : (n : ℕ) (s : List ℕ) (a x : ℕ) → length (fills n s a x) ≡ length s
-unfolding fills
-length_fills zero s a x = refl
-length_fills (suc n) s a x = rw length-set (length_fills n s a x)
-
-pub fills_in : (n : ℕ) (s : List ℕ) (a x i : ℕ) → i < n → a + n ≤ length s → get_or (fills n s a x) (a + i) 0 ≡ x
-unfolding fills
-fills_in zero s a x i l b = absurd (omega arith)
-fills_in (suc n) s a x i l b = ⊎_elim
-    (λ e. rw e (get_or-set_same (fills n s a x) (a + n) x 0 (omega (arith, length_fills n s a x))))
-    (λ k. get_or-set_other (fills n s a x) (a + n) (a + i) x 0 (λ e. omega arith) ∙ fills_in n s a x i k (omega arith))
-    (eq-or-lt_of_le (le_of_suc-le-suc l))
-
-pub fills_before : (n : ℕ) (s : List ℕ) (a x q : ℕ) → q < a → get_or (fills n s a x) q 0 ≡ get_or s q 0
-unfolding fills
-fills_before zero s a x q l = refl
-fills_before (suc n) s a x q l = get_or-set_other (fills n s a x) (a + n) q x 0 (λ e. omega arith) ∙ fills_before n s a x q l
-
-pub fills_none : (s : List ℕ) (a x : ℕ) → s ≡ fills 0 s a x
-unfolding fills
-fills_none s a x = refl
-
-pub fills_next : (i : ℕ) (s : List ℕ) (a x : ℕ) {r : List ℕ} → r ≡ fills i s a x → set r (a + i) x ≡ fills (i + 1) s a x
-unfolding fills
-fills_next i s a x e = let q : i + 1 ≡ suc i = omega arith in rw (q, e)
-
-pub fills_all : (n : ℕ) (s : List ℕ) (a x i : ℕ) {r : List ℕ} → r ≡ fills i s a x → i ≤ n → n ≤ i → r ≡ fills n s a x
-fills_all n s a x i e l h = let q : i ≡ n = omega arith in rw q at e
+pub puts_next : (l : List (List ℕ)) (j : ℕ) (v : List ℕ) (i : ℕ) {r : List (List ℕ)} → r ≡ puts l j (take i v) → i < length l → i < length v
+    → set r i (set (get_or r i []) j (get_or v i 0)) ≡ puts l j (take (i + 1) v)
+puts_next l j v i e h b = rw (add-one, e) (puts_more l j v i h b)
 
 -- ---- a loop over all lanes: those below j are f's, the others are as they were
 
-pub record Through (n : ℕ) (f : ℕ → List ℕ) (j : ℕ) (s r : List ℕ) : Type 0 where
-  pub size : length r ≡ n * 16
-  pub done : (i : ℕ) → i < j → lane n r i ≡ f i
-  pub kept : (i : ℕ) → j ≤ i → i < 16 → lane n r i ≡ lane n s i
+pub record Through (n : ℕ) (f : ℕ → List ℕ) (j : ℕ) (s r : List (List ℕ)) : Type 0 where
+  pub size : length r ≡ n
+  pub wide : Wide r
+  pub done : (i : ℕ) → i < j → lane r i ≡ f i
+  pub kept : (i : ℕ) → j ≤ i → lane r i ≡ lane s i
 
-pub through_none : (n : ℕ) (f : ℕ → List ℕ) (s : List ℕ) → length s ≡ n * 16 → Through n f 0 s s
-through_none n f s e = record { size = e; done = λ i l. absurd (omega arith); kept = λ i l h. refl }
+pub through_none : (n : ℕ) (f : ℕ → List ℕ) (s : List (List ℕ)) → length s ≡ n → Wide s → Through n f 0 s s
+through_none n f s e w = record { size = e; wide = w; done = λ i l. absurd (omega arith); kept = λ i l. refl }
 
-pub through_next : (n : ℕ) (f : ℕ → List ℕ) (j : ℕ) (s r u : List ℕ) {q : List ℕ} → Through n f j s r → q ≡ puts n r j u → u ≡ f j → length u ≡ n → j < 16
+pub through_next : (n : ℕ) (f : ℕ → List ℕ) (j : ℕ) (s r : List (List ℕ)) (u : List ℕ) {q : List (List ℕ)} → Through n f j s r → q ≡ puts r j u → u ≡ f j → length u ≡ n → j < 16
     → Through n f (j + 1) s q
 through_next n f j s r u t eq eu lu h =
     record {
-      size = ap length eq ∙ length_puts n r j u ∙ t.size;
-      done = λ i l. ap (λ (x : List ℕ). lane n x i) eq ∙ ⊎_elim
-          (λ e. rw e (put_lane n r j u h t.size lu ∙ eu))
-          (λ k. put_other n r j u i h (omega arith) (λ e. omega arith) ∙ t.done i k)
+      size = ap length eq ∙ length_puts r j u ∙ t.size;
+      wide = rw eq (wide_puts r j u t.wide);
+      done = λ i l. ap (λ (x : List (List ℕ)). lane x i) eq ∙ ⊎_elim
+          (λ e. rw e (put_lane r j u h t.wide (lu ∙ sym t.size) ∙ eu))
+          (λ k. put_other r j u i (λ e. omega arith) ∙ t.done i k)
           (eq-or-lt_of_le (let m : i ≤ j = omega arith in m));
-      kept = λ i l b. ap (λ (x : List ℕ). lane n x i) eq ∙ put_other n r j u i h b (λ e. omega arith) ∙ t.kept i (omega arith) b;
+      kept = λ i l. ap (λ (x : List (List ℕ)). lane x i) eq ∙ put_other r j u i (λ e. omega arith) ∙ t.kept i (omega arith);
     }
 
-pub through_all : (n : ℕ) (f : ℕ → List ℕ) (j : ℕ) (s r : List ℕ) → Through n f j s r → 16 ≤ j → Lanes n f r
+pub through_all : (n : ℕ) (f : ℕ → List ℕ) (j : ℕ) (s r : List (List ℕ)) → Through n f j s r → 16 ≤ j → Lanes n f r
 through_all n f j s r t h = record { size = t.size; each = λ i l. t.done i (omega arith) }
-
--- ---- a loop over a list: the words below p are g's
-
-pub stored : (g : ℕ → ℕ) (w : List ℕ) (p x : ℕ) → ((q : ℕ) → q < p → get_or w q 0 ≡ g q) → x ≡ g p → p < length w
-    → (q : ℕ) → q < p + 1 → get_or (set w p x) q 0 ≡ g q
-stored g w p x h e l q b = ⊎_elim
-    (λ k. rw k (get_or-set_same w p x 0 l ∙ e))
-    (λ k. get_or-set_other w p q x 0 (λ z. omega arith) ∙ h q k)
-    (eq-or-lt_of_le (let m : q ≤ p = omega arith in m))

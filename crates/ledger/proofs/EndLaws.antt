@@ -1,5 +1,5 @@
 -- Laws of the ends of days, and of the refusals 9 and 10.
-use mathlib.Core.{Path.◌≡◌, Path.refl, Path.sym, Path.◌∙◌, Logic.inl, Logic.inr, Bool.Bool, Bool.true, Bool.false, Bool.◌&&◌}
+use mathlib.Core.{Path.◌≡◌, Path.refl, Logic.inl, Logic.inr, Bool.true, Bool.false, Bool.◌&&◌}
 use mathlib.Core.List.{List}
 use Prim.Native.Nat.{ℕ, zero, suc, ◌+◌, ◌-◌, ◌≤◌, ◌<◌}
 use native.Mathlib.{Nat.eq-or-lt_of_le, Nat.le_refl, Numerals.add-one, Omega.arith}
@@ -23,11 +23,6 @@ good_end_lem s e size h =
 pub end_good : (s e size : ℕ) → s ≤ e → e ≤ size → e - s ≤ day_limit → good_end s e size ≡ true
 end_good s e size p q r = rw (le-leb s e p, le-leb e size q, le-leb (e - s) day_limit r)
 
--- every day but day 1 starts where the one before ends
-pub start_later : (ends : List ℕ) (i : ℕ) → 1 ≤ i → start_of ends i ≡ end_of ends (i - 1)
-start_later ends zero h = absurd (omega arith)
-start_later ends (suc i) h = let e : suc i - 1 ≡ i = omega arith in rw e
-
 -- ---- the first d ends
 
 -- the test of the first d ends is the test of each
@@ -42,8 +37,8 @@ at_good zero ends size f = refl
 at_good (suc d) ends size f = rw (at_good d ends size (λ i l. f i (omega arith)), f d (omega arith))
 
 -- one more end that is good
-pub good_more : (ends : List ℕ) (size i : ℕ) → good_ends i ends size ≡ true → good_end (start_of ends i) (end_of ends i) size ≡ true → good_ends (suc i) ends size ≡ true
-good_more ends size i p q = rw (p, q)
+pub good_more : (ends : List ℕ) (size i : ℕ) → good_ends i ends size ≡ true → good_end (start_of ends i) (end_of ends i) size ≡ true → good_ends (i + 1) ends size ≡ true
+good_more ends size i p q = rw (add-one, p, q)
 
 -- one that is not, among the first d
 pub bad_at : (d : ℕ) (ends : List ℕ) (size i : ℕ) → i < d → good_end (start_of ends i) (end_of ends i) size ≡ false → good_ends d ends size ≡ false
@@ -63,17 +58,8 @@ pub refusal_0 : (d : ℕ) (ends : List ℕ) (size i : ℕ) → good_ends i ends 
 unfolding ends_refusal
 refusal_0 d ends size i e q m = rw (le-leb d (length ends) m, ← q, e)
 
--- ---- a program's test of the end at i, from the parts that it computed
-
-module _ (ends : List ℕ) (size i s e : ℕ) (b : Bool) (start : s ≡ start_of ends i) (end : e ≡ end_of ends i) (test : b ≡ good_end s e size) where
-  tested : b ≡ good_end (start_of ends i) (end_of ends i) size
-  tested = rw (← start, ← end) test
-
-  pub test_good : b ≡ true → good_ends i ends size ≡ true → good_ends (i + 1) ends size ≡ true
-  test_good q p = rw (add-one i) (good_more ends size i p (sym tested ∙ q))
-
-  pub test_bad : b ≡ false → (d : ℕ) → d ≤ length ends → i < d → ends_refusal d ends size ≡ 10
-  test_bad q d m l = refusal_10 d ends size i m l (sym tested ∙ q)
+-- what the test of the ends goes by
+pub ruleset end_tests = (good_more, refusal_9, refusal_10, refusal_0)
 
 -- ---- no refusal
 

@@ -12,7 +12,7 @@ pub fn start_of(ends: &[u32], i: usize) -> usize
     if i == 0 {
         return 0;
     }
-    buffers::wide(ends[i - 1])
+    ends[i - 1] as usize
 }
 
 // Where the day of index i ends.
@@ -20,35 +20,28 @@ pub fn end_of(ends: &[u32], i: usize) -> usize
     requires { i < length ends.now }
     ensures { result ≡ end_of ends.now i }
 {
-    buffers::wide(ends[i])
+    ends[i] as usize
 }
 
 fn good_end(start: usize, end: usize, size: usize) -> bool
     ensures { result ≡ good_end start end size }
 {
-    if end < start {
-        return false;
-    }
-    if size < end {
-        return false;
-    }
-    end - start <= buffers::wide(refusals::DAY_LIMIT)
+    start <= end && end <= size && end - start <= refusals::DAY_LIMIT as usize
 }
 
 // 9 for fewer than d ends, 10 for one of the first d that is not good, else 0. Ends past d are not read.
+#[tactic(auto, using(crate::proofs::EndLaws::end_tests))]
 pub fn ends_refusal(d: u32, ends: &[u32], size: usize) -> u32
     ensures { result ≡ ends_refusal d ends.now size }
 {
-    let days = buffers::wide(d);
+    let days = d as usize;
     if ends.len() < days {
         return 9;
     }
-    let mut i = 0;
-    while i < days {
+    for i in 0..days {
         if !good_end(start_of(ends, i), end_of(ends, i), size) {
             return 10;
         }
-        i += 1;
     }
     0
 }

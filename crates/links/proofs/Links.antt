@@ -77,16 +77,16 @@ link_of_lem v h em en ei eg er lv lh =
 
 -- ---- links in lanes
 
-pub firsts_are : (v r : List ℕ) → Lanes 8 (always v) r → v ≡ initial → Lanes 8 (always initial) r
+pub firsts_are : (v : List ℕ) (r : List (List ℕ)) → Lanes 8 (always v) r → v ≡ initial → Lanes 8 (always initial) r
 firsts_are v r h e = record { size = h.size; each = λ j l. h.each j l ∙ e }
 
-pub lanes_of : (h s m : List ℕ) {g n r : List ℕ} → Lanes 8 (always initial) s → g ≡ compressed s m → n ≡ back h → r ≡ compressed_same g n → Lanes 8 (link_of m h) r
+pub lanes_of : (h : List ℕ) (s m : List (List ℕ)) {g : List (List ℕ)} {n : List ℕ} {r : List (List ℕ)} → Lanes 8 (always initial) s → g ≡ compressed s m → n ≡ back h → r ≡ compressed_same g n → Lanes 8 (link_of m h) r
 unfolding compressed compressed_same
 lanes_of h s m {g} {n} ls eg en er =
     record {
       size = ap length er ∙ length_rows 8 (lane_after_same g n);
       each = λ j l.
-          ap (λ (x : List ℕ). lane 8 x j) er ∙ lane_rows 8 (lane_after_same g n) j l (length_compress (lane 8 g j) n)
-          ∙ ap₂ compress (ap (λ (x : List ℕ). lane 8 x j) eg ∙ lane_rows 8 (lane_after s m) j l (length_compress (lane 8 s j) (lane 16 m j))
-          ∙ ap (λ (x : List ℕ). compress x (lane 16 m j)) (ls.each j l)) en;
+          ap (λ (x : List (List ℕ)). lane x j) er ∙ lane_rows 8 (lane_after_same g n) j l (length_compress (lane g j) n)
+          ∙ ap₂ compress (ap (λ (x : List (List ℕ)). lane x j) eg ∙ lane_rows 8 (lane_after s m) j l (length_compress (lane s j) (lane m j))
+          ∙ ap (λ (x : List ℕ). compress x (lane m j)) (ls.each j l)) en;
     }

@@ -35,5 +35,5 @@ unfoldable pub back : List ℕ → List ℕ
 back h = across (get_or h 7 0) 0x80000000 ∷ 0 ∷ 0 ∷ 0 ∷ 0 ∷ 0 ∷ 0 ∷ 0 ∷ 0 ∷ 0 ∷ 0 ∷ 0 ∷ 0 ∷ 0 ∷ 0 ∷ 520 ∷ []
 
 -- the link in lane j, whose first block is lane j of m
-abbrev pub link_of : List ℕ → List ℕ → ℕ → List ℕ
-link_of m h j = compress (compress initial (lane 16 m j)) (back h)
+abbrev pub link_of : List (List ℕ) → List ℕ → ℕ → List ℕ
+link_of m h j = compress (compress initial (lane m j)) (back h)

@@ -9,6 +9,8 @@ ghost use Rattle.lanes.specs.Private.{Lanes, always};
 ghost use Rattle.prepared.specs.Private.{Prepared};
 ghost use Rattle.links.specs.Private as form;
 
+use lanes::Rows;
+
 // The word of the last byte of a and the first three bytes of b.
 fn across(a: u32, b: u32) -> u32
     ensures { result ≡ form.across a b }
@@ -44,24 +46,10 @@ pub fn front(v: [u32; 8], h: [u32; 8]) -> [u32; 16]
 fn back(h: [u32; 8]) -> [u32; 16]
     ensures { result ≡ form.back h }
 {
-    [
-        across(h[7], 0x80000000),
-        0,
-        0,
-        0,
-        0,
-        0,
-        0,
-        0,
-        0,
-        0,
-        0,
-        0,
-        0,
-        0,
-        0,
-        520,
-    ]
+    let mut m = [0; 16];
+    m[0] = across(h[7], 0x80000000);
+    m[15] = 520;
+    m
 }
 
 // The digest of the byte 1, the bytes of v and the bytes of h: two blocks, whose words are those of v and h, a byte on.
@@ -93,21 +81,19 @@ pub fn link_by(v: [u32; 8], h: [u32; 8], w: &[u32; 64]) -> [u32; 8]
 }
 
 // The first hash value in every lane.
-fn firsts() -> [u32; 128]
+fn firsts() -> Rows<8>
     ensures { Lanes 8 (always initial) result }
 {
     let v = sha256_words::constants::initial();
-    let mut s = [0u32; 128];
-    let mut j = 0usize;
-    while j < 16 {
-        lanes::put_state(&mut s, j, v);
-        j += 1;
+    let mut s = [[0; 16]; 8];
+    for j in 0..16 {
+        lanes::put(&mut s, j, v);
     }
     s
 }
 
 // The links in lanes to the digest h, whose first blocks are m. Their second blocks are one.
-pub fn link_lanes(m: [u32; 256], h: [u32; 8]) -> [u32; 128]
+pub fn link_lanes(m: Rows<16>, h: [u32; 8]) -> Rows<8>
     ensures { Lanes 8 (form.link_of m h) result }
 {
     let g = lanes::compress(firsts(), m);

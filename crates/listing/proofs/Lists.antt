@@ -1,7 +1,7 @@
 -- The lists of an interval, of the intervals in turn and of the tree's maximal chains in turn are the days listed locally.
-use mathlib.Core.{Path.◌≡◌, Path.sym, Path.◌∙◌, Bool.Bool, Bool.true, Bool.false, List.List, List.[], List.◌++◌, List.append-nil}
+use mathlib.Core.{Path.◌≡◌, Path.sym, Path.ap, Path.◌∙◌, Bool.Bool, Bool.true, Bool.false, List.List, List.[], List.◌++◌, List.append-nil}
 use Rattle.std.proofs.Common.{ℕ, suc, pred, ◌+◌, ◌-◌, ◌*◌, ◌/◌, ◌%◌, ◌^◌, ◌<◌, ◌≤◌, eq-eqb, ne_eqb}
-use native.Mathlib.{Nat.pow-succ', Nat.suc-mul, Nat.div-one, Nat.div-eq_of_lt, Nat.div-mul-le_self, Decide.ℕ_discrete, Numerals.add-one, Omega.arith}
+use native.Mathlib.{Nat.pow-succ', Nat.suc-mul, Nat.div-mul-le_self, Decide.ℕ_discrete, Numerals.add-one, Omega.arith}
 use lib.{ListN.length, Pow.shr-shr}
 use Rattle.lists.specs.Lists.{keep}
 use Rattle.evidence.specs.Evidence.{days}
@@ -14,7 +14,7 @@ use Rattle.buffers.specs.Private.{Wrote}
 use Rattle.acceptance.proofs.{Listed.number_small, Runs.keep_length, Runs.div_whole, Steps.interval_room, Steps.interval_number, Steps.interval_end, Steps.chain_of_lem}
 use Rattle.listing.proofs.Tiles.{tile_congr, number_bits}
 use Rattle.listing.proofs.Walks.{tile_none, tile_days_lem, days_of_tree, days_block}
-use Rattle.buffers.proofs.Writes.{wrote_none, wrote_length, wrote_join}
+use Rattle.buffers.proofs.Writes.{wrote_length, wrote_join}
 
 -- ---- an interval
 
@@ -44,29 +44,29 @@ module _ (n g : ℕ) (t : List ℕ) {k m : ℕ} (h : Interval 2 n g t) (z : k �
 kept_within : (p : ℕ → Bool) (d : ℕ) → length (keep p (days d)) ≤ d
 kept_within p d = let a = keep_length p (days d) in let b = length-up_from 1 d in omega arith
 
-pub none_yet : (p : ℕ → Bool) (x : ℕ) (l : List ℕ) → x ≡ 0 → Wrote 0 (keep p (days x)) l 0 l
-none_yet p x l e = wrote_none 0 (keep p (days x)) l (rw e)
-
 pub so_far_length : (p : ℕ → Bool) (x d r : ℕ) (l m : List ℕ) → x ≤ d → d ≤ length l → Wrote 0 (keep p (days x)) l r m → length m ≡ length l
 so_far_length p x d r l m a b u = let c = kept_within p x in wrote_length 0 r (keep p (days x)) l m u (omega arith)
 
 pub so_far_place : (p : ℕ → Bool) (x r : ℕ) (l m : List ℕ) → Wrote 0 (keep p (days x)) l r m → r ≤ x
 so_far_place p x r l m u = let c = kept_within p x in omega (arith, u.count)
 
-pub next_place : (p : ℕ → Bool) (n d k r : ℕ) (l m : List ℕ) → k < d / n → d ≤ length l → Wrote 0 (keep p (days (k * n))) l r m → r + n ≤ length m
-next_place p n d k r l m a b u =
-    let c = interval_end n d (suc k) a in
-    let e : suc k * n ≡ k * n + n = suc-mul k n in
-    let f = so_far_length p (k * n) d r l m (omega arith) b u in
-    let g = so_far_place p (k * n) r l m u in
+pub next_place : (p : ℕ → Bool) (n d k r : ℕ) (l m : List ℕ) → 1 ≤ k → k ≤ d / n → d ≤ length l → Wrote 0 (keep p (days ((k - 1) * n))) l r m → r + n ≤ length m
+next_place p n d k r l m o a b u =
+    let c = interval_end n d k a in
+    let i : suc (k - 1) ≡ k = omega arith in
+    let e : k * n ≡ (k - 1) * n + n = ap (λ x. x * n) (sym i) ∙ suc-mul (k - 1) n in
+    let f = so_far_length p ((k - 1) * n) d r l m (omega arith) b u in
+    let g = so_far_place p ((k - 1) * n) r l m u in
     omega arith
 
-pub next_interval : (p : ℕ → Bool) (n d k b r : ℕ) (l m y : List ℕ) → k < d / n → d ≤ length l → Wrote 0 (keep p (days (k * n))) l b m → Wrote b (keep p (last_days n ((k + 1) * n))) m r y →
-    Wrote 0 (keep p (days ((k + 1) * n))) l r y
-next_interval p n d k b r l m y a h u v =
-    let c = interval_end n d (suc k) a in
-    let f = kept_within p (suc k * n) in
-    rw add-one (wrote_join 0 (keep p (days (suc k * n))) (keep p (days (k * n))) (keep p (last_days n (suc k * n))) l m y b r (days_block p n k) (omega arith) u (rw add-one at v))
+pub next_interval : (p : ℕ → Bool) (n d k b r : ℕ) (l m y : List ℕ) → 1 ≤ k → k ≤ d / n → d ≤ length l → Wrote 0 (keep p (days ((k - 1) * n))) l b m → Wrote b (keep p (last_days n (k * n))) m r y →
+    Wrote 0 (keep p (days ((k + 1 - 1) * n))) l r y
+next_interval p n d k b r l m y o a h u v =
+    let c = interval_end n d k a in
+    let i : suc (k - 1) ≡ k = omega arith in
+    let e : k + 1 - 1 ≡ k = omega arith in
+    let f = kept_within p (k * n) in
+    rw e (wrote_join 0 (keep p (days (k * n))) (keep p (days ((k - 1) * n))) (keep p (last_days n (k * n))) l m y b r (rw i at (days_block p n (k - 1))) (omega arith) u v)
 
 pub all_intervals : (p : ℕ → Bool) (n d k r : ℕ) (l m : List ℕ) → divides n d ≡ true → k ≤ d / n → d / n ≤ k → Wrote 0 (keep p (days (k * n))) l r m → Wrote 0 (keep p (days d)) l r m
 all_intervals p n d k r l m w a b u = let e : k ≡ d / n = omega arith in rw (e, div_whole n d w) at u
@@ -119,13 +119,6 @@ top_walk n d l w at t k T h e z b c =
     let v : 1 ≤ d / w = rw e (omega arith) in
     (chain_of_lem (d / w) T e h v (omega arith), omega arith)
 
-pub top_fits : (d w : ℕ) → d ≤ 65536 → d / w * w < 2 ^ 32
-top_fits d w b = let u = div-mul-le_self d w in omega arith
-
--- all levels
-pub no_level : (d : ℕ) → d ≤ 65536 → d / 2 ^ 17 * 2 ^ 17 ≡ 0
-no_level d b = let e : d / 2 ^ 17 ≡ 0 = div-eq_of_lt {n = d} {m = 2 ^ 17} (omega arith) in rw e
-
 pub level_place : (p : ℕ → Bool) (d l r : ℕ) (k m : List ℕ) → 0 < l → d ≤ length k → Wrote 0 (keep p (days (d / 2 ^ l * 2 ^ l))) k r m →
     (d ≤ length m) × (r ≤ d / 2 ^ suc (l - 1) * 2 ^ suc (l - 1))
 level_place p d l r k m a b u =
@@ -143,15 +136,6 @@ next_level n d t small h l b r k m y a c u v =
     let q = top_step n d t small h (l - 1) in
     wrote_join 0 (keep (is_listed 3 n t) (days (d / 2 ^ (l - 1) * 2 ^ (l - 1)))) (keep (is_listed 3 n t) (days (d / 2 ^ l * 2 ^ l))) (top_days n d t (l - 1)) k m y b r
     (rw e at q) (omega arith) u v
-
-pub level_length : (p : ℕ → Bool) (d l r : ℕ) (k m : List ℕ) → d ≤ length k → Wrote 0 (keep p (days (d / 2 ^ l * 2 ^ l))) k r m → length m ≡ length k
-level_length p d l r k m b u = so_far_length p (d / 2 ^ l * 2 ^ l) d r k m (div-mul-le_self d (2 ^ l)) b u
-
-pub all_levels : (p : ℕ → Bool) (d l r : ℕ) (k m : List ℕ) → l ≤ 0 → Wrote 0 (keep p (days (d / 2 ^ l * 2 ^ l))) k r m → Wrote 0 (keep p (days d)) k r m
-all_levels p d l r k m a u =
-    let e : l ≡ 0 = omega arith in
-    let f : d / 2 ^ l * 2 ^ l ≡ d = rw e (let g = div-one d in omega arith) in
-    rw f at u
 
 pub rules_levels : (s n d : ℕ) (t : List ℕ) → s ≡ 3 → rules s n d t ≡ true → levels_rule n d t ≡ true
 unfolding rules

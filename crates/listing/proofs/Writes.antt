@@ -8,41 +8,22 @@ use Rattle.layouts.specs.Layouts.{tree}
 use Rattle.layouts.specs.Private.{position}
 use Rattle.lists.proofs.Laws.{split, up_from_snoc, length-up_from}
 use Rattle.acceptance.specs.Private.{Chain, passes}
-use Rattle.buffers.proofs.Writes.{wrote_none, wrote_one, wrote_length, wrote_join}
+use Rattle.buffers.proofs.Writes.{wrote_one, wrote_join}
 use Rattle.listing.specs.Private.{tree_days}
 use Rattle.buffers.specs.Private.{Wrote}
 use Rattle.acceptance.proofs.Steps.{chain_left, chain_right, chain_room}
 
 -- ---- a run of days
 
-pub run_start : (first at : ℕ) (l : List ℕ) → Wrote at (up_from first (first - first)) l at l
-run_start first at l = let e : first - first ≡ 0 = omega arith in wrote_none at (up_from first (first - first)) l (rw e)
-
-run_bound : (first day at : ℕ) (l : List ℕ) → at + (day - first) ≤ length l → at + length (up_from first (day - first)) ≤ length l
-run_bound first day at l h = omega (arith, length-up_from first (day - first))
-
-pub run_place : (first day end at p : ℕ) (l m : List ℕ) → first ≤ day → day < end → at + (end - first) ≤ length l → Wrote at (up_from first (day - first)) l p m → (p < length m) ×
-    (length m ≡ length l)
-run_place first day end at p l m a b h u =
-    let c = run_bound first day at l (omega arith) in
-    let e = wrote_length at p (up_from first (day - first)) l m u c in
-    (omega (arith, u.count, length-up_from first (day - first)), e)
-
-pub run_next : (first day end at p : ℕ) (l m : List ℕ) → first ≤ day → day < end → at + (end - first) ≤ length l → Wrote at (up_from first (day - first)) l p m →
-    Wrote at (up_from first (day + 1 - first)) l (p + 1) (set m p day)
-run_next first day end at p l m a b h u =
-    let q = run_place first day end at p l m a b h u in
+pub run_next : (first day end at : ℕ) (l m : List ℕ) → first ≤ day → day < end → at + (end - first) ≤ length l → length m ≡ length l → Wrote at (up_from first (day - first)) l (at + (day - first)) m →
+    Wrote at (up_from first (day + 1 - first)) l (at + (day + 1 - first)) (set m (at + (day - first)) day)
+run_next first day end at l m a b h n u =
     let e : day + 1 - first ≡ suc (day - first) = omega arith in
     let f : first + (day - first) ≡ day = omega arith in
-    wrote_join at (up_from first (day + 1 - first)) (up_from first (day - first)) (day ∷ []) l m (set m p day) p (p + 1)
+    let x : at + (day + 1 - first) ≡ at + (day - first) + 1 = omega arith in
+    rw x (wrote_join at (up_from first (day + 1 - first)) (up_from first (day - first)) (day ∷ []) l m (set m (at + (day - first)) day) (at + (day - first)) (at + (day - first) + 1)
     (ap (up_from first) e ∙ up_from_snoc first (day - first) ∙ rw f)
-    (run_bound first (day + 1) at l (omega arith)) u (wrote_one p day (day ∷ []) m refl q.0)
-
-pub run_length : (first day end at p : ℕ) (l m : List ℕ) → first ≤ day → day ≤ end → at + (end - first) ≤ length l → Wrote at (up_from first (day - first)) l p m → length m ≡ length l
-run_length first day end at p l m a b h u = wrote_length at p (up_from first (day - first)) l m u (run_bound first day at l (omega arith))
-
-pub run_end : (first day end at p : ℕ) (l m : List ℕ) → day ≤ end → end ≤ day → Wrote at (up_from first (day - first)) l p m → Wrote at (up_from first (end - first)) l p m
-run_end first day end at p l m a b u = let e : day ≡ end = omega arith in rw e at u
+    (omega (arith, length-up_from first (day + 1 - first))) u (wrote_one (at + (day - first)) day (day ∷ []) m refl (omega arith)))
 
 -- ---- the walk of a tree's chain
 
@@ -128,7 +109,3 @@ pair_join n l g w at b r t k s y e f z q h o u v = tree_join n l g w at b r t k 
 pub pair_room : (n l g at b m : ℕ) (t k s : List ℕ) → (l ≡ 0 → ⊥) → at + 2 ^ l ≤ length k → l - 1 ≡ 0 → Wrote at (tree_days n t 0 g) k b s → m ≡ length k → b < m
 pair_room n l g at b m t k s z h o u e =
     place_one b (l - 1) m (tree_right_place n l g at b m t k s z h (rw o u) e)
-
--- the chain of level 0
-pub tree_0 : (n l g at r : ℕ) (t k y : List ℕ) → l ≡ 0 → Wrote at (tree_days n t 0 g) k r y → Wrote at (tree_days n t l g) k r y
-tree_0 n l g at r t k y o u = rw o u

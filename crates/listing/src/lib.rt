@@ -17,14 +17,10 @@ fn run(first: u32, end: u32, list: &mut [u32], at: usize) -> usize
     requires { (first ≤ end) × (at + (end - first) ≤ length list.old) }
     ensures { Wrote at (up_from first (end - first)) list.old result list.new }
 {
-    let mut day = first;
-    let mut p = at;
-    while day < end {
-        list[p] = day;
-        p += 1;
-        day += 1;
+    for day in first..end {
+        list[at + (day - first) as usize] = day;
     }
-    p
+    at + (end - first) as usize
 }
 
 // How many intervals come before the first whose black fails, under scheme 1.
@@ -33,14 +29,12 @@ fn passing_blacks(n: u32, d: u32, t: &[u8]) -> u32
     ensures { FirstFailed n d t.now result }
 {
     let m = d / n;
-    let mut k = 0;
-    while k < m {
+    for k in 0..m {
         if !acceptance::values::black_passes(1, n, (k + 1) * n, t) {
             return k;
         }
-        k += 1;
     }
-    k
+    m
 }
 
 // Scheme 1: no black passes after one that fails, so all days from there on.
@@ -53,30 +47,16 @@ fn black_days(n: u32, d: u32, t: &[u8], list: &mut [u32]) -> usize
     run(k * n + 1, d + 1, list, 0)
 }
 
-// 2 m, and 1 more where b.
-fn with_bit(m: u32, b: bool) -> u32
-    requires { m < 65536 }
-    ensures { result ≡ 2 * m + one b }
-{
-    if b {
-        return 2 * m + 1;
-    }
-    2 * m
-}
-
 // The passing chains of the tile that ends at g, whose values stand from place p on, as a number: its bit of weight
 // n / 2^i is 1 where c(i) passes.
 fn passing(n: u32, g: u32, p: u32, t: &[u8]) -> u32
     requires { Interval 2 n g t.now × (p ≡ position 2 n (tile 0 g)) }
     ensures { result ≡ number (tile_bit n t.now g) (lg n) }
 {
-    let k = layouts::lg(n);
     let mut m = 0;
-    let mut i = 0;
-    while i < k {
-        i += 1;
+    for i in 1..=layouts::lg(n) {
         let b = acceptance::values::mark(t, p + i);
-        m = with_bit(m, b);
+        m = 2 * m + u32::from(b);
     }
     m
 }
@@ -87,15 +67,11 @@ fn again(w: u32, at: usize, end: usize, list: &mut [u32]) -> usize
     ensures { Wrote end (map (later w) (take (end - at) (drop at list.old)))
         list.old result list.new }
 {
-    let mut i = at;
-    let mut p = end;
-    while i < end {
-        let next = std::num::wrapping_add_u32(list[i], w);
-        list[p] = next;
-        i += 1;
-        p += 1;
+    let count = end - at;
+    for i in at..end {
+        list[i + count] = list[i].wrapping_add(w);
     }
-    p
+    end + count
 }
 
 // Of the 2^level days from a day on, those whose number from there has bits 1 where m has. The first is m on; for each
@@ -106,16 +82,10 @@ fn tile_walk(level: u32, day: u32, m: u32, list: &mut [u32], at: usize) -> usize
 {
     list[at] = day + m;
     let mut end = at + 1;
-    let mut rest = m;
-    let mut w = 1;
-    let mut l = 0;
-    while l < level {
-        if rest % 2 == 0 {
-            end = again(w, at, end, list);
+    for l in 0..level {
+        if (m >> l) % 2 == 0 {
+            end = again(layouts::size(l), at, end, list);
         }
-        rest = rest / 2;
-        w = 2 * w;
-        l += 1;
     }
     end
 }
@@ -140,11 +110,8 @@ fn tiles_walk(n: u32, d: u32, t: &[u8], list: &mut [u32]) -> usize
     ensures { Wrote 0 (keep (is_listed 2 n t.now) (days d))
         list.old result list.new }
 {
-    let tiles = d / n;
-    let mut k = 0;
     let mut at = 0;
-    while k < tiles {
-        k += 1;
+    for k in 1..=d / n {
         at = tile_days(n, k * n, t, list, at);
     }
     at
@@ -208,10 +175,8 @@ fn tree_walk(n: u32, d: u32, t: &[u8], list: &mut [u32]) -> usize
     ensures { Wrote 0 (keep (is_listed 3 n t.now) (days d))
         list.old result list.new }
 {
-    let mut level = 17;
     let mut at = 0;
-    while 0 < level {
-        level -= 1;
+    for level in (0..17).rev() {
         at = top_days(n, d, level, t, list, at);
     }
     at
@@ -223,11 +188,9 @@ pub fn listed(scheme: u32, n: u32, d: u32, t: &[u8], list: &mut [u32]) -> usize
     ensures { Wrote 0 (keep (is_listed scheme n t.now) (days d))
         list.old result list.new }
 {
-    if scheme == 1 {
-        return black_days(n, d, t, list);
+    match scheme {
+        1 => black_days(n, d, t, list),
+        2 => tiles_walk(n, d, t, list),
+        _ => tree_walk(n, d, t, list),
     }
-    if scheme == 2 {
-        return tiles_walk(n, d, t, list);
-    }
-    tree_walk(n, d, t, list)
 }

@@ -80,6 +80,8 @@ module _ (s n f d : ℕ) (o : List ℕ) (places : ℕ) where
     pub search_given : Given 3 n d (table_in s n d o) places
     search_given = subst (λ (x : ℕ). Given x n d (table_in s n d o) places) search_tree search_scheme
 
+pub ruleset refusal_laws = (search_layout, search_table, search_20, search_0)
+
 -- ---- the answer
 
 module _ (s n f d : ℕ) (o l : List ℕ) {r : ℕ} (e : r ≡ search_refusal s n f d o (length l)) where
@@ -96,21 +98,21 @@ module _ (s n f d : ℕ) (o l : List ℕ) {r : ℕ} (e : r ≡ search_refusal s 
     values_need = search_facts s n f d o (length l) (sym e ∙ z)
 
     -- the outcomes needed, by their number
-    module _ {v x : ℕ} (q : v ≡ length (chains s n d)) (k : x ≡ v) where
-      pub values_within : x ≤ length o
+    module _ {v : ℕ} (q : v ≡ length (chains s n d)) where
+      pub values_within : v ≤ length o
       values_within = omega (arith, search_enough s n f d o (length l) (sym e ∙ z))
 
-      part_is : take x o ≡ table_in s n d o
-      part_is = ap (λ y. take y o) (k ∙ q)
+      part_is : take v o ≡ table_in s n d o
+      part_is = ap (λ y. take y o) q
 
-      pub walk_given : Given 3 n d (take x o) (length l)
+      pub walk_given : Given 3 n d (take v o) (length l)
       walk_given = rw part_is (search_given s n f d o (length l) (sym e ∙ z))
 
-      pub search_state : (limit : ℕ) (p : Progress) → p ≡ progress_of n d (take x o) limit → State p ≡ (searched s n f d o limit l).answer
+      pub search_state : (limit : ℕ) (p : Progress) → p ≡ progress_of n d (take v o) limit → State p ≡ (searched s n f d o limit l).answer
       unfolding searched
       search_state limit p h = rw (← e, z, h, part_is)
 
-      pub search_list : (limit : ℕ) {m : List ℕ} → m ≡ found_days n d (take x o) limit ++ drop (length (found_days n d (take x o) limit)) l → m ≡ (searched s n f d o limit l).list
+      pub search_list : (limit : ℕ) {m : List ℕ} → m ≡ found_days n d (take v o) limit ++ drop (length (found_days n d (take v o) limit)) l → m ≡ (searched s n f d o limit l).list
       unfolding searched
       search_list limit h =
           h ∙ ap (λ y. found_days n d y limit ++ drop (length (found_days n d y limit)) l) part_is ∙ new_stands (search_refusal s n f d o (length l)) _ l e z

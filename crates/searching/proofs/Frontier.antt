@@ -3,7 +3,7 @@ use mathlib.Core.Path.{◌≡◌, refl, sym, ap, ap₂, ◌∙◌}
 use mathlib.Core.Bool.{true, false}
 use mathlib.Core.Logic.{inl, inr}
 use mathlib.Core.List.{List, [], ◌∷◌, ◌++◌, flat_map}
-use Prim.Native.Nat.{ℕ, zero, suc, ◌+◌, ◌-◌, ◌*◌, ◌/◌, ◌%◌, ◌^◌, ◌≤◌, ◌<◌}
+use Prim.Native.Nat.{min, ℕ, zero, suc, ◌+◌, ◌-◌, ◌*◌, ◌/◌, ◌%◌, ◌^◌, ◌≤◌, ◌<◌}
 use native.Mathlib.Nat.{mod-lt, mod-one, div-add-mod', div-mul-le_self, div-eq_of_lt, suc-mul, pow-succ'}
 use native.Mathlib.{Decide.dec_lt, Omega.arith}
 use lib.{Dec.eqb, Arith.digits_div, Arith.digits_mod, Pow.pow_pos, Pow.pow_mono, Count.count_trailing_zeros}
@@ -71,7 +71,7 @@ module _ (d g : ℕ) (h : g < d) (small : d ≤ 65536) where
     | no k ↦ let w : 2 ^ 32 ≤ 2 ^ lg (d - g) = pow_mono {i = 32} {j = lg (d - g)} (omega arith) in absurd (omega (arith, low))
   ]
 
-  pub level_by_day : count_trailing_zeros 32 g < lg (d - g) → Largest d g (count_trailing_zeros 32 g)
+  level_by_day : count_trailing_zeros 32 g < lg (d - g) → Largest d g (count_trailing_zeros 32 g)
   level_by_day k =
       let w : 2 ^ count_trailing_zeros 32 g ≤ 2 ^ lg (d - g) = pow_mono (omega arith) in
       record {
@@ -79,15 +79,21 @@ module _ (d g : ℕ) (h : g < d) (small : d ≤ 65536) where
         largest = λ f. true_or_false f.whole (trailing_most 32 g (omega (arith, few)));
       }
 
-  pub level_by_room : lg (d - g) ≤ count_trailing_zeros 32 g → Largest d g (lg (d - g))
+  level_by_room : lg (d - g) ≤ count_trailing_zeros 32 g → Largest d g (lg (d - g))
   level_by_room k =
       record {
         fits = record { whole = divides_below (lg (d - g)) (count_trailing_zeros 32 g) g k (trailing_whole 32 g); room = omega (arith, low) };
         largest = λ f. absurd (omega (arith, high, f.room));
       }
 
+  pub level_least : {l : ℕ} → l ≡ min (lg (d - g)) (count_trailing_zeros 32 g) → Largest d g l
+  level_least {l} e = elim (dec_lt (count_trailing_zeros 32 g) (lg (d - g))) [
+    | yes k ↦ let f : l ≡ count_trailing_zeros 32 g = omega arith in rw f (level_by_day k)
+    | no k ↦ let f : l ≡ lg (d - g) = omega arith in rw f (level_by_room (omega arith))
+  ]
+
   pub level_there : (l : ℕ) × Largest d g l
-  level_there = elim (dec_lt (count_trailing_zeros 32 g) (lg (d - g))) [ yes k ↦ (_, level_by_day k) | no k ↦ (_, level_by_room (omega arith)) ]
+  level_there = (_, level_least refl)
 
 -- ---- what is due
 

@@ -23,7 +23,7 @@ pub enum Searched {
 
 // Where the walk is: the days up to day are decided, found of them are changed, and the chain that is due first, behind
 // day, has this level.
-#[derive(Drop)]
+#[derive(Clone, Copy)]
 struct Cursor {
     found: u32,
     day: u32,
@@ -31,7 +31,7 @@ struct Cursor {
 }
 
 // Tests 1 2 3 7 8 12 13 14 20 (SPEC 11.12).
-#[tactic(auto, using(crate::proofs::Calls::search_layout, crate::proofs::Calls::search_table, crate::proofs::Calls::search_20, crate::proofs::Calls::search_0))]
+#[tactic(auto, using(crate::proofs::Calls::refusal_laws))]
 fn refusal(scheme: u32, n: u32, f: u32, d: u32, outcomes: &[u8], places: usize) -> u32
     ensures { result ≡ search_refusal scheme n f d outcomes.now places }
 {
@@ -59,11 +59,7 @@ fn level_behind(d: u32, g: u32) -> u32
         return 0;
     }
     let longest = layouts::lg(d - g);
-    let whole = u32::trailing_zeros(g);
-    if whole < longest {
-        return whole;
-    }
-    longest
+    longest.min(g.trailing_zeros())
 }
 
 // One look, at the chain that is due first. A failing one of more days than one gives way to its left half, which
@@ -72,26 +68,23 @@ fn look(n: u32, d: u32, t: &[u8], c: Cursor, list: &mut [u32]) -> Cursor
     requires { Given 3 n d t.now (length list.old) × Fits d c.day c.level × (c.found ≤ c.day) }
     ensures { Looked n d t.now c list.old result list.new }
 {
-    let level = c.level;
-    let found = c.found;
-    let g = c.day + layouts::size(level);
-    if acceptance::values::tree_passes(n, level, g, t) {
+    let g = c.day + layouts::size(c.level);
+    if acceptance::values::tree_passes(n, c.level, g, t) {
         return Cursor {
-            found: found,
             day: g,
             level: level_behind(d, g),
+            ..c
         };
     }
-    if level != 0 {
+    if c.level != 0 {
         return Cursor {
-            found: found,
-            day: c.day,
-            level: level - 1,
+            level: c.level - 1,
+            ..c
         };
     }
-    list[found as usize] = g;
+    list[c.found as usize] = g;
     Cursor {
-        found: found + 1,
+        found: c.found + 1,
         day: g,
         level: level_behind(d, g),
     }
@@ -111,13 +104,13 @@ fn walk(n: u32, d: u32, t: &[u8], limit: u32, list: &mut [u32]) -> Progress
         day: 0,
         level: level_behind(d, 0),
     };
+    // looked is an answer too, and the walk may end before the limit: a `for` would be no plainer
     while looked < limit && c.day < d {
         looked += 1;
-        let next = look(n, d, t, c, list);
-        c = next;
+        c = look(n, d, t, c, list);
     }
     Progress {
-        looked: looked,
+        looked,
         found: c.found,
         undecided: d - c.day,
     }
@@ -142,7 +135,6 @@ pub fn search(
     if r != 0 {
         return Searched::Refused(r);
     }
-    let values = buffers::wide(layouts::values_through(scheme, n, d));
-    let progress = walk(n, d, &outcomes[..values], limit, list);
-    Searched::State(progress)
+    let values = layouts::values_through(scheme, n, d) as usize;
+    Searched::State(walk(n, d, &outcomes[..values], limit, list))
 }

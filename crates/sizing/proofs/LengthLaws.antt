@@ -1,16 +1,14 @@
 -- Laws of the days' lengths, of the refusals 16 and 17, and of the blocks forecast.
 use mathlib.Core.Path.{◌≡◌, refl, sym, ap, ◌∙◌}
-use mathlib.Core.Logic.{inl, inr}
-use mathlib.Core.Bool.{true, false}
+use mathlib.Core.Bool.{Bool, true, false}
 use mathlib.Core.List.{List, [], ◌∷◌, ◌++◌}
 use Prim.Native.Nat.{ℕ, zero, suc, ◌+◌, ◌*◌, ◌≤◌, ◌<◌}
-use native.Mathlib.Numerals.{add-one}
 use native.Mathlib.Omega.{arith}
 use lib.ListN.{length, get_or, take}
-use lib.Seq.{get_or-take, take-suc}
+use lib.Seq.{get_or-take, take_all}
 use borrow.Author.Tests.{leb-true, le-leb, lt-leb}
 use Rattle.lists.specs.Lists.{every}
-use Rattle.lists.proofs.Laws.{split, and_both, every_append}
+use Rattle.lists.proofs.Laws.{bool_ext, and_both}
 use Rattle.refusals.specs.Refusals.{book_limit, day_limit}
 use Rattle.refusals.proofs.TestLaws.{none_fails, all_pass, pass_split, refused_before, refused_after}
 use Rattle.layouts.specs.Layouts.{layout_tests, layout_refusal, chains}
@@ -27,25 +25,29 @@ short_at (suc d) [] i h m = omega arith
 short_at (suc d) (x ∷ l) zero h m = leb-true x day_limit (and_both (short_day x) (every short_day (take d l)) h).0
 short_at (suc d) (x ∷ l) (suc i) h m = short_at d l i (and_both (short_day x) (every short_day (take d l)) h).1 (omega arith)
 
-pub short_more : (l : List ℕ) (i b : ℕ) → b ≡ get_or l i 0 → b ≤ day_limit → i < length l → every short_day (take i l) ≡ true → every short_day (take (i + 1) l) ≡ true
-short_more l i b e m o h = rw (add-one i, take-suc l i 0 o, every_append short_day (take i l) (get_or l i 0 ∷ []), h, ← e, le-leb b day_limit m)
-
-long_at : (d : ℕ) (l : List ℕ) (i : ℕ) → i < d → day_limit < get_or l i 0 → every short_day (take d l) ≡ false
-long_at d l i m o = elim (split (every short_day (take d l))) [ inl h ↦ let q = short_at d l i h m in absurd (omega arith) | inr h ↦ h ]
+pub all_short : (l : List ℕ) (r : Bool) → (r ≡ true → (i : ℕ) → i < length l → get_or l i 0 ≤ day_limit) → (((i : ℕ) → i < length l → get_or l i 0 ≤ day_limit) → r ≡ true) → r ≡ every short_day l
+all_short l r f g = bool_ext r (every short_day l) (λ e. each l (f e)) (λ e. g (λ i m. short_at (length l) l i (rw (take_all (length l) l (omega arith)) e) m))
+  where
+    each : (l : List ℕ) → ((i : ℕ) → i < length l → get_or l i 0 ≤ day_limit) → every short_day l ≡ true
+    each [] h = refl
+    each (x ∷ l) h = rw (le-leb x day_limit (h 0 (omega arith))) (each l (λ i m. h (suc i) (omega arith)))
 
 -- ---- the refusals
 
-pub lengths_16 : (d : ℕ) (l : List ℕ) → length l < d → 16 ≡ lengths_refusal d l
+pub lengths_16 : (d : ℕ) (l : List ℕ) → length l < d → lengths_refusal d l ≡ 16
 unfolding lengths_refusal
 lengths_16 d l m = rw (lt-leb d (length l) m)
 
-pub lengths_17 : (d : ℕ) (l : List ℕ) (i b : ℕ) → b ≡ get_or l i 0 → day_limit < b → i < d → d ≤ length l → 17 ≡ lengths_refusal d l
+pub lengths_17 : (d : ℕ) (l : List ℕ) → d ≤ length l → every short_day (take d l) ≡ false → lengths_refusal d l ≡ 17
 unfolding lengths_refusal
-lengths_17 d l i b e o m enough = rw (le-leb d (length l) enough, long_at d l i m (rw e at o))
+lengths_17 d l enough h = rw (le-leb d (length l) enough, h)
 
-pub lengths_0 : (d : ℕ) (l : List ℕ) (i : ℕ) → every short_day (take i l) ≡ true → i ≡ d → d ≤ length l → 0 ≡ lengths_refusal d l
+pub lengths_0 : (d : ℕ) (l : List ℕ) → d ≤ length l → every short_day (take d l) ≡ true → lengths_refusal d l ≡ 0
 unfolding lengths_refusal
-lengths_0 d l i h e enough = rw (le-leb d (length l) enough, ← e, h)
+lengths_0 d l enough h = rw (le-leb d (length l) enough, h)
+
+-- what the test of the lengths goes by
+pub ruleset length_tests = (lengths_16, lengths_17, lengths_0)
 
 module _ (s n f d : ℕ) (l : List ℕ) where
   pub layout_first : {x : ℕ} → x ≡ layout_refusal s n f d → (x ≡ 0 → ⊥) → x ≡ sizing_refusal s n f d l
@@ -95,32 +97,22 @@ pub blocks_most : (s n : ℕ) (l : List ℕ) (d : ℕ) → every short_day (take
 blocks_most s n l d h zero m = omega arith
 blocks_most s n l d h (suc i) m = omega (arith, blocks_most s n l d h i (omega arith), day_most s n (suc i) (get_or l i 0) (short_at d l i h m))
 
-pub blocks_more : (s n : ℕ) (l : List ℕ) (i : ℕ) {sum w own k : ℕ} → sum ≡ blocks_through s n l i → w ≡ i → own ≡ day_blocks (get_or l w 0) → k ≡ links_of s n (i + 1) →
-    sum + (own + 2 * k) ≡ blocks_through s n l (i + 1)
-blocks_more s n l i e ew eo ek =
-    let p = add-one i in
-    let q = ek ∙ ap (links_of s n) p in
-    rw (p, e, eo, ew, q)
-
 -- what the loop over the days adds up stays small
 pub record Small (sum own k : ℕ) : Type 0 where
   pub sum_most : sum ≤ 17182294016
   pub own_most : own ≤ 262145
   pub links_few : k ≤ 18
 
-pub loop_small : (s n : ℕ) (l : List ℕ) (d i : ℕ) {sum w own k : ℕ} → every short_day (take d l) ≡ true → d ≤ book_limit → i < d → sum ≡ blocks_through s n l i → w ≡ i →
-    own ≡ day_blocks (get_or l w 0) → k ≡ links_of s n (i + 1) → Small sum own k
-loop_small s n l d i {sum} {w} {own} {k} h m o e ew eo ek =
+pub loop_small : (s n : ℕ) (l : List ℕ) (d i : ℕ) {sum own k : ℕ} → every short_day (take d l) ≡ true → d ≤ book_limit → i < d → sum ≡ blocks_through s n l i →
+    own ≡ day_blocks (get_or l i 0) → k ≡ links_of s n (i + 1) → Small sum own k
+loop_small s n l d i {sum} {own} {k} h m o e eo ek =
     let a = blocks_most s n l d h i (omega arith) in
-    let b : get_or l w 0 ≤ day_limit = rw ew (short_at d l i h o) in
+    let b : get_or l i 0 ≤ day_limit = short_at d l i h o in
     record {
       sum_most = omega (arith, a, e);
       own_most = omega (arith, eo, b);
       links_few = omega (arith, ek, links_most s n (i + 1));
     }
-
-pub blocks_done : (s n : ℕ) (l : List ℕ) (d i : ℕ) {sum : ℕ} → sum ≡ blocks_through s n l i → i ≡ d → sum ≡ blocks_through s n l d
-blocks_done s n l d i e q = rw (← q) e
 
 -- the first d lengths are all that counts
 pub blocks_front : (s n : ℕ) (l m : List ℕ) (d : ℕ) → take d l ≡ take d m → (i : ℕ) → i ≤ d → blocks_through s n l i ≡ blocks_through s n m i

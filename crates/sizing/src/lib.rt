@@ -21,20 +21,24 @@ pub enum Sizing {
     Refused(u32),
 }
 
+// Whether no length is over the day's limit.
+fn short_days(lengths: &[u32]) -> bool
+    ensures { result ≡ every short_day lengths.now }
+{
+    lengths.iter().all(|b| *b <= refusals::DAY_LIMIT)
+}
+
 // Tests 16 17 (SPEC 17.6): fewer than d lengths; one of the first d over the day's limit. Lengths past d are not read.
+#[tactic(auto, using(crate::proofs::LengthLaws::length_tests))]
 fn lengths_refusal(d: u32, lengths: &[u32]) -> u32
     ensures { result ≡ lengths_refusal d lengths.now }
 {
-    let days = buffers::wide(d);
+    let days = d as usize;
     if lengths.len() < days {
         return 16;
     }
-    let mut i = 0;
-    while i < days {
-        if refusals::DAY_LIMIT < lengths[i] {
-            return 17;
-        }
-        i += 1;
+    if !short_days(&lengths[..days]) {
+        return 17;
     }
     0
 }
@@ -64,14 +68,11 @@ fn blocks(scheme: u32, n: u32, d: u32, lengths: &[u32]) -> u64
         × (every short_day (take d lengths.now) ≡ true) }
     ensures { result ≡ blocks_through scheme n lengths.now d }
 {
-    let mut sum = 0u64;
-    let mut i = 0u32;
-    while i < d {
-        let b = lengths[buffers::wide(i)];
-        let own = day_blocks(b);
+    let mut sum = 0;
+    for i in 0..d {
+        let own = day_blocks(lengths[i as usize]);
         let links = chains::link_count(scheme, n, i + 1);
-        sum += (own + 2 * links) as u64;
-        i += 1;
+        sum += u64::from(own + 2 * links);
     }
     sum
 }

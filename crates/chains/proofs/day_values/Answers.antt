@@ -1,16 +1,11 @@
 -- `chains::day_values` meets its contract.
-use Rattle.chains.proofs.Values.{in_slots, values_black, values_plain, black_place_lem}
 use mathlib.Core.Path.{sym, refl, ◌∙◌}
 use borrow.Author.Rules.{rules}
+use Rattle.chains.proofs.Values.{in_slots, values_black, values_plain, black_place_lem}
 use Rattle.chains.proofs.day_values.Goals as goal
 
-pub overflow_sub-at : goal.overflow_sub-at
-overflow_sub-at c = let a = c.args in let p = c.requires in
-    (black_place_lem a.scheme a.n a.g a.black a.slots (search rules) (in_slots a.scheme a.n a.g p.0 p.1 p.2 p.3) a.k
-    (sym c.stores_black.ensures ∙ c.if-stores_black.true) p.4).0
-
-pub bounds-r-at : goal.bounds-r-at
-bounds-r-at c = let a = c.args in let p = c.requires in
+pub bounds-r-k : goal.bounds-r-k
+bounds-r-k c = let a = c.args in let p = c.requires in
     (black_place_lem a.scheme a.n a.g a.black a.slots (search rules) (in_slots a.scheme a.n a.g p.0 p.1 p.2 p.3) a.k
     (sym c.stores_black.ensures ∙ c.if-stores_black.true) p.4).1
 

@@ -1,11 +1,8 @@
 -- `chains::tile_link_count` meets its contract.
-use Prim.Native.Nat.{suc, ◌-◌, ◌≤◌}
+use Prim.Native.Nat.{suc}
 use mathlib.Core.Path.{◌≡◌}
 use Rattle.chains.specs.Step.{slot_links}
 use Rattle.chains.proofs.tile_link_count.Given as goal
 
 abbrev pub invariant-loop-i : goal.invariant-loop-i
-invariant-loop-i l = (l.i ≤ 17) × (l.k ≡ suc (slot_links 2 l.n l.g l.i))
-
-abbrev pub decreases-loop-i : goal.decreases-loop-i
-decreases-loop-i l = 17 - l.i
+invariant-loop-i l = l.links ≡ suc (slot_links 2 l.n l.g l.i)

@@ -1,11 +1,7 @@
 -- `lanes::rounds` meets its contract.
-use Prim.Native.Nat.{◌-◌, ◌≤◌}
 use Rattle.lanes.specs.Private.{four_on}
 use Rattle.lanes.proofs.LaneLaws.{Through}
 use Rattle.lanes.proofs.rounds.Given as goal
 
 abbrev pub invariant-loop-j : goal.invariant-loop-j
-invariant-loop-j l = (l.j ≤ 16) × Through 8 (four_on l.w l.k l.t l.initial.s) l.j l.initial.s l.s
-
-abbrev pub decreases-loop-j : goal.decreases-loop-j
-decreases-loop-j l = 16 - l.j
+invariant-loop-j l = Through 8 (four_on l.w l.k l.t l.initial.s) l.j l.initial.s l.s

@@ -1,26 +1,18 @@
 -- `lanes::schedules` meets its contract.
-use mathlib.Core.Path.{refl}
-use Rattle.lanes.specs.Lanes.{place_of}
-use Rattle.lanes.specs.Private.{schedule_of}
-use Rattle.lanes.proofs.LaneLaws.{stored}
-use Rattle.lanes.proofs.Steps.{schedules_first, schedules_next, schedules_all}
+use native.Mathlib.Omega.{arith}
+use lib.ListN.{length-append}
 use borrow.Author.Rules.{rules}
+use Rattle.lanes.proofs.Steps.{schedules_first, schedules_next, schedules_all}
 use Rattle.lanes.proofs.schedules.Goals as goal
 
-pub loop-p-init : goal.loop-p-init
-loop-p-init c = (search rules, search rules, search rules, schedules_first c.loaded-w.result c.loaded-w.result (λ q l. refl))
-
-pub loop-p-preserved : goal.loop-p-preserved
-loop-p-preserved c = let l = c.loop-p in (
-  search rules,
-  search rules,
-  search rules,
-  stored (place_of (schedule_of
-      c.loaded-w.result)) l.w l.p _ l.invariant.3 (schedules_next
-      c.loaded-w.result l.w l.p l.invariant.3 (search rules) (search rules) c.mixed.ensures)
-      (search rules),
+pub loop-i-init : goal.loop-i-init
+loop-i-init c = (
+  simp length-append (omega arith),
+  schedules_first _ _ c.copy_from_slice.ensures.after (search rules),
 )
 
+pub loop-i-preserved : goal.loop-i-preserved
+loop-i-preserved c = (search rules, schedules_next _ _ _ _ c.loop-i.invariant.1 c.next_row.ensures (search rules) (search rules))
+
 pub returns : goal.returns
-returns c = let l = c.loop-p in schedules_all c.args.m c.loaded-w.result l.w
-    l.p l.invariant.3 c.loaded-w.ensures (search rules) l.invariant.2
+returns c = schedules_all _ _ c.loop-i.i c.loop-i.invariant.1 (search rules) (search rules) c.loop-i.invariant.0

@@ -1,13 +1,10 @@
 -- `lanes::schedules` meets its contract.
-use Prim.Native.Nat.{ℕ, ◌-◌, ◌≤◌, ◌<◌}
+use Prim.Native.Nat.{ℕ, ◌<◌}
 use mathlib.Core.Path.{◌≡◌}
-use lib.ListN.{length, get_or}
-use Rattle.lanes.specs.Lanes.{place_of}
-use Rattle.lanes.specs.Private.{schedule_of}
+use lib.ListN.{length, take}
+use Rattle.sha256.specs.Sha256.{schedule}
+use Rattle.lanes.specs.Lanes.{lane}
 use Rattle.lanes.proofs.schedules.Given as goal
 
-abbrev pub invariant-loop-p : goal.invariant-loop-p
-invariant-loop-p l = (256 ≤ l.p) × (l.p ≤ 1024) × (length l.w ≡ 1024) × ((q : ℕ) → q < l.p → get_or l.w q 0 ≡ place_of (schedule_of l.initial.w) q)
-
-abbrev pub decreases-loop-p : goal.decreases-loop-p
-decreases-loop-p l = 1024 - l.p
+abbrev pub invariant-loop-i : goal.invariant-loop-i
+invariant-loop-i l = (length l.w ≡ 64) × ((j : ℕ) → j < 16 → lane (take l.i l.w) j ≡ schedule (lane l.fn.m j) l.i)

@@ -1,19 +1,8 @@
 -- `lanes::summed` meets its contract.
-use Rattle.lanes.proofs.LaneLaws.{through_none, through_all}
-use Rattle.lanes.proofs.Steps.{sum_turn}
 use borrow.Author.Rules.{rules}
+use Rattle.lanes.proofs.Steps.{sum_turn}
 use Rattle.lanes.proofs.summed.Goals as goal
 
-pub loop-j-init : goal.loop-j-init
-loop-j-init c = (search rules, through_none 8 _ _ c.requires)
-
 pub loop-j-preserved : goal.loop-j-preserved
-loop-j-preserved c = (
-  search rules,
-  let l = c.loop-j in sum_turn _ l.j _
-      l.s l.invariant.1 c.state-g.ensures c.state-v.ensures c.summed-u.ensures
-      c.put_state.ensures (search rules) (search rules),
-)
-
-pub returns : goal.returns
-returns c = through_all 8 _ c.loop-j.j _ _ c.loop-j.invariant.1 (search rules)
+loop-j-preserved c =
+    sum_turn _ _ _ _ c.loop-j.invariant c.state-g.ensures c.state-v.ensures c.summed-u.ensures c.put.ensures (search rules) (search rules)

@@ -1,12 +1,8 @@
 -- `listing::passing_blacks` meets its contract.
 use Rattle.listing.specs.Private.{black_passes}
 use Rattle.lists.specs.Lists.{up_from, every}
-use Rattle.std.proofs.Common.{◌-◌, ◌≤◌}
 use mathlib.Core.{Path.◌≡◌, Bool.true}
 use Rattle.listing.proofs.passing_blacks.Given as goal
 
 abbrev pub invariant-loop-k : goal.invariant-loop-k
-invariant-loop-k l = (l.k ≤ l.m) × (every (black_passes l.n l.t) (up_from 1 l.k) ≡ true)
-
-abbrev pub decreases-loop-k : goal.decreases-loop-k
-decreases-loop-k l = l.m - l.k
+invariant-loop-k l = every (black_passes l.n l.t) (up_from 1 l.k) ≡ true

@@ -1,8 +1,7 @@
 -- `listing::tile_days` meets its contract.
 use Rattle.listing.proofs.{Lists.tile_whole, Lists.tile_failed, Lists.tile_start}
 use Rattle.buffers.proofs.Writes.{wrote_none, wrote_as}
-use Rattle.acceptance.proofs.{Steps.tile_inside, Steps.interval_room, Steps.passes_by}
-use Rattle.layouts.proofs.AllowedLaws.{allowed_n_is}
+use Rattle.acceptance.proofs.{Steps.tile_inside, Steps.passes_by}
 use Rattle.std.proofs.Common.{arith}
 use Rattle.listing.proofs.tile_days.Goals as goal
 
@@ -12,12 +11,6 @@ mark-requires c = let h = c.requires.0 in tile_inside h (omega arith) c.tile_at-
 pub returns-then-mark : goal.returns-then-mark
 returns-then-mark c = let h = c.requires.0 in
     wrote_none _ _ _ (tile_whole _ _ _ h (passes_by 2 _ _ _ c.tile_at-p.ensures c.mark.ensures) c.if-mark.true)
-
-pub lg-requires : goal.lg-requires
-lg-requires c = (allowed_n_is _ c.requires.0.has.n_ok).some
-
-pub overflow_sub-g : goal.overflow_sub-g
-overflow_sub-g c = interval_room c.requires.0
 
 pub tile_walk-requires : goal.tile_walk-requires
 tile_walk-requires c = let pre = c.requires in

@@ -8,21 +8,21 @@ returns-then-r-ne0 c =
     let h = search_refused _ _ _ _ _ c.args.list.now c.refusal-r.ensures c.args.limit c.if-r-ne0.true in
     record { value = h.0; list_after = h.1 }
 
-pub values_through-requires : goal.values_through-requires
-values_through-requires c = let L = values_need _ _ _ _ _ c.args.list.now c.refusal-r.ensures c.if-r-ne0.false in
+pub values_through-values-requires : goal.values_through-values-requires
+values_through-values-requires c = let L = values_need _ _ _ _ _ c.args.list.now c.refusal-r.ensures c.if-r-ne0.false in
     (L.scheme_ok, L.n_ok, L.most)
 
 pub slice_bounds-walk-end : goal.slice_bounds-walk-end
 slice_bounds-walk-end c = part_length _ _ (values_within _ _ _ _ _ c.args.list.now c.refusal-r.ensures c.if-r-ne0.false
-    c.values_through.ensures c.wide-values.ensures)
+    c.values_through-values.ensures)
 
-pub walk-progress-requires : goal.walk-progress-requires
-walk-progress-requires c = walk_given _ _ _ _ _ c.args.list.now c.refusal-r.ensures c.if-r-ne0.false
-    c.values_through.ensures c.wide-values.ensures
+pub walk-requires : goal.walk-requires
+walk-requires c = walk_given _ _ _ _ _ c.args.list.now c.refusal-r.ensures c.if-r-ne0.false
+    c.values_through-values.ensures
 
 pub returns : goal.returns
 returns c = let l = c.args.list.now in
-    let r = c.walk-progress in record {
-      value = search_state _ _ _ _ _ l c.refusal-r.ensures c.if-r-ne0.false c.values_through.ensures c.wide-values.ensures _ r.result r.ensures.value;
-      list_after = search_list _ _ _ _ _ l c.refusal-r.ensures c.if-r-ne0.false c.values_through.ensures c.wide-values.ensures _ r.ensures.list_after;
+    let r = c.walk in record {
+      value = search_state _ _ _ _ _ l c.refusal-r.ensures c.if-r-ne0.false c.values_through-values.ensures _ r.result r.ensures.value;
+      list_after = search_list _ _ _ _ _ l c.refusal-r.ensures c.if-r-ne0.false c.values_through-values.ensures _ r.ensures.list_after;
     }

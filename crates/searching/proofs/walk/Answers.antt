@@ -12,8 +12,8 @@ level_behind-requires c = (omega arith, c.requires.table.most)
 pub loop-looked-init : goal.loop-looked-init
 loop-looked-init c = through_none _ _ _ _ _ _ c.requires.table.some c.level_behind.ensures
 
-pub look-next-requires : goal.look-next-requires
-look-next-requires c =
+pub look-c-requires : goal.look-c-requires
+look-c-requires c =
     let G = c.requires in
     let T = c.loop-looked.invariant in (
       through_given _ _ _ _ _ G _ _ _ T,
@@ -27,7 +27,7 @@ loop-looked-smaller c = omega (arith, c.loop-looked-test.true)
 pub loop-looked-preserved : goal.loop-looked-preserved
 loop-looked-preserved c =
     let G = c.requires in
-    through_next _ _ _ _ _ G _ _ _ c.loop-looked.invariant _ _ c.loop-looked-test.true (omega arith) c.look-next.ensures
+    through_next _ _ _ _ _ G _ _ _ c.loop-looked.invariant _ _ c.loop-looked-test.true (omega arith) c.look-c.ensures
 
 pub overflow_sub-result : goal.overflow_sub-result
 overflow_sub-result c = through_day _ _ _ _ _ c.requires _ _ _ c.loop-looked.invariant
