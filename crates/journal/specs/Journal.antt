@@ -22,7 +22,9 @@ pub data Argument : Type 0 where
 -- 01's tests: add 5 4 (SPEC 6.3), close 5 8 (SPEC 6.4)
 abbrev pub tests_of : ℕ → ℕ → Journal → Argument → List Test
 tests_of scheme n j (adds piece) =
-    ltb (length j.entries) book_limit or_refuse cause.LastSeasonFull ∷ leb (length j.day + length piece) day_limit or_refuse cause.LongDay ∷ []
+    ltb (length j.entries) book_limit or_refuse cause.LastSeasonFull ∷
+    leb (length j.day + length piece) day_limit or_refuse cause.LongDay ∷
+    []
 tests_of scheme n j (closes size) =
     ltb (length j.entries) book_limit or_refuse cause.LastSeasonFull
     ∷ leb (32 * length (chains_of_day scheme n (suc (length j.entries)))) size or_refuse cause.ShortBuffer

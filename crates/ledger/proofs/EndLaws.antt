@@ -1,14 +1,17 @@
 -- Laws of the ends of days, and of the refusals 9 and 10.
 use mathlib.Core.{Path.◌≡◌, Path.refl, Logic.inl, Logic.inr, Bool.true, Bool.false, Bool.◌&&◌}
+use mathlib.Core.Path.{sym, ap}
 use mathlib.Core.List.{List}
 use Prim.Native.Nat.{ℕ, zero, suc, ◌+◌, ◌-◌, ◌≤◌, ◌<◌}
 use native.Mathlib.{Nat.eq-or-lt_of_le, Nat.le_refl, Numerals.add-one, Omega.arith}
 use lib.{Dec.leb, ListN.length, ListN.take, Seq.get_or-take, Seq.take_all, Seq.length-take-le}
 use borrow.Author.Tests.{leb-true, leb-false, le-leb, lt-leb}
-use Rattle.refusals.specs.Refusals.{day_limit}
+use Rattle.std.specs.Prelude.{Ok, Err}
+use Rattle.refusals.specs.Refusals.{day_limit, number_of}
+use Rattle.refusals.specs.declared.Refusal.TheVariants as cause
 use Rattle.lists.proofs.Laws.{split, true_or_false, and_both}
 use Rattle.refusals.proofs.TestLaws.{none_fails}
-use Rattle.ledger.specs.Ledger.{start_of, end_of, good_end, good_ends, ends_tests, ends_refusal}
+use Rattle.ledger.specs.Ledger.{start_of, end_of, good_end, good_ends, ends_tests, ends_tested, ends_refusal}
 use Rattle.ledger.specs.Private.{EndsHold}
 
 -- ---- one end
@@ -44,38 +47,39 @@ good_more ends size i p q = rw (add-one, p, q)
 pub bad_at : (d : ℕ) (ends : List ℕ) (size i : ℕ) → i < d → good_end (start_of ends i) (end_of ends i) size ≡ false → good_ends d ends size ≡ false
 bad_at d ends size i l e = elim (split (good_ends d ends size)) [ inl h ↦ absurd (true_or_false (good_at d ends size i h l) e) | inr h ↦ h ]
 
--- ---- the refusal
+-- ---- the tests
 
-pub refusal_9 : (d : ℕ) (ends : List ℕ) (size : ℕ) → length ends < d → ends_refusal d ends size ≡ 9
-unfolding ends_refusal
-refusal_9 d ends size l = rw (lt-leb d (length ends) l)
+pub few_ends : (d : ℕ) (ends : List ℕ) (size : ℕ) → length ends < d → Err cause.FewEnds ≡ ends_tested d ends size
+unfolding ends_tested
+few_ends d ends size l = rw (lt-leb d (length ends) l) refl
 
-pub refusal_10 : (d : ℕ) (ends : List ℕ) (size i : ℕ) → d ≤ length ends → i < d → good_end (start_of ends i) (end_of ends i) size ≡ false → ends_refusal d ends size ≡ 10
-unfolding ends_refusal
-refusal_10 d ends size i m l e = rw (le-leb d (length ends) m, bad_at d ends size i l e)
+pub bad_end : (d : ℕ) (ends : List ℕ) (size i : ℕ) → d ≤ length ends → i < d → good_end (start_of ends i) (end_of ends i) size ≡ false → Err cause.BadEnd ≡ ends_tested d ends size
+unfolding ends_tested
+bad_end d ends size i m l e = rw (le-leb d (length ends) m, bad_at d ends size i l e) refl
 
-pub refusal_0 : (d : ℕ) (ends : List ℕ) (size i : ℕ) → good_ends i ends size ≡ true → i ≡ d → d ≤ length ends → ends_refusal d ends size ≡ 0
-unfolding ends_refusal
-refusal_0 d ends size i e q m = rw (le-leb d (length ends) m, ← q, e)
+pub all_good : (d : ℕ) (ends : List ℕ) (size i : ℕ) → good_ends i ends size ≡ true → i ≡ d → d ≤ length ends → Ok tt ≡ ends_tested d ends size
+unfolding ends_tested
+all_good d ends size i e q m = rw (le-leb d (length ends) m, ← q, e) refl
 
 -- what the test of the ends goes by
-pub ruleset end_tests = (good_more, refusal_9, refusal_10, refusal_0)
+pub ruleset end_tests = (good_more, few_ends, bad_end, all_good)
 
 -- ---- no refusal
 
 -- there are d ends, and each of the first d is good
 pub refusal_none : (d : ℕ) (ends : List ℕ) (size : ℕ) → ends_refusal d ends size ≡ 0 → EndsHold d ends size
-unfolding ends_refusal
+unfolding ends_tested
 refusal_none d ends size e =
-    let t = none_fails (ends_tests d ends size) refl e in
+    let t = none_fails (ends_tests d ends size) e in
     let g : (i : ℕ) → i < d → (start_of ends i ≤ end_of ends i) × (end_of ends i ≤ size) × (end_of ends i - start_of ends i ≤ day_limit) =
     λ i l. good_end_lem (start_of ends i) (end_of ends i) size (good_at d ends size i t.1.0 l) in
     record { enough = leb-true d (length ends) t.0; ascend = λ i l. (g i l).0; within = λ i l. (g i l).1; limited = λ i l. (g i l).2 }
 
 pub none_refusal : (d : ℕ) (ends : List ℕ) (size : ℕ) → EndsHold d ends size → ends_refusal d ends size ≡ 0
 none_refusal d ends size h =
-    refusal_0 d ends size d
-    (at_good d ends size (λ i l. end_good (start_of ends i) (end_of ends i) size (h.ascend i l) (h.within i l) (h.limited i l))) refl h.enough
+    ap number_of
+    (sym (all_good d ends size d
+    (at_good d ends size (λ i l. end_good (start_of ends i) (end_of ends i) size (h.ascend i l) (h.within i l) (h.limited i l))) refl h.enough))
 
 -- ---- starts
 
@@ -100,7 +104,7 @@ good_front d ends size (suc k) l =
     rw (good_front d ends size k m, start_front d ends k m, get_or-take d ends k 0 l)
 
 read_enough : (d : ℕ) (ends : List ℕ) (size : ℕ) → d ≤ length ends → ends_refusal d ends size ≡ ends_refusal d (take d ends) size
-unfolding ends_refusal
+unfolding ends_tested
 read_enough d ends size l =
     let m : d ≤ length (take d ends) = rw (length-take-le d ends l) (le_refl d) in
     rw (le-leb d (length ends) l, le-leb d (length (take d ends)) m, good_front d ends size d (le_refl d))

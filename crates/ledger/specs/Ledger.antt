@@ -1,8 +1,11 @@
 -- A ledger (SPEC 2.4): bytes, and the ends of its days. Definitions only.
 -- Day 1 has the index 0: the day of index i is day i + 1.
-use Rattle.std.specs.Prelude.{Bool, true, ◌&&◌, List, [], ◌∷◌, ◌++◌, map, ℕ, zero, suc, ◌+◌, ◌-◌, leb, length, get_or, take, drop}
+use Rattle.std.specs.Prelude.{Bool, true, ◌&&◌, List, [], ◌∷◌, ◌++◌, map, ℕ, zero, suc, ◌+◌, ◌-◌, leb, length, get_or}
+use Rattle.std.specs.Prelude.{take, drop, Result}
 use Rattle.layouts.specs.Layouts.{layout_tests}
-use Rattle.refusals.specs.Refusals.{day_limit, Test, ◌or_refuse◌, first_refusal}
+use Rattle.refusals.specs.Refusals.{day_limit, Test, ◌or_refuse◌, tested, number_of}
+use Rattle.refusals.specs.declared.Refusal.{Refusal}
+use Rattle.refusals.specs.declared.Refusal.TheVariants as cause
 
 -- 01's end of a day (SPEC 7.2): the number at its place
 abbrev pub end_of : List ℕ → ℕ → ℕ
@@ -42,14 +45,20 @@ good_ends (suc i) ends size = good_ends i ends size && good_end (start_of ends i
 
 -- 01's tests 9 10 (SPEC 10.9, 10.10)
 abbrev pub ends_tests : ℕ → List ℕ → ℕ → List Test
-ends_tests d ends size = leb d (length ends) or_refuse 9 ∷ good_ends d ends size or_refuse 10 ∷ []
+ends_tests d ends size = leb d (length ends) or_refuse cause.FewEnds ∷ good_ends d ends size or_refuse cause.BadEnd ∷ []
 
-unfoldable pub ends_refusal : ℕ → List ℕ → ℕ → ℕ
-ends_refusal d ends size = first_refusal (ends_tests d ends size)
+unfoldable pub ends_tested : ℕ → List ℕ → ℕ → Result Unit Refusal
+ends_tested d ends size = tested (ends_tests d ends size)
+
+abbrev pub ends_refusal : ℕ → List ℕ → ℕ → ℕ
+ends_refusal d ends size = number_of (ends_tested d ends size)
 
 -- 01's tests 1 2 3 7 9 10 (SPEC 11), with which checking a ledger and sealing one begin
 abbrev pub ledger_tests : ℕ → ℕ → ℕ → ℕ → List ℕ → ℕ → List Test
 ledger_tests scheme n f d ends size = layout_tests scheme n f d ++ ends_tests d ends size
 
-unfoldable pub ledger_refusal : ℕ → ℕ → ℕ → ℕ → List ℕ → ℕ → ℕ
-ledger_refusal scheme n f d ends size = first_refusal (ledger_tests scheme n f d ends size)
+unfoldable pub ledger_tested : ℕ → ℕ → ℕ → ℕ → List ℕ → ℕ → Result Unit Refusal
+ledger_tested scheme n f d ends size = tested (ledger_tests scheme n f d ends size)
+
+abbrev pub ledger_refusal : ℕ → ℕ → ℕ → ℕ → List ℕ → ℕ → ℕ
+ledger_refusal scheme n f d ends size = number_of (ledger_tested scheme n f d ends size)

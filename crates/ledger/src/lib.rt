@@ -2,7 +2,9 @@
 #![tactic(auto)]
 
 ghost use Rattle.std.specs.Prelude.{◌≡◌, ◌<◌, ◌≤◌, length};
-ghost use Rattle.ledger.specs.Ledger.{start_of, end_of, good_end, ends_refusal, ledger_refusal};
+ghost use Rattle.ledger.specs.Ledger.{start_of, end_of, good_end, ends_tested, ledger_tested};
+
+use refusals::Refusal;
 
 // Where the day of index i starts.
 pub fn start_of(ends: &[u32], i: usize) -> usize
@@ -29,30 +31,35 @@ fn good_end(start: usize, end: usize, size: usize) -> bool
     start <= end && end <= size && end - start <= refusals::DAY_LIMIT as usize
 }
 
-// 9 for fewer than d ends, 10 for one of the first d that is not good, else 0. Ends past d are not read.
+// Tests 9 10: fewer than d ends; one of the first d that is not good. Ends past d are not read.
 #[tactic(auto, using(crate::proofs::EndLaws::end_tests))]
-pub fn ends_refusal(d: u32, ends: &[u32], size: usize) -> u32
-    ensures { result ≡ ends_refusal d ends.now size }
+pub fn test_ends(d: u32, ends: &[u32], size: usize) -> Result<(), Refusal>
+    ensures { result ≡ ends_tested d ends.now size }
 {
     let days = d as usize;
     if ends.len() < days {
-        return 9;
+        return Err(Refusal::FewEnds);
     }
     for i in 0..days {
         if !good_end(start_of(ends, i), end_of(ends, i), size) {
-            return 10;
+            return Err(Refusal::BadEnd);
         }
     }
-    0
+    Ok(())
 }
 
 // Tests 1 2 3 7 9 10.
-pub fn ledger_refusal(scheme: u32, n: u32, f: u32, d: u32, ends: &[u32], size: usize) -> u32
-    ensures { result ≡ ledger_refusal scheme n f d ends.now size }
+#[tactic(auto, using(crate::proofs::LedgerLaws::ledger_laws))]
+pub fn test_ledger(
+    scheme: u32,
+    n: u32,
+    f: u32,
+    d: u32,
+    ends: &[u32],
+    size: usize,
+) -> Result<(), Refusal>
+    ensures { result ≡ ledger_tested scheme n f d ends.now size }
 {
-    let x = layouts::layout_refusal(scheme, n, f, d);
-    if x != 0 {
-        return x;
-    }
-    ends_refusal(d, ends, size)
+    layouts::test_layout(scheme, n, f, d)?;
+    test_ends(d, ends, size)
 }

@@ -2,7 +2,7 @@
 use mathlib.Core.Path.{◌≡◌, refl, sym, ap, ◌∙◌}
 use mathlib.Core.Bool.{Bool, true, false}
 use mathlib.Core.List.{List, [], ◌∷◌, ◌++◌}
-use Prim.Native.Nat.{ℕ, zero, suc, ◌+◌, ◌*◌, ◌≤◌, ◌<◌}
+use Prim.Native.Nat.{ℕ, zero, suc, ◌+◌, ◌*◌, ◌^◌, ◌≤◌, ◌<◌}
 use native.Mathlib.Omega.{arith}
 use lib.ListN.{length, get_or, take}
 use lib.Seq.{get_or-take, take_all}
@@ -10,12 +10,16 @@ use borrow.Author.Tests.{leb-true, le-leb, lt-leb}
 use Rattle.lists.specs.Lists.{every}
 use Rattle.lists.proofs.Laws.{bool_ext, and_both}
 use Rattle.refusals.specs.Refusals.{book_limit, day_limit}
-use Rattle.refusals.proofs.TestLaws.{none_fails, all_pass, pass_split, refused_before, refused_after}
-use Rattle.layouts.specs.Layouts.{layout_tests, layout_refusal, chains}
+use Rattle.std.specs.Prelude.{Ok, Err}
+use Rattle.refusals.specs.Refusals.{tested}
+use Rattle.refusals.specs.declared.Refusal.{Refusal}
+use Rattle.refusals.specs.declared.Refusal.TheVariants as cause
+use Rattle.refusals.proofs.TestLaws.{none_fails, no_refusal, pass_split, refused_before, passed_before, number_after, number_passed, passed_number}
+use Rattle.layouts.specs.Layouts.{allowed_scheme, allowed_n, layout_tests, layout_tested, layout_refusal, chains}
+use Rattle.layouts.proofs.AllowedLaws.{layout_asks, chains_few}
 use Rattle.chains.specs.Step.{links_of}
 use Rattle.chains.proofs.BlockLaws.{links_most}
-use Rattle.sizing.specs.declared.Sizing.TheVariants.{Sized, Refused}
-use Rattle.sizing.specs.Sizing.{day_blocks, blocks_through, short_day, lengths_tests, lengths_refusal, sizing_refusal, forecasted}
+use Rattle.sizing.specs.Sizing.{day_blocks, blocks_through, short_day, lengths_tests, lengths_tested, sizing_tested, sizing_refusal, forecasted}
 
 -- ---- the first d lengths
 
@@ -32,31 +36,31 @@ all_short l r f g = bool_ext r (every short_day l) (λ e. each l (f e)) (λ e. g
     each [] h = refl
     each (x ∷ l) h = rw (le-leb x day_limit (h 0 (omega arith))) (each l (λ i m. h (suc i) (omega arith)))
 
--- ---- the refusals
+-- ---- the tests
 
-pub lengths_16 : (d : ℕ) (l : List ℕ) → length l < d → lengths_refusal d l ≡ 16
-unfolding lengths_refusal
-lengths_16 d l m = rw (lt-leb d (length l) m)
+pub lengths_16 : (d : ℕ) (l : List ℕ) → length l < d → Err cause.FewLengths ≡ lengths_tested d l
+unfolding lengths_tested
+lengths_16 d l m = rw (lt-leb d (length l) m) refl
 
-pub lengths_17 : (d : ℕ) (l : List ℕ) → d ≤ length l → every short_day (take d l) ≡ false → lengths_refusal d l ≡ 17
-unfolding lengths_refusal
-lengths_17 d l enough h = rw (le-leb d (length l) enough, h)
+pub lengths_17 : (d : ℕ) (l : List ℕ) → d ≤ length l → every short_day (take d l) ≡ false → Err cause.LongLength ≡ lengths_tested d l
+unfolding lengths_tested
+lengths_17 d l enough h = rw (le-leb d (length l) enough, h) refl
 
-pub lengths_0 : (d : ℕ) (l : List ℕ) → d ≤ length l → every short_day (take d l) ≡ true → lengths_refusal d l ≡ 0
-unfolding lengths_refusal
-lengths_0 d l enough h = rw (le-leb d (length l) enough, h)
+pub lengths_short : (d : ℕ) (l : List ℕ) → d ≤ length l → every short_day (take d l) ≡ true → Ok tt ≡ lengths_tested d l
+unfolding lengths_tested
+lengths_short d l enough h = rw (le-leb d (length l) enough, h) refl
 
 -- what the test of the lengths goes by
-pub ruleset length_tests = (lengths_16, lengths_17, lengths_0)
+pub ruleset length_tests = (lengths_16, lengths_17, lengths_short)
 
 module _ (s n f d : ℕ) (l : List ℕ) where
-  pub layout_first : {x : ℕ} → x ≡ layout_refusal s n f d → (x ≡ 0 → ⊥) → x ≡ sizing_refusal s n f d l
-  unfolding layout_refusal sizing_refusal
-  layout_first e h = refused_before (layout_tests s n f d) (lengths_tests d l) e h
+  pub sizing_early : {r : Refusal} → layout_tested s n f d ≡ Err r → Err r ≡ sizing_tested s n f d l
+  unfolding layout_tested sizing_tested
+  sizing_early e = sym (refused_before (layout_tests s n f d) (lengths_tests d l) e)
 
-  pub lengths_then : {x y : ℕ} → x ≡ layout_refusal s n f d → x ≡ 0 → y ≡ lengths_refusal d l → y ≡ sizing_refusal s n f d l
-  unfolding layout_refusal lengths_refusal sizing_refusal
-  lengths_then e z q = q ∙ sym (refused_after (layout_tests s n f d) (lengths_tests d l) refl (sym e ∙ z))
+  pub sizing_late : layout_tested s n f d ≡ Ok tt → lengths_tested d l ≡ sizing_tested s n f d l
+  unfolding layout_tested lengths_tested sizing_tested
+  sizing_late e = sym (passed_before (layout_tests s n f d) (lengths_tests d l) e)
 
   -- what no refusal says
   pub record Passed : Type 0 where
@@ -64,28 +68,42 @@ module _ (s n f d : ℕ) (l : List ℕ) where
     pub enough : d ≤ length l
     pub short : every short_day (take d l) ≡ true
 
-  pub sizing_passes : {x : ℕ} → x ≡ sizing_refusal s n f d l → x ≡ 0 → Passed
-  unfolding layout_refusal sizing_refusal
-  sizing_passes e z =
-      let p = pass_split (layout_tests s n f d) (lengths_tests d l) (none_fails (layout_tests s n f d ++ lengths_tests d l) refl (sym e ∙ z)) in
-      record { layout = all_pass (layout_tests s n f d) p.0; enough = leb-true d (length l) p.1.0; short = p.1.1.0 }
+  pub sizing_passes : sizing_tested s n f d l ≡ Ok tt → Passed
+  unfolding layout_tested sizing_tested
+  sizing_passes e =
+      let all = layout_tests s n f d ++ lengths_tests d l in
+      let p = pass_split (layout_tests s n f d) (lengths_tests d l) (none_fails all (passed_number (tested all) e)) in
+      record { layout = no_refusal (layout_tests s n f d) p.0; enough = leb-true d (length l) p.1.0; short = p.1.1.0 }
 
   pub passes_sizing : Passed → sizing_refusal s n f d l ≡ 0
-  unfolding layout_refusal sizing_refusal
+  unfolding layout_tested sizing_tested
   passes_sizing p =
-      refused_after (layout_tests s n f d) (lengths_tests d l) refl p.layout ∙ rw (le-leb d (length l) p.enough, p.short)
+      number_after (layout_tests s n f d) (lengths_tests d l) p.layout ∙ rw (le-leb d (length l) p.enough, p.short) refl
 
   -- ---- what forecast gives
 
-  pub forecast_refused : {x : ℕ} → x ≡ sizing_refusal s n f d l → (x ≡ 0 → ⊥) → Refused x ≡ forecasted s n f d l
-  unfolding forecasted
-  forecast_refused {x = zero} e h = absurd (h refl)
-  forecast_refused {x = suc y} e h = rw (← e)
+  module _ (e : sizing_tested s n f d l ≡ Ok tt) where
+    pub sizing_asks : (allowed_scheme s ≡ true) × (allowed_n n ≡ true) × (d ≤ book_limit)
+    sizing_asks = layout_asks s n f d (number_passed (layout_tested s n f d) (sizing_passes e).layout)
 
-  pub forecast_sized : {x v b : ℕ} → x ≡ sizing_refusal s n f d l → x ≡ 0 → v ≡ length (chains s n d) → b ≡ blocks_through s n l d →
-      Sized (record { values = v; bytes = 32 * v; blocks = b }) ≡ forecasted s n f d l
+    pub blocks_ask : (allowed_n n ≡ true) × (d ≤ book_limit) × (d ≤ length l) × (every short_day (take d l) ≡ true)
+    blocks_ask = let p = sizing_passes e in (sizing_asks.1, sizing_asks.2, p.enough, p.short)
+
+    pub values_few : {v : ℕ} → v ≡ length (chains s n d) → 32 * v < 2 ^ 32
+    values_few h = omega (arith, h, chains_few s n d sizing_asks.0 sizing_asks.1 sizing_asks.2)
+
+    pub forecast_sized : {v b : ℕ} → v ≡ length (chains s n d) → b ≡ blocks_through s n l d →
+        Ok (record { values = v; bytes = 32 * v; blocks = b }) ≡ forecasted s n f d l
+    unfolding forecasted
+    forecast_sized q k = rw (e, q, k) refl
+
+  pub forecast_refused : {r : Refusal} → sizing_tested s n f d l ≡ Err r → Err r ≡ forecasted s n f d l
   unfolding forecasted
-  forecast_sized e z q k = rw (← e, z, q, k)
+  forecast_refused e = rw e refl
+
+pub ruleset sizing_laws = (sizing_early, sizing_late)
+
+pub ruleset forecast_laws = (sizing_asks, blocks_ask, values_few, forecast_sized, forecast_refused)
 
 -- ---- blocks
 

@@ -1,13 +1,13 @@
 -- 02's sizing of a season (C-11, SPEC 17): values, bytes of the book and SHA-256 blocks, by the days' lengths alone.
 -- Definitions only.
-use Rattle.std.specs.Prelude.{Bool, List, [], ◌∷◌, ◌++◌, ℕ, zero, suc, ◌+◌, ◌*◌, ◌/◌, leb, length, get_or, take}
+use Rattle.std.specs.Prelude.{Bool, List, [], ◌∷◌, ◌++◌, ℕ, zero, suc, ◌+◌, ◌*◌, ◌/◌, leb, length, get_or, take, Result}
 use Rattle.lists.specs.Lists.{every}
-use Rattle.refusals.specs.Refusals.{day_limit, Test, ◌or_refuse◌, first_refusal}
+use Rattle.refusals.specs.Refusals.{day_limit, Test, ◌or_refuse◌, tested, number_of, answered}
+use Rattle.refusals.specs.declared.Refusal.{Refusal}
+use Rattle.refusals.specs.declared.Refusal.TheVariants as cause
 use Rattle.layouts.specs.Layouts.{layout_tests, chains}
 use Rattle.chains.specs.Step.{links_of}
 use Rattle.sizing.specs.declared.Sizes.{Sizes}
-use Rattle.sizing.specs.declared.Sizing.{Sizing}
-use Rattle.sizing.specs.declared.Sizing.TheVariants.{Sized, Refused}
 
 -- 02's blocks of a day of b bytes (SPEC 17.1), without its links
 abbrev pub day_blocks : ℕ → ℕ
@@ -25,13 +25,17 @@ short_day b = leb b day_limit
 
 -- 02's tests 16 17 (SPEC 10.16, 10.17), after 1 2 3 7
 abbrev pub lengths_tests : ℕ → List ℕ → List Test
-lengths_tests d lengths = leb d (length lengths) or_refuse 16 ∷ every short_day (take d lengths) or_refuse 17 ∷ []
+lengths_tests d lengths =
+    leb d (length lengths) or_refuse cause.FewLengths ∷ every short_day (take d lengths) or_refuse cause.LongLength ∷ []
 
-unfoldable pub lengths_refusal : ℕ → List ℕ → ℕ
-lengths_refusal d lengths = first_refusal (lengths_tests d lengths)
+unfoldable pub lengths_tested : ℕ → List ℕ → Result Unit Refusal
+lengths_tested d lengths = tested (lengths_tests d lengths)
 
-unfoldable pub sizing_refusal : ℕ → ℕ → ℕ → ℕ → List ℕ → ℕ
-sizing_refusal scheme n f d lengths = first_refusal (layout_tests scheme n f d ++ lengths_tests d lengths)
+unfoldable pub sizing_tested : ℕ → ℕ → ℕ → ℕ → List ℕ → Result Unit Refusal
+sizing_tested scheme n f d lengths = tested (layout_tests scheme n f d ++ lengths_tests d lengths)
+
+abbrev pub sizing_refusal : ℕ → ℕ → ℕ → ℕ → List ℕ → ℕ
+sizing_refusal scheme n f d lengths = number_of (sizing_tested scheme n f d lengths)
 
 -- the sizes: 01's number of values (SPEC 4.12), 32 bytes a value, the blocks
 abbrev pub sizes_of : ℕ → ℕ → ℕ → List ℕ → Sizes
@@ -42,15 +46,6 @@ sizes_of scheme n d lengths =
       blocks = blocks_through scheme n lengths d;
     }
 
-abbrev pub sizing_of : ℕ → Sizes → Sizing
-sizing_of zero sizes = Sized sizes
-sizing_of (suc x) sizes = Refused (suc x)
-
 -- what forecast gives
-unfoldable pub forecasted : ℕ → ℕ → ℕ → ℕ → List ℕ → Sizing
-forecasted scheme n f d lengths = sizing_of (sizing_refusal scheme n f d lengths) (sizes_of scheme n d lengths)
-
--- 02's number for each answer: 0, or the refusal's
-abbrev pub sizing_number : Sizing → ℕ
-sizing_number (Sized sizes) = 0
-sizing_number (Refused number) = number
+unfoldable pub forecasted : ℕ → ℕ → ℕ → ℕ → List ℕ → Result Sizes Refusal
+forecasted scheme n f d lengths = answered (sizing_tested scheme n f d lengths) (sizes_of scheme n d lengths)

@@ -5,20 +5,16 @@ ghost use Rattle.std.specs.Prelude.{◌≡◌, true, ◌≤◌, length, take};
 ghost use Rattle.lists.specs.Lists.{every};
 ghost use Rattle.refusals.specs.Refusals.{day_limit, book_limit};
 ghost use Rattle.layouts.specs.Layouts.{allowed_n};
-ghost use Rattle.sizing.specs.Sizing.{day_blocks, short_day, blocks_through, lengths_refusal, sizing_refusal};
+ghost use Rattle.sizing.specs.Sizing.{day_blocks, short_day, blocks_through, lengths_tested, sizing_tested};
 ghost use Rattle.sizing.specs.Sizing.{forecasted};
 
-#[derive(Drop)]
+use refusals::Refusal;
+
+#[derive(Clone, Copy, Debug, PartialEq, Eq)]
 pub struct Sizes {
     pub values: u32,
     pub bytes: u32,
     pub blocks: u64,
-}
-
-#[derive(Drop)]
-pub enum Sizing {
-    Sized(Sizes),
-    Refused(u32),
 }
 
 // Whether no length is over the day's limit.
@@ -30,28 +26,26 @@ fn short_days(lengths: &[u32]) -> bool
 
 // Tests 16 17 (SPEC 17.6): fewer than d lengths; one of the first d over the day's limit. Lengths past d are not read.
 #[tactic(auto, using(crate::proofs::LengthLaws::length_tests))]
-fn lengths_refusal(d: u32, lengths: &[u32]) -> u32
-    ensures { result ≡ lengths_refusal d lengths.now }
+fn test_lengths(d: u32, lengths: &[u32]) -> Result<(), Refusal>
+    ensures { result ≡ lengths_tested d lengths.now }
 {
     let days = d as usize;
     if lengths.len() < days {
-        return 16;
+        return Err(Refusal::FewLengths);
     }
     if !short_days(&lengths[..days]) {
-        return 17;
+        return Err(Refusal::LongLength);
     }
-    0
+    Ok(())
 }
 
 // Tests 1 2 3 7 16 17.
-fn sizing_refusal(scheme: u32, n: u32, f: u32, d: u32, lengths: &[u32]) -> u32
-    ensures { result ≡ sizing_refusal scheme n f d lengths.now }
+#[tactic(auto, using(crate::proofs::LengthLaws::sizing_laws))]
+fn test_sizing(scheme: u32, n: u32, f: u32, d: u32, lengths: &[u32]) -> Result<(), Refusal>
+    ensures { result ≡ sizing_tested scheme n f d lengths.now }
 {
-    let x = layouts::layout_refusal(scheme, n, f, d);
-    if x != 0 {
-        return x;
-    }
-    lengths_refusal(d, lengths)
+    layouts::test_layout(scheme, n, f, d)?;
+    test_lengths(d, lengths)
 }
 
 // The blocks of a day of b bytes, without its links.
@@ -77,16 +71,14 @@ fn blocks(scheme: u32, n: u32, d: u32, lengths: &[u32]) -> u64
     sum
 }
 
-pub fn forecast(scheme: u32, n: u32, f: u32, d: u32, lengths: &[u32]) -> Sizing
+#[tactic(auto, using(crate::proofs::LengthLaws::forecast_laws))]
+pub fn forecast(scheme: u32, n: u32, f: u32, d: u32, lengths: &[u32]) -> Result<Sizes, Refusal>
     ensures { result ≡ forecasted scheme n f d lengths.now }
 {
-    let x = sizing_refusal(scheme, n, f, d, lengths);
-    if x != 0 {
-        return Sizing::Refused(x);
-    }
+    test_sizing(scheme, n, f, d, lengths)?;
     let values = layouts::values_through(scheme, n, d);
     let blocks = blocks(scheme, n, d, lengths);
-    Sizing::Sized(Sizes {
+    Ok(Sizes {
         values,
         bytes: 32 * values,
         blocks,
