@@ -66,7 +66,8 @@ fn check_days<R: Running + Drop>(
         let day = &ledger[ledger::start_of(ends, i)..ledger::end_of(ends, i)];
         let h = hasher::digest(0, day);
         buffers::put(work, 32 * i, &sha256_words::bytes(h));
-        at += running.close(i as u32 + 1, h, &book[32 * at..], &mut outcomes[at..]) as usize;
+        let from = 32 * at;
+        at += running.close(i as u32 + 1, h, &book[from..], &mut outcomes[at..]) as usize;
     }
 }
 

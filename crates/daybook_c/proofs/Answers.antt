@@ -17,25 +17,7 @@ use Rattle.service.specs.declared.Record.{Record}
 use Rattle.service.specs.declared.Writing.{Writing}
 use Rattle.service.specs.declared.Added.{Added}
 use Rattle.service.specs.declared.Closed.{Closed}
-use Rattle.sizing.specs.declared.Sizes.{Sizes}
-use Rattle.sizing.specs.declared.Sizing.{Sizing}
-use Rattle.sizing.specs.declared.Sizing.TheVariants.{Sized, Refused}
-use Rattle.sizing.specs.Sizing.{sizing_number}
-use Rattle.positions.specs.declared.Chain.{Chain}
-use Rattle.positions.specs.declared.Located.{Located}
-use Rattle.positions.specs.declared.Located.TheVariants as case-of-located
-use Rattle.positions.specs.declared.Place.{Place}
-use Rattle.positions.specs.declared.Place.TheVariants as case-of-place
-use Rattle.positions.specs.Positions.{kind_number, located_number, place_number}
-use Rattle.searching.specs.declared.Progress.{Progress}
-use Rattle.searching.specs.declared.Searched.{Searched}
-use Rattle.searching.specs.declared.Searched.TheVariants as case-of-searched
-use Rattle.searching.specs.Searching.{searched_number}
-use Rattle.ambiguity.specs.declared.Counts.{Counts}
-use Rattle.ambiguity.specs.declared.Counting.{Counting}
-use Rattle.ambiguity.specs.declared.Counting.TheVariants as case-of-counting
-use Rattle.ambiguity.specs.Ambiguity.{counting_number}
-use Rattle.daybook_c.specs.Contract.{added_bytes, closed_bytes, numbers_after, values_after, record_values_after, sizes_after, chain_after, position_after, progress_after, counts_after}
+use Rattle.daybook_c.specs.Contract.{added_bytes, closed_bytes, numbers_after, values_after, record_values_after}
 
 -- ---- add
 
@@ -152,58 +134,3 @@ module _ (b : List ℕ) (old : ℕ) (s : Record) (a : Writing) (x : ℕ) (decode
   pub record_kept : (x ≡ 0 → ⊥) → old ≡ record_values_after b old
   unfolding record_values_after
   record_kept some = old_stays (writing_number (written_so_far (record_of b))) (count_of (written_so_far (record_of b))) old record_number some
-
--- ---- forecast
-
-module _ (answer : Sizing) (old : List ℕ) where
-  pub forecast_given : (s : Sizes) → Sized s ≡ answer → (0 ≡ sizing_number answer) × (s.values ∷ s.bytes ∷ s.blocks ∷ [] ≡ sizes_after answer old)
-  unfolding sizes_after
-  forecast_given s e = (rw (← e), rw (← e))
-
-  pub forecast_kept : (x : ℕ) → Refused x ≡ answer → (x ≡ sizing_number answer) × (old ≡ sizes_after answer old)
-  unfolding sizes_after
-  forecast_kept x e = (rw (← e), rw (← e))
-
--- ---- chain_at and position_of
-
-module _ (answer : Located) (old : List ℕ) where
-  pub chain_given : (c : Chain) {k : ℕ} → case-of-located.At c ≡ answer → k ≡ kind_number c.kind →
-      (0 ≡ located_number answer) × (k ∷ c.index ∷ c.first ∷ c.last ∷ [] ≡ chain_after answer old)
-  unfolding chain_after
-  chain_given c e q = (rw (← e), rw (← e, q))
-
-  pub chain_kept : (x : ℕ) → case-of-located.Refused x ≡ answer → (x ≡ located_number answer) × (old ≡ chain_after answer old)
-  unfolding chain_after
-  chain_kept x e = (rw (← e), rw (← e))
-
-module _ (answer : Place) (old : ℕ) where
-  pub place_given : (p : ℕ) → case-of-place.At p ≡ answer → (0 ≡ place_number answer) × (p ≡ position_after answer old)
-  unfolding position_after
-  place_given p e = (rw (← e), rw (← e))
-
-  pub place_kept : (x : ℕ) → case-of-place.Refused x ≡ answer → (x ≡ place_number answer) × (old ≡ position_after answer old)
-  unfolding position_after
-  place_kept x e = (rw (← e), rw (← e))
-
--- ---- search
-
-module _ (answer : Searched) (old : List ℕ) where
-  pub search_given : (p : Progress) → case-of-searched.State p ≡ answer →
-      (0 ≡ searched_number answer) × (p.looked ∷ p.found ∷ p.undecided ∷ [] ≡ progress_after answer old)
-  unfolding progress_after
-  search_given p e = (rw (← e), rw (← e))
-
-  pub search_kept : (x : ℕ) → case-of-searched.Refused x ≡ answer → (x ≡ searched_number answer) × (old ≡ progress_after answer old)
-  unfolding progress_after
-  search_kept x e = (rw (← e), rw (← e))
-
--- ---- tile_counts
-
-module _ (answer : Counting) (old : List ℕ) where
-  pub counts_given : (c : Counts) → case-of-counting.Counted c ≡ answer → (0 ≡ counting_number answer) × (c.sets ∷ c.listed ∷ [] ≡ counts_after answer old)
-  unfolding counts_after
-  counts_given c e = (rw (← e), rw (← e))
-
-  pub counts_kept : (x : ℕ) → case-of-counting.Refused x ≡ answer → (x ≡ counting_number answer) × (old ≡ counts_after answer old)
-  unfolding counts_after
-  counts_kept x e = (rw (← e), rw (← e))

@@ -28,11 +28,9 @@ pub fn daybook_open(scheme: u32, n: u32, f: u32, state: &mut [u8; RECORD_BYTES])
     ensures value { result ≡ number_of (opened scheme n f).answer }
     ensures state_after { state.new ≡ bytes_of_record (opened scheme n f).state }
 {
-    let o = service::open(scheme, n, f);
-    let fresh = o.state;
-    *state = record_bytes::encode(fresh);
-    let a = o.answer;
-    refusals::number_of(a)
+    let opened = service::open(scheme, n, f);
+    *state = record_bytes::encode(opened.state);
+    refusals::number_of(opened.answer)
 }
 
 pub fn daybook_add(state: &mut [u8; RECORD_BYTES], piece: &[u8], blocks: &mut u32) -> u32
@@ -42,14 +40,11 @@ pub fn daybook_add(state: &mut [u8; RECORD_BYTES], piece: &[u8], blocks: &mut u3
     ensures blocks_after { blocks.new ≡
         (added_bytes state.old piece.now blocks.old).blocks }
 {
-    let b = *state;
-    let o = service::add(record_bytes::decode(b), piece);
-    let a = o.answer;
-    let x = refusals::number_of(a);
+    let added = service::add(record_bytes::decode(*state), piece);
+    let x = refusals::number_of(added.answer);
     if x == 0 {
-        let grown = o.state;
-        *state = record_bytes::encode(grown);
-        *blocks = o.blocks;
+        *state = record_bytes::encode(added.state);
+        *blocks = added.blocks;
     }
     x
 }
@@ -71,15 +66,12 @@ pub fn daybook_close(
     ensures blocks_after { blocks.new ≡
         (closed_bytes state.old part.old values.old blocks.old).blocks }
 {
-    let b = *state;
-    let o = service::close(record_bytes::decode(b), part);
-    let a = o.answer;
-    let x = service::writing_number(a);
+    let closed = service::close(record_bytes::decode(*state), part);
+    let x = service::writing_number(closed.answer);
     if x == 0 {
-        let next = o.state;
-        *state = record_bytes::encode(next);
-        *values = service::count_of(a);
-        *blocks = o.blocks;
+        *state = record_bytes::encode(closed.state);
+        *values = service::count_of(closed.answer);
+        *blocks = closed.blocks;
     }
     x
 }
@@ -167,15 +159,15 @@ pub fn daybook_record_values(state: &[u8; RECORD_BYTES], values: &mut u32) -> u3
     ensures value { result ≡ writing_number (written_so_far (record_of state.now)) }
     ensures values_after { values.new ≡ record_values_after state.now values.old }
 {
-    let b = *state;
-    let a = service::values_so_far(record_bytes::decode(b));
-    let x = service::writing_number(a);
+    let written = service::values_so_far(record_bytes::decode(*state));
+    let x = service::writing_number(written);
     if x == 0 {
-        *values = service::count_of(a);
+        *values = service::count_of(written);
     }
     x
 }
 
+#[tactic(auto, unfolding(crate::specs::Contract::sizes_after))]
 pub fn daybook_forecast(
     scheme: u32,
     n: u32,
@@ -188,16 +180,16 @@ pub fn daybook_forecast(
     ensures sizes_after { sizes.new ≡
         sizes_after (forecasted scheme n f d lengths.now) sizes.old }
 {
-    let a = sizing::forecast(scheme, n, f, d, lengths);
-    match a {
+    match sizing::forecast(scheme, n, f, d, lengths) {
         Sizing::Sized(s) => {
-            *sizes = [s.values as u64, s.bytes as u64, s.blocks];
+            *sizes = [u64::from(s.values), u64::from(s.bytes), s.blocks];
             0
         }
         Sizing::Refused(x) => x,
     }
 }
 
+#[tactic(auto, unfolding(crate::specs::Contract::chain_after))]
 pub fn daybook_chain_at(
     scheme: u32,
     n: u32,
@@ -209,17 +201,16 @@ pub fn daybook_chain_at(
     ensures value { result ≡ located_number (located scheme n f d position) }
     ensures chain_after { chain.new ≡ chain_after (located scheme n f d position) chain.old }
 {
-    let a = positions::chain_at(scheme, n, f, d, position);
-    match a {
+    match positions::chain_at(scheme, n, f, d, position) {
         Located::At(c) => {
-            let kind = c.kind;
-            *chain = [positions::kind_number(kind), c.index, c.first, c.last];
+            *chain = [positions::kind_number(c.kind), c.index, c.first, c.last];
             0
         }
         Located::Refused(x) => x,
     }
 }
 
+#[tactic(auto, unfolding(crate::specs::Contract::position_after))]
 pub fn daybook_position_of(
     scheme: u32,
     n: u32,
@@ -232,9 +223,7 @@ pub fn daybook_position_of(
     ensures position_after { position.new ≡
         position_after (placed scheme n f d chain.now) position.old }
 {
-    let c = *chain;
-    let a = positions::position_of_numbers(scheme, n, f, d, c);
-    match a {
+    match positions::position_of_numbers(scheme, n, f, d, *chain) {
         Place::At(p) => {
             *position = p;
             0
@@ -243,6 +232,7 @@ pub fn daybook_position_of(
     }
 }
 
+#[tactic(auto, unfolding(crate::specs::Contract::progress_after))]
 pub fn daybook_search(
     scheme: u32,
     n: u32,
@@ -261,8 +251,7 @@ pub fn daybook_search(
         progress_after (searched scheme n f d outcomes.now limit list.old).answer
         progress.old }
 {
-    let a = searching::search(scheme, n, f, d, outcomes, limit, list);
-    match a {
+    match searching::search(scheme, n, f, d, outcomes, limit, list) {
         Searched::State(p) => {
             *progress = [p.looked, p.found, p.undecided];
             0
@@ -271,12 +260,12 @@ pub fn daybook_search(
     }
 }
 
+#[tactic(auto, unfolding(crate::specs::Contract::counts_after))]
 pub fn daybook_tile_counts(n: u32, k: u32, counts: &mut [u32; 2]) -> u32
     ensures value { result ≡ counting_number (counted n k) }
     ensures counts_after { counts.new ≡ counts_after (counted n k) counts.old }
 {
-    let a = ambiguity::tile_counts(n, k);
-    match a {
+    match ambiguity::tile_counts(n, k) {
         Counting::Counted(c) => {
             *counts = [c.sets, c.listed];
             0

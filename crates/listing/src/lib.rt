@@ -1,5 +1,6 @@
 // The listed days of an accepted table. Each function writes days to the list from a place on and gives the place
 // behind the last of them.
+// (With the rest of the list and a count each call would slice and add: b + walk(.., &mut list[b..]).)
 #![tactic(auto)]
 
 ghost use Rattle.std.specs.Prelude.{◌≡◌, suc, ◌+◌, ◌-◌, ◌*◌, ◌/◌, ◌^◌, ◌<◌, ◌≤◌, true, map, length, take, drop};

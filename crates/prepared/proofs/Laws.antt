@@ -1,10 +1,10 @@
 -- A block's schedule made ready, and the rounds with it. Assumes nothing.
-use Prim.Native.Nat.{ℕ, zero, suc, ◌+◌, ◌-◌, ◌%◌, ◌≤◌, ◌<◌}
+use Prim.Native.Nat.{ℕ, zero, suc, ◌+◌, ◌-◌, ◌*◌, ◌≤◌, ◌<◌}
 use mathlib.Core.{Path.◌≡◌, Path.refl, Path.sym, Path.ap, Path.◌∙◌, List.List, List.[], List.◌∷◌, List.◌++◌}
 use native.Mathlib.{Omega.arith, Numerals.add-one, Nat.add-zero, Nat.add-suc, Nat.zero-add}
 use borrow.Author.{Count.below_more, Tests.le-ltb}
-use lib.ListN.{length, get_or, take, set, length-set}
-use lib.Seq.{take-suc, take-suc-set, take_all, length-take-le, get_or-take, get_or-set_same, get_or-set_other}
+use lib.ListN.{length, get_or, take, set, length-set, get_or-append}
+use lib.Seq.{take-suc-set, take_all, take_at, get_or-set_same, get_or-set_other}
 use Rattle.sha256_words.specs.Words.{add32, k_table}
 use Rattle.sha256.specs.Sha256.{later, scheduled, grown, schedule, t1, round, rounds, summed, compress}
 use Rattle.sha256.specs.Private.{mixed, rounds_on}
@@ -13,16 +13,8 @@ use Rattle.prepared.specs.Private.{Prepared, worked}
 
 -- ---- the schedule: its first i words stand in w
 
-pub loaded_next : (m w : List ℕ) (i : ℕ) → take i w ≡ take i m → i < length w → i < length m → take (i + 1) (set w i (get_or m i 0)) ≡ take (i + 1) m
-loaded_next m w i e l k = rw (add-one, take-suc-set w i (get_or m i 0) l, e) (sym (take-suc m i 0 k))
-
-pub loaded_all : (m w : List ℕ) (i : ℕ) → take i w ≡ take i m → i ≤ 16 → 16 ≤ i → length m ≡ 16 → take 16 w ≡ m
-loaded_all m w i e l k n = let q : i ≡ 16 = omega arith in (rw q at e) ∙ take_all 16 m (omega arith)
-
-pub schedule_first : (w : List ℕ) → length w ≡ 64 → take 16 w ≡ schedule (take 16 w) 16
-schedule_first w n =
-    let e : length (take 16 w) ≡ 16 = length-take-le 16 w (omega arith) in
-    sym (begins (take 16 w) 16 e (omega arith) ∙ take_all 16 (take 16 w) (omega arith))
+pub schedule_first : (m rest : List ℕ) {a : List ℕ} → a ≡ m → length m ≡ 16 → take 16 (a ++ rest) ≡ schedule m 16
+schedule_first m rest {a} e n = rw e (take_at m rest 16 n ∙ sym (begins m 16 n (omega arith) ∙ take_all 16 m (omega arith)))
 
 pub schedule_next : (m w : List ℕ) (i a : ℕ) {x : ℕ} → take i w ≡ schedule m i → 16 ≤ i → i < length w → a ≡ get_or w (i - 2) 0
     → x ≡ mixed a (get_or w (i - 7) 0) (get_or w (i - 15) 0) (get_or w (i - 16) 0)
@@ -33,8 +25,8 @@ schedule_next m w i a {x} e l k ea ex =
     (ap (λ (y : ℕ). schedule m i ++ y ∷ []) ((rw ea at ex) ∙ sym (later_take w i l) ∙ ap (λ (z : List ℕ). later z i) e))
 
 -- the two words that are carried, at first and after a turn
-pub carried_first : (m w : List ℕ) (j : ℕ) → take 16 w ≡ m → j < 16 → get_or m j 0 ≡ get_or w j 0
-carried_first m w j e l = ap (λ (z : List ℕ). get_or z j 0) (sym e) ∙ get_or-take 16 w j 0 l
+pub carried_first : (m rest : List ℕ) (j : ℕ) {a : List ℕ} → a ≡ m → length m ≡ 16 → j < 16 → get_or m j 0 ≡ get_or (a ++ rest) j 0
+carried_first m rest j e n l = rw e (sym (get_or-append m rest 0 j (omega arith)))
 
 pub carried_on : (w : List ℕ) (i x : ℕ) {b : ℕ} → b ≡ get_or w (i - 1) 0 → 16 ≤ i → b ≡ get_or (set w i x) (i + 1 - 2) 0
 carried_on w i x e l = let p : i + 1 - 2 ≡ i - 1 = omega arith in e ∙ rw p (sym (get_or-set_other w i (i - 1) x 0 (λ q. omega arith)))
@@ -42,9 +34,8 @@ carried_on w i x e l = let p : i + 1 - 2 ≡ i - 1 = omega arith in e ∙ rw p (
 pub carried_new : (w : List ℕ) (i x : ℕ) → i < length w → x ≡ get_or (set w i x) (i + 1 - 1) 0
 carried_new w i x l = let p : i + 1 - 1 ≡ i = omega arith in rw p (sym (get_or-set_same w i x 0 l))
 
--- from the block m, put at the front of w₀
-pub schedule_all : (m w₀ w : List ℕ) (i : ℕ) → take i w ≡ schedule (take 16 w₀) i → take 16 w₀ ≡ m → i ≤ 64 → 64 ≤ i → length w ≡ 64 → w ≡ schedule m 64
-schedule_all m w₀ w i e em l k n = let q : i ≡ 64 = omega arith in sym (take_all 64 w (omega arith)) ∙ (rw (q, em) at e)
+pub schedule_all : (m w : List ℕ) (i : ℕ) → take i w ≡ schedule m i → i ≡ 64 → length w ≡ 64 → w ≡ schedule m 64
+schedule_all m w i e q n = sym (take_all 64 w (omega arith)) ∙ (rw q at e)
 
 -- ---- the constants added: to the first i words of s
 
@@ -72,34 +63,23 @@ prepared_of m k s i w a l ek es = record { size = a.size; each = λ q h. a.done 
 
 -- ---- the rounds
 
--- what holds before round t
-pub record Before (h w : List ℕ) (t : ℕ) (v : List ℕ) : Type 0 where
-  pub within : t ≤ 64
-  pub sixteens : t % 16 ≡ 0
-  pub value : v ≡ rounds_on h [] w 0 t
-
-pub before_first : (h w : List ℕ) → Before h w 0 h
-unfolding rounds_on
-before_first h w = record { within = omega arith; sixteens = refl; value = refl }
-
 rounds_more : (h w : List ℕ) (t n : ℕ) → rounds_on (rounds_on h [] w 0 t) [] w t n ≡ rounds_on h [] w 0 (t + n)
 unfolding rounds_on
 rounds_more h w t zero = rw add-zero
 rounds_more h w t (suc n) = rw (add-suc, zero-add) (ap (λ (v : List ℕ). round v (get_or w (t + n) 0) 0) (rounds_more h w t n))
 
-pub before_next : (h w : List ℕ) (t : ℕ) {v u : List ℕ} → Before h w t v → t < 64 → u ≡ rounds_on v [] w t 16 → Before h w (t + 16) u
-before_next h w t b l eu =
-    record {
-      within = let s = b.sixteens in omega arith;
-      sixteens = let s = b.sixteens in omega arith;
-      value = eu ∙ ap (λ (x : List ℕ). rounds_on x [] w t 16) b.value ∙ rounds_more h w t 16;
-    }
+pub turn_first : (h w : List ℕ) → h ≡ rounds_on h [] w 0 0
+unfolding rounds_on
+turn_first h w = refl
 
-pub worked_of : (h w : List ℕ) (t : ℕ) {v r : List ℕ} → Before h w t v → 64 ≤ t → r ≡ summed h v → r ≡ worked h w
+pub turn_next : (h w : List ℕ) (t : ℕ) {v u : List ℕ} → v ≡ rounds_on h [] w 0 (16 * t) → u ≡ rounds_on v [] w (16 * t) 16 → u ≡ rounds_on h [] w 0 (16 * (t + 1))
+turn_next h w t e eu =
+    let q : 16 * (t + 1) ≡ 16 * t + 16 = omega arith in
+    eu ∙ rw (q, e) (rounds_more h w (16 * t) 16)
+
+pub worked_of : (h w : List ℕ) (t : ℕ) {v r : List ℕ} → v ≡ rounds_on h [] w 0 (16 * t) → t ≡ 4 → r ≡ summed h v → r ≡ worked h w
 unfolding worked
-worked_of h w t b l er =
-    let e : t ≡ 64 = let i = b.within in omega arith in
-    er ∙ ap (summed h) (b.value ∙ ap (rounds_on h [] w 0) e)
+worked_of h w t e q er = er ∙ ap (summed h) (rw q at e)
 
 -- ---- a prepared block serves as the block
 

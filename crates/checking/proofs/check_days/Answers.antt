@@ -10,8 +10,8 @@ use Rattle.checking.proofs.check_days.Goals as goal
 pub loop-i-init : goal.loop-i-init
 loop-i-init g c = (refl, refl, through_none _ _ _ _ _ _ _ c.requires.ready c.requires.first_day)
 
-pub overflow_mul-at : goal.overflow_mul-at
-overflow_mul-at g c = omega (arith, (parts_within c.loop-i.invariant.2 (omega arith)).0)
+pub overflow_mul-from : goal.overflow_mul-from
+overflow_mul-from g c = omega (arith, (parts_within c.loop-i.invariant.2 (omega arith)).0)
 
 pub slice_bounds-close-count : goal.slice_bounds-close-count
 slice_bounds-close-count g c = (parts_within c.loop-i.invariant.2 (omega arith)).0

@@ -6,7 +6,7 @@ pub returns-then-x-eq0 : goal.returns-then-x-eq0
 returns-then-x-eq0 c =
     let args = c.args in
     let decoded = c.decode.ensures in
-    let call = c.add-o.ensures in
+    let call = c.add-added.ensures in
     let number = c.number_of-x.ensures in
     let test = c.if-x-eq0.true in
     record {
@@ -19,7 +19,7 @@ pub returns-else-x-eq0 : goal.returns-else-x-eq0
 returns-else-x-eq0 c =
     let args = c.args in
     let decoded = c.decode.ensures in
-    let call = c.add-o.ensures in
+    let call = c.add-added.ensures in
     let number = c.number_of-x.ensures in
     let kept = add_kept args.state.now args.piece.now args.blocks.now _ _ _ decoded call number c.if-x-eq0.false in
     record {

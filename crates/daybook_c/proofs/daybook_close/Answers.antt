@@ -6,7 +6,7 @@ pub returns-then-x-eq0 : goal.returns-then-x-eq0
 returns-then-x-eq0 c =
     let args = c.args in
     let decoded = c.decode.ensures in
-    let call = c.close-o.ensures in
+    let call = c.close-closed.ensures in
     let number = c.writing_number-x.ensures in
     let test = c.if-x-eq0.true in
     record {
@@ -25,7 +25,7 @@ pub returns-else-x-eq0 : goal.returns-else-x-eq0
 returns-else-x-eq0 c =
     let args = c.args in
     let decoded = c.decode.ensures in
-    let call = c.close-o.ensures in
+    let call = c.close-closed.ensures in
     let number = c.writing_number-x.ensures in
     let kept =
     close_kept args.state.now args.part.now args.values.now args.blocks.now _ _ _ _ decoded call.value call.part_after number

@@ -6,7 +6,7 @@ pub returns-then-x-eq0 : goal.returns-then-x-eq0
 returns-then-x-eq0 c =
     let args = c.args in
     let decoded = c.decode.ensures in
-    let call = c.values_so_far-a.ensures in
+    let call = c.values_so_far-written.ensures in
     let number = c.writing_number-x.ensures in
     record {
       value = record_number args.state.now args.values.now _ _ _ decoded call number;
@@ -17,7 +17,7 @@ pub returns-else-x-eq0 : goal.returns-else-x-eq0
 returns-else-x-eq0 c =
     let args = c.args in
     let decoded = c.decode.ensures in
-    let call = c.values_so_far-a.ensures in
+    let call = c.values_so_far-written.ensures in
     let number = c.writing_number-x.ensures in
     record {
       value = record_number args.state.now args.values.now _ _ _ decoded call number;

@@ -1,10 +1,9 @@
 -- `prepared::compress` meets its contract.
-use Prim.Native.Nat.{◌-◌}
-use Rattle.prepared.proofs.Laws.{Before}
+use Prim.Native.Nat.{◌*◌}
+use mathlib.Core.Path.{◌≡◌}
+use mathlib.Core.List.{[]}
+use Rattle.sha256.specs.Private.{rounds_on}
 use Rattle.prepared.proofs.compress.Given as goal
 
-abbrev pub invariant-loop-t : goal.invariant-loop-t
-invariant-loop-t l = Before l.h l.w l.t l.v
-
-abbrev pub decreases-loop-t : goal.decreases-loop-t
-decreases-loop-t l = 64 - l.t
+abbrev pub invariant-loop-turn : goal.invariant-loop-turn
+invariant-loop-turn l = l.v ≡ rounds_on l.h [] l.w 0 (16 * l.turn)

@@ -1,4 +1,6 @@
 -- `prepared::prepare` meets its contract.
+use mathlib.Core.Path.{refl}
+use Rattle.sha256_words.specs.Words.{add32}
 use Rattle.prepared.proofs.Laws.{added_none, added_next, prepared_of}
 use borrow.Author.Rules.{rules}
 use Rattle.prepared.proofs.prepare.Goals as goal
@@ -7,8 +9,8 @@ pub loop-i-init : goal.loop-i-init
 loop-i-init c = added_none _ _ (search rules)
 
 pub loop-i-preserved : goal.loop-i-preserved
-loop-i-preserved c = added_next _ _ _ _ c.loop-i.invariant (search rules) c.add32.ensures
+unfolding add32
+loop-i-preserved c = added_next _ _ _ _ c.loop-i.invariant (search rules) refl
 
 pub returns : goal.returns
-returns c = prepared_of _ _ _ _ _ c.loop-i.invariant (search rules) c.table-k.ensures
-    c.scheduled-w.ensures
+returns c = prepared_of _ _ _ _ _ c.loop-i.invariant (search rules) c.table-k.ensures c.scheduled-w.ensures

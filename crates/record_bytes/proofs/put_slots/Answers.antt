@@ -1,28 +1,15 @@
 -- `record_bytes::put_slots` meets its contract.
-use Prim.Native.Nat.{ℕ, ◌+◌, ◌*◌}
-use mathlib.Core.Path.{◌≡◌, refl, ap, ◌∙◌}
-use lib.ListN.{take}
-use native.Mathlib.Omega.{arith}
-use Rattle.record_bytes.specs.Bytes.{running_at}
-use Rattle.record_bytes.proofs.Steps.{slots_none, slots_put_next, slots_filled}
-use borrow.Author.Rules.{rules}
+use Rattle.std.proofs.Common.{append-nil, rules}
+use Rattle.record_bytes.specs.Bytes.{slots_bytes}
+use Rattle.record_bytes.proofs.Steps.{slot_put, slots_put}
 use Rattle.record_bytes.proofs.put_slots.Goals as goal
 
 pub loop-k-init : goal.loop-k-init
-loop-k-init c = (search rules, refl, slots_none c.args.b.now)
+unfolding slots_bytes
+loop-k-init c = simp append-nil
 
 pub loop-k-preserved : goal.loop-k-preserved
-loop-k-preserved c =
-    let loop = c.loop-k in
-    let args = c.args in
-    let e : running_at + (loop.k + 1) * 32 ≡ running_at + loop.k * 32 + 32 = omega arith in (
-      search rules,
-      search rules,
-      slots_put_next (take running_at args.b.now) (take (running_at + loop.k * 32) loop.b) _ args.slots loop.k _ (search rules) loop.invariant.2
-          (ap (λ (x : ℕ). take x c.put_words.new.b) e ∙ c.put_words.ensures),
-    )
+loop-k-preserved c = slot_put _ c.put_numbers.new.b c.args.slots _ c.loop-k.k (search rules) (search rules) c.put_numbers.ensures c.loop-k.invariant
 
 pub returns : goal.returns
-returns c =
-    let a = c.args in let l = c.loop-k in
-    slots_filled (take running_at a.b.now) l.b a.slots l.k (search rules) (omega arith) (search rules) l.invariant.2
+returns c = slots_put _ c.loop-k.b c.args.slots c.loop-k.k (search rules) (search rules) c.loop-k.invariant

@@ -1,12 +1,8 @@
 -- `record_bytes::slots_at` meets its contract.
-use Prim.Native.Nat.{◌-◌, ◌≤◌}
-use mathlib.Core.Path.{◌≡◌}
-use lib.ListN.{length, take}
-use Rattle.record_bytes.specs.Bytes.{running_at, slots_at}
+use Rattle.std.proofs.Common.{◌≡◌, ℕ, ◌+◌, ◌*◌, ◌<◌, length, get_or}
+use Rattle.record_bytes.specs.Bytes.{value_at, running_at}
+use Rattle.record_bytes.proofs.Steps.{none}
 use Rattle.record_bytes.proofs.slots_at.Given as goal
 
 abbrev pub invariant-loop-k : goal.invariant-loop-k
-invariant-loop-k l = (l.k ≤ 17) × (length l.r ≡ 17) × (take l.k l.r ≡ slots_at l.k l.b running_at)
-
-abbrev pub decreases-loop-k : goal.decreases-loop-k
-decreases-loop-k l = 17 - l.k
+invariant-loop-k l = (length l.slot-items ≡ 17) × ((j : ℕ) → j < l.k → get_or l.slot-items j none ≡ value_at l.b (running_at + 32 * j))
