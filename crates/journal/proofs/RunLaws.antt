@@ -208,7 +208,13 @@ module _ {s n f : ℕ} {j : Journal} {r : Record} (k : Keeps s n f j r) where
   pub taken_add : (piece : List ℕ) → refusal_of s n j (adds piece) ≡ 0 → Keeps s n f (entered j (adds piece)) (added r piece).state
   taken_add piece e = keeps_called r (record_allowed k) (keeps_current (adds piece) e) (add piece) e
 
+  pub add_passes : (piece : List ℕ) → refusal_of s n j (adds piece) ≡ 0 → add_refusal r (length piece) ≡ 0
+  add_passes piece e = add_same r (record_allowed k) (keeps_current (adds piece) e) piece ∙ e
+
   module _ (part : List ℕ) (e : refusal_of s n j (closes (length part)) ≡ 0) where
+    pub close_passes : close_refusal r (length part) ≡ 0
+    close_passes = close_same r (record_allowed k) (keeps_current (closes (length part)) e) (length part) ∙ e
+
     made_on : Keeps s n f j (current r)
     made_on = keeps_current (closes (length part)) e
 

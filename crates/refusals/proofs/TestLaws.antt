@@ -216,3 +216,11 @@ no_err (Err r) e = absurd (true_or_false refl e)
 pub some_err : (t : Result Unit Refusal) → is_err t ≡ true → number_of t ≡ 0 → ⊥
 some_err (Ok u) e z = true_or_false e refl
 some_err (Err r) e z = number_some r z
+
+-- two values of one answer are the same
+pub value_is : {A : Type 0} {answer : Result A Refusal} {a b : A} → answer ≡ Ok a → answer ≡ Ok b → a ≡ b
+value_is {A} {answer} {a} {b} e f = ap value (sym e ∙ f)
+  where
+    value : Result A Refusal → A
+    value (Ok x) = x
+    value (Err r) = a

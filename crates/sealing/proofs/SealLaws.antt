@@ -6,43 +6,50 @@ use lib.{Dec.leb, Dec.ltb, ListN.length, ListN.drop, ListN.length-append, ListN.
 use borrow.Author.Tests.{leb-true, le-leb, lt-leb, lt-ltb}
 use borrow.Rule.Slice.PartMut.{mid_of, put_mid}
 use Rattle.evidence.specs.Evidence.{values}
-use Rattle.refusals.specs.declared.Answer.TheVariants.{Done, Refused}
-use Rattle.refusals.specs.Refusals.{book_limit, day_limit, Test, ◌or_refuse◌, front_written}
-use Rattle.refusals.proofs.TestLaws.{none_fails, all_pass, pass_split, refused_before, answer_refused, answer_done, old_stays, new_stands, last_fails, last_passes}
+use Rattle.std.specs.Prelude.{Ok, Err}
+use Rattle.refusals.specs.declared.Refusal.{Refusal}
+use Rattle.refusals.specs.declared.Refusal.TheVariants as cause
+use Rattle.refusals.specs.Refusals.{book_limit, day_limit, Test, ◌or_refuse◌, tested, front_written}
+use Rattle.refusals.proofs.TestLaws.{none_fails, no_refusal, pass_split, refused_before, passed_before, old_stays, new_stands}
 use Rattle.buffers.proofs.Lent.{lent_is, lent_put, lent_length}
 use Rattle.sha256.specs.Sha256.{sha256}
-use Rattle.layouts.specs.Layouts.{allowed_d, setup_tests, layout_tests, setup_refusal, chains, chains_of_day}
+use Rattle.layouts.specs.Layouts.{allowed_scheme, allowed_n, allowed_d, setup_tests, layout_tests, setup_tested, setup_refusal, chains, chains_of_day}
 use Rattle.layouts.proofs.{AllowedLaws.layout_passed, AllowedLaws.allowed_d_is, Coverage.chains_front}
-use Rattle.ledger.specs.Ledger.{day_at, days_of, ends_tests, ends_refusal, ledger_tests, ledger_refusal}
+use Rattle.ledger.specs.Ledger.{day_at, days_of, ends_tests, ends_tested, ledger_tests, ledger_tested}
+use Rattle.ledger.proofs.LedgerLaws.{ledger_asks}
 use Rattle.ledger.specs.Private.{EndsHold}
 use Rattle.ledger.proofs.{EndLaws.refusal_none, DayLaws.days_none, DayLaws.days_snoc, DayLaws.days_length, DayLaws.day_length}
 use Rattle.chains.specs.Book.{start, book_of}
 use Rattle.chains.proofs.BookLaws.{book_none, book_suc, book_length, values_of_length}
-use Rattle.service.specs.{declared.Record.Record, declared.Closed.Closed}
-use Rattle.service.specs.Contract.{count_of, opened, added, closing}
+use Rattle.service.specs.{declared.Record.Record}
+use Rattle.service.specs.Contract.{count_of, opened, add_refusal, added, close_refusal, closing}
 use Rattle.journal.specs.Journal.{Journal, adds, closes, refusal_of}
-use Rattle.journal.proofs.RunLaws.{Keeps, keeps_open, taken_add, taken_close, taken_count, taken_part}
-use Rattle.sealing.specs.Contract.{seal_tests, seal_refusal, sealed_book}
+use Rattle.journal.proofs.RunLaws.{Keeps, keeps_open, add_passes, close_passes, taken_add, taken_close, taken_count, taken_part}
+use Rattle.sealing.specs.Contract.{seal_tests, seal_tested, seal_refusal, sealed_book}
 
 -- ---- the tests
 
 module _ (s n f d : ℕ) (ends : List ℕ) (size room : ℕ) where
   abbrev last_test : List Test
-  last_test = leb (32 * length (chains s n d)) room or_refuse 8 ∷ []
+  last_test = leb (32 * length (chains s n d)) room or_refuse cause.ShortBuffer ∷ []
 
-  module _ {x : ℕ} (e : x ≡ ledger_refusal s n f d ends size) where
-    pub ledger_refuses : (x ≡ 0 → ⊥) → x ≡ seal_refusal s n f d ends size room
-    unfolding ledger_refusal seal_refusal
-    ledger_refuses h = refused_before (ledger_tests s n f d ends size) last_test e h
+  pub seal_early : {r : Refusal} → ledger_tested s n f d ends size ≡ Err r → Err r ≡ seal_tested s n f d ends size room
+  unfolding ledger_tested seal_tested
+  seal_early e = sym (refused_before (ledger_tests s n f d ends size) last_test e)
 
-    module _ (z : x ≡ 0) {k : ℕ} (c : k ≡ length (chains s n d)) where
-      pub book_short : room < 32 * k → 8 ≡ seal_refusal s n f d ends size room
-      unfolding ledger_refusal seal_refusal
-      book_short h = last_fails (ledger_tests s n f d ends size) (leb (32 * length (chains s n d)) room) 8 refl e z (lt-leb (32 * length (chains s n d)) room (omega arith))
+  module _ (e : ledger_tested s n f d ends size ≡ Ok tt) where
+    last_says : seal_tested s n f d ends size room ≡ tested last_test
+    unfolding ledger_tested seal_tested
+    last_says = passed_before (ledger_tests s n f d ends size) last_test e
 
-      pub none_refuses : 32 * k ≤ room → 0 ≡ seal_refusal s n f d ends size room
-      unfolding ledger_refusal seal_refusal
-      none_refuses h = last_passes (ledger_tests s n f d ends size) (leb (32 * length (chains s n d)) room) 8 refl e z (le-leb (32 * length (chains s n d)) room (omega arith))
+    pub seal_asks : (allowed_scheme s ≡ true) × (allowed_n n ≡ true) × (d ≤ book_limit)
+    seal_asks = ledger_asks s n f d ends size e
+
+    pub book_short : room < 32 * length (chains s n d) → Err cause.ShortBuffer ≡ seal_tested s n f d ends size room
+    book_short h = rw (last_says, lt-leb (32 * length (chains s n d)) room h) refl
+
+    pub seal_passed : 32 * length (chains s n d) ≤ room → Ok tt ≡ seal_tested s n f d ends size room
+    seal_passed h = rw (last_says, le-leb (32 * length (chains s n d)) room h) refl
 
 -- what no refusal says
 pub record Sealable (s n f d : ℕ) (ledger ends book : List ℕ) : Type 0 where
@@ -52,15 +59,15 @@ pub record Sealable (s n f d : ℕ) (ledger ends book : List ℕ) : Type 0 where
   pub room : 32 * length (chains s n d) ≤ length book
 
 pub sealable : (s n f d : ℕ) (ledger ends book : List ℕ) → seal_refusal s n f d ends (length ledger) (length book) ≡ 0 → Sealable s n f d ledger ends book
-unfolding setup_refusal ends_refusal seal_refusal
+unfolding setup_tested ends_tested seal_tested
 sealable s n f d ledger ends book e =
     let last = last_test s n f d ends (length ledger) (length book) in
-    let p = pass_split (layout_tests s n f d) (ends_tests d ends (length ledger) ++ last) (none_fails (seal_tests s n f d ends (length ledger) (length book)) refl e) in
+    let p = pass_split (layout_tests s n f d) (ends_tests d ends (length ledger) ++ last) (none_fails (seal_tests s n f d ends (length ledger) (length book)) e) in
     let q = pass_split (ends_tests d ends (length ledger)) last p.1 in
     record {
-      setup = all_pass (setup_tests s n f) (pass_split (setup_tests s n f) (allowed_d n f d or_refuse 7 ∷ []) p.0).0;
+      setup = no_refusal (setup_tests s n f) (pass_split (setup_tests s n f) (allowed_d n f d or_refuse cause.BadD ∷ []) p.0).0;
       days_most = (allowed_d_is n f d (layout_passed s n f d p.0).1).most;
-      ends_hold = refusal_none d ends (length ledger) (all_pass (ends_tests d ends (length ledger)) q.0);
+      ends_hold = refusal_none d ends (length ledger) (no_refusal (ends_tests d ends (length ledger)) q.0);
       room = leb-true (32 * length (chains s n d)) (length book) q.1.0;
     }
 
@@ -149,24 +156,28 @@ module _ {s n f d : ℕ} {ledger ends old : List ℕ} (ok : Sealable s n f d led
       during_kept : Keeps s n f during (added r day).state
       during_kept = taken_add t.keeps day add_taken
 
-      pub day_sealed : (bytes next : List ℕ) (c : Closed) (k : ℕ) → bytes ≡ day → c ≡ (closing (added r bytes).state rest).result →
-          next ≡ (closing (added r bytes).state rest).part → k ≡ count_of c.answer →
-          Through s n f ledger ends old (i + 1) (at + 32 * k) c.state (put_mid at (length book - at) book next)
-      day_sealed bytes next c k eb ec en ek = rw (count_is, add-one i) after
-        where
-          closed_is : c ≡ (closing (added r day).state rest).result
-          closed_is = ec ∙ ap (λ (x : List ℕ). (closing (added r x).state rest).result) eb
+      -- neither call is refused
+      pub add_passed : add_refusal r (length day) ≡ 0
+      add_passed = add_passes t.keeps day add_taken
 
+      pub close_passed : close_refusal (added r day).state (length rest) ≡ 0
+      close_passed = close_passes during_kept rest close_taken
+
+      pub day_sealed : {after : Record} (next : List ℕ) (k : ℕ) → after ≡ (closing (added r day).state rest).result.state →
+          next ≡ (closing (added r day).state rest).part → k ≡ count_of (closing (added r day).state rest).result.answer →
+          Through s n f ledger ends old (i + 1) (at + 32 * k) after (put_mid at (length book - at) book next)
+      day_sealed {after} next k ec en ek = rw (count_is, add-one i) through
+        where
           count_is : k ≡ day_count
-          count_is = ek ∙ ap (λ (x : Closed). count_of x.answer) closed_is ∙ taken_count during_kept rest close_taken
+          count_is = ek ∙ taken_count during_kept rest close_taken
 
           next_is : next ≡ day_values ++ drop (32 * day_count) rest
-          next_is = en ∙ ap (λ (x : List ℕ). (closing (added r x).state rest).part) eb ∙ taken_part during_kept rest close_taken
+          next_is = en ∙ taken_part during_kept rest close_taken
 
-          after : Through s n f ledger ends old (suc i) (at + 32 * day_count) c.state (put_mid at (length book - at) book next)
-          after =
+          through : Through s n f ledger ends old (suc i) (at + 32 * day_count) after (put_mid at (length book - at) book next)
+          through =
               record {
-                keeps = rw (closed_is, days_snoc ledger ends i) (taken_close during_kept rest close_taken);
+                keeps = rw (ec, days_snoc ledger ends i) (taken_close during_kept rest close_taken);
                 at_is = sym length_more;
                 book_is =
                     lent_put (book_of s n (sealed i)) old book at t.book_is (sym t.at_is) t.same_length next day_values (32 * day_count) next_is ∙
@@ -177,16 +188,25 @@ module _ {s n f d : ℕ} {ledger ends old : List ℕ} (ok : Sealable s n f d led
 
 -- ---- what the call gives, refused and not
 
-module _ (s n f d : ℕ) (ledger ends book : List ℕ) {x : ℕ} (e : x ≡ seal_refusal s n f d ends (length ledger) (length book)) where
-  pub sealed_refused : (x ≡ 0 → ⊥) → (Refused x ≡ (sealed_book s n f d ledger ends book).answer) × (book ≡ (sealed_book s n f d ledger ends book).book)
-  unfolding sealed_book
-  sealed_refused h =
-      let refusal = seal_refusal s n f d ends (length ledger) (length book) in
-      (answer_refused refusal e h, old_stays refusal (front_written 0 (book_of s n (days_of ledger ends d)) book) book e h)
+module _ (s n f d : ℕ) (ledger ends book : List ℕ) where
+  module _ {r : Refusal} (e : seal_tested s n f d ends (length ledger) (length book) ≡ Err r) where
+    pub sealed_refused : Err r ≡ (sealed_book s n f d ledger ends book).answer
+    unfolding sealed_book
+    sealed_refused = sym e
 
-  pub sealed_done : {next : List ℕ} → x ≡ 0 → next ≡ front_written 0 (book_of s n (days_of ledger ends d)) book →
-      (Done ≡ (sealed_book s n f d ledger ends book).answer) × (next ≡ (sealed_book s n f d ledger ends book).book)
-  unfolding sealed_book
-  sealed_done z q =
-      let refusal = seal_refusal s n f d ends (length ledger) (length book) in
-      (answer_done refusal e z, q ∙ new_stands refusal (front_written 0 (book_of s n (days_of ledger ends d)) book) book e z)
+    pub sealed_left : book ≡ (sealed_book s n f d ledger ends book).book
+    unfolding sealed_book
+    sealed_left = sym (old_stays (seal_tested s n f d ends (length ledger) (length book)) _ book e)
+
+  module _ (e : seal_tested s n f d ends (length ledger) (length book) ≡ Ok tt) where
+    pub sealed_done : Ok tt ≡ (sealed_book s n f d ledger ends book).answer
+    unfolding sealed_book
+    sealed_done = sym e
+
+    pub sealed_written : {next : List ℕ} → next ≡ front_written 0 (book_of s n (days_of ledger ends d)) book → next ≡ (sealed_book s n f d ledger ends book).book
+    unfolding sealed_book
+    sealed_written q = q ∙ sym (new_stands (seal_tested s n f d ends (length ledger) (length book)) _ book e)
+
+-- ---- what functions of the code are proved by
+
+pub ruleset seal_laws = (seal_early, seal_asks, book_short, seal_passed)

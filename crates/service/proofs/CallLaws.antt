@@ -176,6 +176,22 @@ module _ (r : Record) (part : List ℕ) where
   unfolding closing
   closing_none e = count_refused (close_tested r (length part)) (day_count (current r)) e
 
+-- ---- what a call that is not refused returns
+
+pub opened_ok : (s n f : ℕ) → setup_refusal s n f ≡ 0 → answered (opened s n f).answer (opened s n f).state ≡ Ok (opened s n f).state
+unfolding opened
+opened_ok s n f e = rw (number_passed (setup_tested s n f) e) refl
+
+pub added_ok : (r : Record) (piece : List ℕ) → add_refusal r (length piece) ≡ 0 → answered (added r piece).answer (added r piece).blocks ≡ Ok (added r piece).blocks
+unfolding added
+added_ok r piece e = rw (number_passed (add_tested r (length piece)) e) refl
+
+pub closing_ok : (r : Record) (part : List ℕ) → close_refusal r (length part) ≡ 0 →
+    both_of (closing r part).result.answer (closing r part).result.blocks ≡
+    Ok (record { values = count_of (closing r part).result.answer; blocks = (closing r part).result.blocks })
+unfolding closing
+closing_ok r part e = rw (number_passed (close_tested r (length part)) e) refl
+
 -- ---- what functions of the code are proved by
 
 pub ruleset open_laws = (opened_refused, opened_done)
