@@ -1,5 +1,6 @@
 -- 02's figures of one tile (C-16, SPEC 21). Definitions only.
-use Rattle.std.specs.Prelude.{◌≡◌, Bool, true, ◌&&◌, cond, List, [], ◌∷◌, ◌++◌, map, ℕ, zero, suc, ◌+◌, eqb, leb, length, drop}
+use Rattle.std.specs.Prelude.{◌≡◌, Bool, true, ◌&&◌, cond, List, [], ◌∷◌, ◌++◌, map}
+use Rattle.std.specs.Prelude.{ℕ, zero, suc, ◌+◌, eqb, leb, length, drop}
 use Rattle.lists.specs.Lists.{every, up_from, joined}
 use Rattle.evidence.specs.Evidence.{days, table_of}
 use Rattle.refusals.specs.Refusals.{Test, ◌or_refuse◌, first_refusal}

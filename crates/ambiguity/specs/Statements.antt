@@ -1,6 +1,7 @@
 -- What is proved of the figures and the lines (SPEC 21.1 to 21.4, 21.6). Statements only; proofs/SetLaws, Statements,
 -- Figures, Calls and OrderLaws prove each.
-use Rattle.std.specs.Prelude.{◌≡◌, ◌↔◌, ◌⊎◌, true, cond, List, [], ◌∷◌, ℕ, ◌+◌, ◌-◌, ◌*◌, ◌/◌, ◌^◌, ◌≤◌, ◌<◌, eqb, length}
+use Rattle.std.specs.Prelude.{◌≡◌, ◌↔◌, ◌⊎◌, true, cond, List, [], ◌∷◌}
+use Rattle.std.specs.Prelude.{ℕ, ◌+◌, ◌-◌, ◌*◌, ◌/◌, ◌^◌, ◌≤◌, ◌<◌, eqb, length}
 use Rattle.lists.specs.Lists.{◌among◌, Ascends}
 use Rattle.layouts.specs.Layouts.{allowed_n, lg, layout_refusal}
 use Rattle.reading.specs.Contract.{allowed_passed, readout}

@@ -20,4 +20,5 @@ black_passes g (x ∷ xs) (o ∷ table) = (black_at g x && eqb o 1) || black_pas
 
 -- 01's last good (SPEC 8.7): the last day whose black value passes, else 0
 unfoldable pub last_good_day : ℕ → ℕ → ℕ → List ℕ → ℕ
-last_good_day scheme n d table = last_of 0 (keep (λ g. divides n g && black_passes g (names_through scheme n d) table) (days d))
+last_good_day scheme n d table =
+    last_of 0 (keep (λ g. divides n g && black_passes g (names_through scheme n d) table) (days d))

@@ -1,5 +1,6 @@
--- What the private contracts say: the greatest and the least outcome, a table that is read, the numbers of a changed one as they
--- are worked out. Definitions only; the laws `bits_by`, `given_passes` and `report_changed` lead them back to 01's.
+-- What the private contracts say: the greatest and the least outcome, a table that is read, the numbers of a changed
+-- one as they are worked out. Definitions only; the laws `bits_by`, `given_passes` and `report_changed` lead them back
+-- to 01's.
 use Rattle.std.specs.Prelude.{◌≡◌, true, List, [], ◌∷◌, ℕ, ◌-◌, ◌*◌, ◌/◌, ◌≤◌, min, max, fold}
 use Rattle.evidence.specs.Evidence.{accepted}
 use Rattle.refusals.specs.Refusals.{book_limit, Test, ◌or_refuse◌}
