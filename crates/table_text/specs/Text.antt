@@ -38,8 +38,8 @@ last_line s = after_field (last_field s)
 -- two lines, each ended by a line feed, nothing after; the first has four or five fields, the second digits only
 unfoldable pub is_formed : List ℕ → Bool
 is_formed s =
-    is_field comma s && (is_field comma (from_n s) && (is_field comma (from_f s) && (is_field line_feed (last_field s) &&
-    same (after_digits (last_line s)) (line_feed ∷ []))))
+    is_field comma s && (is_field comma (from_n s) && (is_field comma (from_f s) &&
+    (is_field line_feed (last_field s) && same (after_digits (last_line s)) (line_feed ∷ []))))
 
 abbrev pub scheme_in : List ℕ → ℕ
 scheme_in s = value_in s
