@@ -11,17 +11,18 @@ use lib.Seq.{take-take, take-nil, drop-drop}
 use Rattle.lists.specs.Lists.{same}
 use Rattle.lists.proofs.Laws.{enough_read, bool_ext, same_eq, same_refl, true_or_false}
 use Rattle.evidence.specs.Evidence.{value, check_outcomes}
-use Rattle.refusals.specs.declared.Answer.TheVariants.{Done}
-use Rattle.refusals.specs.Refusals.{day_limit, first_refusal, answer_of, front_written}
-use Rattle.refusals.proofs.TestLaws.{same_refusal}
+use Rattle.std.specs.Prelude.{Result, Ok, Err}
+use Rattle.refusals.specs.declared.Refusal.{Refusal}
+use Rattle.refusals.specs.Refusals.{day_limit, first_refusal, number_of, front_written}
+use Rattle.refusals.proofs.TestLaws.{passed_number, same_refusal, same_tested, old_stays}
 use Rattle.layouts.specs.Layouts.{layout_tests, chains}
-use Rattle.ledger.specs.Ledger.{start_of, end_of, good_ends, ends_tests, ends_refusal, days_of}
+use Rattle.ledger.specs.Ledger.{start_of, end_of, good_ends, ends_tests, ends_tested, days_of}
 use Rattle.ledger.specs.Private.{EndsHold}
 use Rattle.ledger.proofs.EndLaws.{good_at, at_good, good_end_lem, end_good, refusal_read, start_ascends}
 use Rattle.ledger.proofs.DayLaws.{days_read}
 use Rattle.sha256.specs.Sha256.{sha256}
 use Rattle.chains.specs.Book.{start}
-use Rattle.checking.specs.Contract.{room_tests, check_refusal, digests_of, outcomes_of, Checked, checked}
+use Rattle.checking.specs.Contract.{room_tests, check_tested, check_refusal, digests_of, outcomes_of, Checked, checked}
 use Rattle.checking.specs.Statements.{PassesIfStored, ReadsOnly}
 use Rattle.checking.proofs.RefusalLaws.{check_ready}
 use Rattle.checking.proofs.Through.{outcomes_length}
@@ -37,10 +38,6 @@ outcome_at first L (c ∷ cs) book (suc i) h =
     let e : 32 + 32 * i ≡ 32 * suc i = omega arith in
     outcome_at first L cs (drop 32 book) i (omega arith) ∙
     ap (λ (b : List ℕ). cond (same (take 32 b) (value sha256 first L (get_or cs i []))) 1 0) (drop-drop (32 * i) 32 book ∙ ap (λ (k : ℕ). drop k book) e)
-
-pub answer_none : (r : ℕ) → answer_of r ≡ Done → r ≡ 0
-answer_none zero e = refl
-answer_none (suc r) e = absurd (let q : ◌≡◌ {A = ℕ} 0 1 = cc in omega arith)
 
 -- 1 exactly if two lists are equal, 0 exactly if not
 compares : (xs ys : List ℕ) (o : ℕ) → o ≡ cond (same xs ys) 1 0 → ((o ≡ 1) ↔ (xs ≡ ys)) × ((o ≡ 0) ↔ (xs ≡ ys → ⊥))
@@ -58,9 +55,10 @@ compares xs ys o e = go (same xs ys) refl
 pub passes_if_stored : PassesIfStored
 unfolding checked outcomes_of
 passes_if_stored s n f d ledger ends book work outcomes done i h =
-    let r = check_refusal s n f d ends (length ledger) (length book) (length work) (length outcomes) in
+    let t = check_tested s n f d ends (length ledger) (length book) (length work) (length outcomes) in
+    let r = number_of t in
     let O = outcomes_of s n d ledger ends book in
-    let z : r ≡ 0 = answer_none r done in
+    let z : r ≡ 0 = passed_number t done in
     let l = outcomes_length s n d ledger ends book in
     let at : get_or (front_written r O outcomes) i 0 ≡ get_or O i 0 = rw z (get_or-append O (drop (length O) outcomes) 0 i (omega arith)) in
     compares (take 32 (drop (32 * i) book)) (value sha256 (start s n) (days_of ledger ends d) (get_or (chains s n d) i []))
@@ -115,7 +113,7 @@ ends_read d ends ledger = bool_ext (good_ends d ends L) (good_ends d ends M) for
         (λ i l. let g = at M e i l in end_good (start_of ends i) (end_of ends i) L g.0 (le_trans g.1 most.1) g.2)
 
 ends_refusal_read : (d : ℕ) (ends ledger : List ℕ) → first_refusal (ends_tests d ends (length ledger)) ≡ first_refusal (ends_tests d (take d ends) (length (take (start_of ends d) ledger)))
-unfolding ends_refusal
+unfolding ends_tested
 ends_refusal_read d ends ledger = rw (ends_read d ends ledger) (refusal_read d ends (length (take (start_of ends d) ledger)))
 
 module _ (s n f d : ℕ) (ledger ends book work outcomes : List ℕ) where
@@ -127,12 +125,12 @@ module _ (s n f d : ℕ) (ledger ends book work outcomes : List ℕ) where
 
   refusal_same : check_refusal s n f d ends (length ledger) (length book) (length work) (length outcomes) ≡ check_refusal s n f d (take d ends) (length read) (length front) (length work)
       (length outcomes)
-  unfolding check_refusal
+  unfolding check_tested
   refusal_same =
       same_refusal (layout_tests s n f d) (layout_tests s n f d) (ends_tests d ends (length ledger) ++ room_tests s n d (length book) (length work) (length outcomes))
-      (ends_tests d (take d ends) (length read) ++ room_tests s n d (length front) (length work) (length outcomes)) refl refl refl
+      (ends_tests d (take d ends) (length read) ++ room_tests s n d (length front) (length work) (length outcomes)) refl
       (same_refusal (ends_tests d ends (length ledger)) (ends_tests d (take d ends) (length read)) (room_tests s n d (length book) (length work) (length outcomes))
-      (room_tests s n d (length front) (length work) (length outcomes)) refl refl (ends_refusal_read d ends ledger) (rw (enough_read (32 * length (chains s n d)) book)))
+      (room_tests s n d (length front) (length work) (length outcomes)) (ends_refusal_read d ends ledger) (rw (enough_read (32 * length (chains s n d)) book)))
 
   written_same : EndsHold d ends (length ledger) →
       (digests_of ledger ends d ≡ digests_of read (take d ends) d) × (outcomes_of s n d ledger ends book ≡ outcomes_of s n d read (take d ends) front)
@@ -141,21 +139,30 @@ module _ (s n f d : ℕ) (ledger ends book work outcomes : List ℕ) where
       let e = days_read ledger ends d (length ledger) h in
       (rw (← e), front_read (start s n) (days_of ledger ends d) (chains s n d) book ∙ rw (← e))
 
-abbrev leaves : ℕ → List ℕ → List ℕ → List ℕ → List ℕ → Checked
-leaves refusal digests found work outcomes = record { answer = answer_of refusal; work = front_written refusal digests work; outcomes = front_written refusal found outcomes }
+abbrev leaves : Result Unit Refusal → List ℕ → List ℕ → List ℕ → List ℕ → Checked
+leaves answer digests found work outcomes =
+    record { answer = answer; work = front_written (number_of answer) digests work; outcomes = front_written (number_of answer) found outcomes }
+
+-- a refusal leaves the same, whatever was to be written
+same_left : (t : Result Unit Refusal) (r : Refusal) (a b x y work outcomes : List ℕ) → t ≡ Err r → leaves t a b work outcomes ≡ leaves t x y work outcomes
+same_left t r a b x y work outcomes e =
+    ap₂ (λ (u v : List ℕ). record { answer = t; work = u; outcomes = v })
+    (old_stays t (a ++ drop (length a) work) work e ∙ sym (old_stays t (x ++ drop (length x) work) work e))
+    (old_stays t (b ++ drop (length b) outcomes) outcomes e ∙ sym (old_stays t (y ++ drop (length y) outcomes) outcomes e))
 
 pub reads_only : ReadsOnly
 unfolding checked
 reads_only s n f d ledger ends book work outcomes =
-    go (check_refusal s n f d ends (length ledger) (length book) (length work) (length outcomes)) refl ∙
-    ap (λ (r : ℕ). leaves r (digests_of (take (start_of ends d) ledger) (take d ends) d) (outcomes_of s n d (take (start_of ends d) ledger) (take d ends) (take (32 * length (chains s n d)) book)) work
+    let t = check_tested s n f d ends (length ledger) (length book) (length work) (length outcomes) in
+    go t refl ∙
+    ap (λ (r : Result Unit Refusal). leaves r (digests_of (take (start_of ends d) ledger) (take d ends) d) (outcomes_of s n d (take (start_of ends d) ledger) (take d ends) (take (32 * length (chains s n d)) book)) work
     outcomes)
-    (refusal_same s n f d ledger ends book work outcomes)
+    (same_tested t _ (refusal_same s n f d ledger ends book work outcomes))
   where
-    go : (r : ℕ) → check_refusal s n f d ends (length ledger) (length book) (length work) (length outcomes) ≡ r →
+    go : (r : Result Unit Refusal) → check_tested s n f d ends (length ledger) (length book) (length work) (length outcomes) ≡ r →
         leaves r (digests_of ledger ends d) (outcomes_of s n d ledger ends book) work outcomes ≡
         leaves r (digests_of (take (start_of ends d) ledger) (take d ends) d) (outcomes_of s n d (take (start_of ends d) ledger) (take d ends) (take (32 * length (chains s n d)) book)) work outcomes
-    go zero e =
-        let w = written_same s n f d ledger ends book work outcomes (check_ready s n f d ends (length ledger) (length book) (length work) (length outcomes) e).ends_hold in
-        ap₂ (λ (x y : List ℕ). leaves 0 x y work outcomes) w.0 w.1
-    go (suc r) e = refl
+    go (Ok u) e =
+        let w = written_same s n f d ledger ends book work outcomes (check_ready s n f d ends (length ledger) (length book) (length work) (length outcomes) (passed_number _ e)).ends_hold in
+        ap₂ (λ (x y : List ℕ). leaves (Ok u) x y work outcomes) w.0 w.1
+    go (Err r) e = same_left (Err r) r _ _ _ _ work outcomes refl

@@ -1,7 +1,6 @@
 -- What holds of every call of check. Statements only; proofs/Statements.antt proves each.
-use Rattle.std.specs.Prelude.{◌≡◌, ◌↔◌, List, [], ℕ, ◌*◌, ◌<◌, length, get_or, take, drop}
+use Rattle.std.specs.Prelude.{◌≡◌, ◌↔◌, List, [], ℕ, ◌*◌, ◌<◌, length, get_or, take, drop, Ok}
 use Rattle.evidence.specs.Evidence.{value}
-use Rattle.refusals.specs.declared.Answer.TheVariants.{Done}
 use Rattle.layouts.specs.Layouts.{chains}
 use Rattle.ledger.specs.Ledger.{start_of, days_of}
 use Rattle.sha256.specs.Sha256.{sha256}
@@ -20,7 +19,7 @@ StandsInBook scheme n d ledger ends book i =
 abbrev pub PassesIfStored : Type 0
 PassesIfStored =
     (scheme n f d : ℕ) (ledger ends book work outcomes : List ℕ) →
-    (checked scheme n f d ledger ends book work outcomes).answer ≡ Done →
+    (checked scheme n f d ledger ends book work outcomes).answer ≡ Ok tt →
     (i : ℕ) → i < length (chains scheme n d) →
     ((get_or (checked scheme n f d ledger ends book work outcomes).outcomes i 0 ≡ 1) ↔
     StandsInBook scheme n d ledger ends book i) ×

@@ -5,17 +5,17 @@ mod running;
 
 ghost use Rattle.std.specs.Prelude.{◌≡◌, ◌++◌, ◌*◌, length, drop};
 ghost use Rattle.layouts.specs.Layouts.{chains};
-ghost use Rattle.checking.specs.Contract.{check_refusal, digests_of, outcomes_of, checked};
+ghost use Rattle.checking.specs.Contract.{check_tested, digests_of, outcomes_of, checked};
 ghost use Rattle.checking.specs.Private.{Ready, fresh};
 
-use refusals::Answer;
+use refusals::Refusal;
 use running::{Black, Running, Slots};
 
 // The scheme of black alone.
 const BLACK: u32 = 1;
 
 // Tests 1 2 3 7 9 10 11 8.
-fn check_refusal(
+fn test_check(
     scheme: u32,
     n: u32,
     f: u32,
@@ -25,21 +25,18 @@ fn check_refusal(
     book: usize,
     work: usize,
     places: usize,
-) -> u32
-    ensures { result ≡ check_refusal scheme n f d ends.now size book work places }
+) -> Result<(), Refusal>
+    ensures { result ≡ check_tested scheme n f d ends.now size book work places }
 {
-    let x = ledger::ledger_refusal(scheme, n, f, d, ends, size);
-    if x != 0 {
-        return x;
-    }
+    ledger::test_ledger(scheme, n, f, d, ends, size)?;
     let k = layouts::values_through(scheme, n, d) as usize;
     if book < 32 * k {
-        return 11;
+        return Err(Refusal::ShortBook);
     }
     if work < 32 * d as usize || places < k {
-        return 8;
+        return Err(Refusal::ShortBuffer);
     }
-    0
+    Ok(())
 }
 
 // Every day: its digest to the work buffer, the outcomes of its values to the outcome buffer.
@@ -83,7 +80,7 @@ pub fn check(
     book: &[u8],
     work: &mut [u8],
     outcomes: &mut [u8],
-) -> Answer
+) -> Result<(), Refusal>
     ensures value { result ≡ (checked scheme n f d
         ledger.now ends.now book.now work.old
         outcomes.old).answer }
@@ -94,7 +91,7 @@ pub fn check(
         ledger.now ends.now book.now work.old
         outcomes.old).outcomes }
 {
-    let x = check_refusal(
+    test_check(
         scheme,
         n,
         f,
@@ -104,14 +101,11 @@ pub fn check(
         book.len(),
         work.len(),
         outcomes.len(),
-    );
-    if x != 0 {
-        return Answer::Refused(x);
-    }
+    )?;
     if scheme == BLACK {
         check_days(Black::new(n), d, ledger, ends, book, work, outcomes);
     } else {
         check_days(Slots::new(scheme, n), d, ledger, ends, book, work, outcomes);
     }
-    Answer::Done
+    Ok(())
 }

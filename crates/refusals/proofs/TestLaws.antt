@@ -179,6 +179,12 @@ same_refusal a b c e p q = elim (ℕ_discrete (first_refusal a) 0) [
   | no h ↦ number_before a c h ∙ p ∙ sym (number_before b e (λ z. h (p ∙ z)))
 ]
 
+pub same_tested : (a b : Result Unit Refusal) → number_of a ≡ number_of b → a ≡ b
+same_tested (Ok u) (Ok w) e = refl
+same_tested (Ok u) (Err r) e = absurd (number_some r (sym e))
+same_tested (Err r) (Ok u) e = absurd (number_some r e)
+same_tested (Err r) (Err x) e = ap (λ (y : Refusal). Err y) (number_same r x e)
+
 -- ---- what a call answers and leaves, by what its tests said
 
 -- the number of an answer is that of its tests
