@@ -12,15 +12,16 @@ use Rattle.lists.proofs.Laws.{mem_has, up_from_bounds, keep_mem, keep_congr, kee
 use Rattle.evidence.specs.Evidence.{days, table_of, cleared, Gives, listing}
 use Rattle.evidence.proofs.TableLaws.{lists_exactly}
 use Rattle.refusals.specs.Refusals.{Test, ◌or_refuse◌, first_refusal}
-use Rattle.refusals.proofs.TestLaws.{refused_before, refused_after, never_said, last_fails, last_nothing, same_refusal}
+use Rattle.refusals.proofs.TestLaws.{number_passed, number_before, number_after, never_said, last_nothing, same_refusal}
+use Rattle.refusals.specs.declared.Refusal.TheVariants as cause
 use Rattle.layouts.specs.Layouts.{lg, last_days, chains, layout_tests}
 use Rattle.layouts.proofs.Coverage.{tree_single}
 use Rattle.acceptance.proofs.Runs.{keep_all, keep_none, keep_length}
-use Rattle.reading.specs.Contract.{table_in, allowed_passed, table_tests, read_refusal, listed_in, Readout, readout}
+use Rattle.reading.specs.Contract.{table_in, allowed_passed, table_tests, read_tested, listed_in, Readout, readout}
 use Rattle.reading.specs.Private.{Given}
 use Rattle.reading.proofs.Report.{readout_found}
 use Rattle.searching.specs.declared.Progress.{Progress}
-use Rattle.searching.specs.Searching.{maximal, passes_in, walk, looks, search_of, found_in, days_under, found_days, progress_of, search_refusal, searched}
+use Rattle.searching.specs.Searching.{maximal, passes_in, walk, looks, search_of, found_in, days_under, found_days, progress_of, search_tested, search_refusal, searched}
 use Rattle.searching.specs.Private.{is_changed, changed_to}
 use Rattle.searching.specs.Statements.{SaysNotTree, RefusesAsReading, StateOf, SearchOf, SearchTold, NothingLooked, WalkShort}
 use Rattle.searching.proofs.WalkLaws.{looks_first, looks_enough, looks_all}
@@ -34,13 +35,13 @@ use Rattle.searching.proofs.Calls.{first_tests, search_tree, search_given}
 -- ---- tests
 
 pub says_not_tree : SaysNotTree
-unfolding search_refusal
+unfolding search_tested
 says_not_tree s n f d o places = (
   λ e. elim (ℕ_discrete (first_refusal A) 0) [
-    | yes z ↦ (z, λ q. zero_twenty (search_refusal s n f d o places) (refused_after A (eqb s 3 or_refuse 20 ∷ []) refl z ∙ rw (eq-eqb s 3 q)) e)
-    | no h ↦ absurd (never_said 20 A refl (λ q. absurd (omega arith)) (refused_before A (eqb s 3 or_refuse 20 ∷ []) refl h ∙ e))
+    | yes z ↦ (z, λ q. zero_twenty (search_refusal s n f d o places) (number_after A (eqb s 3 or_refuse cause.NotTree ∷ []) z ∙ rw (eq-eqb s 3 q) refl) e)
+    | no h ↦ absurd (never_said 20 A refl (λ q. absurd (omega arith)) (sym (number_before A (eqb s 3 or_refuse cause.NotTree ∷ []) h) ∙ e))
   ],
-  λ h. sym (last_fails A (eqb s 3) 20 refl refl h.0 (ne_eqb s 3 h.1)),
+  λ h. number_after A (eqb s 3 or_refuse cause.NotTree ∷ []) h.0 ∙ rw (ne_eqb s 3 h.1) refl,
 )
   where
     A : List Test
@@ -50,11 +51,13 @@ says_not_tree s n f d o places = (
     zero_twenty x p q = omega arith
 
 pub refuses_as_reading : RefusesAsReading
-unfolding search_refusal read_refusal
+unfolding search_tested read_tested
 refuses_as_reading n f d p o places h =
     let L = layout_tests 3 n f d in
     let T = table_tests 3 n d o places in
-    last_nothing 20 (L ++ T) ∙ sym (ap (λ b. first_refusal ((L ++ (b or_refuse 19 ∷ [])) ++ T)) h ∙ same_refusal (L ++ (true or_refuse 19 ∷ [])) L T T refl refl (last_nothing 19 L) refl)
+    last_nothing cause.NotTree (L ++ T) ∙
+    sym (ap (λ b. first_refusal ((L ++ (b or_refuse cause.BadPassed ∷ [])) ++ T)) h ∙
+    same_refusal (L ++ (true or_refuse cause.BadPassed ∷ [])) L T T (last_nothing cause.BadPassed L) refl)
 
 -- ---- the changed days
 
@@ -191,7 +194,7 @@ module _ (n f d : ℕ) (o : List ℕ) (limit : ℕ) (l : List ℕ) (e : search_r
   tree_search =
       record {
         progress = progress_of n d (table_in 3 n d o) limit;
-        answer = rw e;
+        answer = rw (number_passed (search_tested 3 n f d o (length l)) e) refl;
         state = rw e (state_of n d (table_in 3 n d o) limit l G);
         finished = λ z. record {
           walked = all_looked n d (table_in 3 n d o) limit l G z;
@@ -211,7 +214,7 @@ nothing_looked s n f d o l e =
     let some = (search_given s n f d o (length l) e).table.some in
     let z : d - 0 ≡ d = omega arith in
     let u : length (days_under n (maximal d)) ≡ d = ap length (laid_days n d 0 (maximal d) (maximal_laid d some)) ∙ length-up_from 1 (d - 0) ∙ z in
-    rw (e, u)
+    rw (number_passed (search_tested s n f d o (length l)) e, u) refl
 
 pub walk_short : WalkShort
 walk_short = walk_few

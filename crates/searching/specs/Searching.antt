@@ -1,12 +1,13 @@
 -- 02's search of a tree's table with a stop (C-15, SPEC 20). Definitions only.
 use Rattle.std.specs.Prelude.{Bool, false, ◌&&◌, ◌||◌, cond, ℕ, zero, suc, ◌-◌, ◌*◌, ◌/◌, ◌%◌, ◌^◌, eqb, length}
+use Rattle.std.specs.Prelude.{Result}
 use mathlib.Core.List.{List, [], ◌∷◌, ◌++◌, flat_map}
-use Rattle.refusals.specs.Refusals.{Test, ◌or_refuse◌, first_refusal, front_written}
+use Rattle.refusals.specs.Refusals.{Test, ◌or_refuse◌, tested, number_of, answered, front_written}
+use Rattle.refusals.specs.declared.Refusal.{Refusal}
+use Rattle.refusals.specs.declared.Refusal.TheVariants as cause
 use Rattle.layouts.specs.Layouts.{lg, Name, black, tile, tree, covered_days, names_through, layout_tests}
 use Rattle.reading.specs.Contract.{table_in, table_tests}
 use Rattle.searching.specs.declared.Progress.{Progress}
-use Rattle.searching.specs.declared.Searched.{Searched}
-use Rattle.searching.specs.declared.Searched.TheVariants.{State, Refused}
 
 -- ---- the walk
 
@@ -107,31 +108,25 @@ progress_of n d table limit =
 -- tests 1 2 3 7 8 12 13 14, then 02's test 20 (SPEC 10.20, 11.12)
 abbrev pub search_tests : ℕ → ℕ → ℕ → ℕ → List ℕ → ℕ → List Test
 search_tests scheme n f d outcomes places =
-    (layout_tests scheme n f d ++ table_tests scheme n d outcomes places) ++ (eqb scheme 3 or_refuse 20 ∷ [])
+    (layout_tests scheme n f d ++ table_tests scheme n d outcomes places) ++ (eqb scheme 3 or_refuse cause.NotTree ∷ [])
 
-unfoldable pub search_refusal : ℕ → ℕ → ℕ → ℕ → List ℕ → ℕ → ℕ
-search_refusal scheme n f d outcomes places = first_refusal (search_tests scheme n f d outcomes places)
+unfoldable pub search_tested : ℕ → ℕ → ℕ → ℕ → List ℕ → ℕ → Result Unit Refusal
+search_tested scheme n f d outcomes places = tested (search_tests scheme n f d outcomes places)
 
-abbrev pub searched_of : ℕ → Progress → Searched
-searched_of zero progress = State progress
-searched_of (suc x) progress = Refused (suc x)
+abbrev pub search_refusal : ℕ → ℕ → ℕ → ℕ → List ℕ → ℕ → ℕ
+search_refusal scheme n f d outcomes places = number_of (search_tested scheme n f d outcomes places)
 
 -- all that a call leaves: the answer, and the list
 pub record Searchout : Type 0 where
-  pub answer : Searched
+  pub answer : Result Progress Refusal
   pub list : List ℕ
 
 -- the numbers, and the days found before what stood in the list; a refusal says its number and changes nothing
 unfoldable pub searched : ℕ → ℕ → ℕ → ℕ → List ℕ → ℕ → List ℕ → Searchout
 searched scheme n f d outcomes limit list =
-    let refusal = search_refusal scheme n f d outcomes (length list) in
+    let tests = search_tested scheme n f d outcomes (length list) in
     let table = table_in scheme n d outcomes in
     record {
-      answer = searched_of refusal (progress_of n d table limit);
-      list = front_written refusal (found_days n d table limit) list;
+      answer = answered tests (progress_of n d table limit);
+      list = front_written (number_of tests) (found_days n d table limit) list;
     }
-
--- 02's number for each answer: 0, or the refusal's
-abbrev pub searched_number : Searched → ℕ
-searched_number (State progress) = 0
-searched_number (Refused number) = number

@@ -7,7 +7,7 @@ use Rattle.refusals.specs.Refusals.{first_refusal}
 use Rattle.layouts.specs.Layouts.{lg, Name, tree, last_days, covered_days, names_through, chains, layout_tests}
 use Rattle.reading.specs.Contract.{table_in, allowed_passed, table_tests, read_refusal, readout}
 use Rattle.searching.specs.declared.Progress.{Progress}
-use Rattle.searching.specs.declared.Searched.TheVariants.{State}
+use Rattle.std.specs.Prelude.{Ok}
 use Rattle.searching.specs.Searching.{maximal, passes_in, walk, search_of, found_in, days_under}
 use Rattle.searching.specs.Searching.{search_refusal, searched}
 
@@ -80,7 +80,7 @@ pub record FinishedOf (n f d : ℕ) (outcomes list after : List ℕ) (limit look
 
 pub record SearchOf (scheme n f d : ℕ) (outcomes : List ℕ) (limit : ℕ) (list : List ℕ) : Type 0 where
   pub progress : Progress
-  pub answer : (searched scheme n f d outcomes limit list).answer ≡ State progress
+  pub answer : (searched scheme n f d outcomes limit list).answer ≡ Ok progress
   pub state : StateOf n d (table_in scheme n d outcomes) limit list (searched scheme n f d outcomes limit list).list
       progress
   pub finished : progress.undecided ≡ 0 →
@@ -96,7 +96,7 @@ abbrev pub NothingLooked : Type 0
 NothingLooked =
     (scheme n f d : ℕ) (outcomes list : List ℕ) → search_refusal scheme n f d outcomes (length list) ≡ 0 →
     searched scheme n f d outcomes 0 list ≡
-    record { answer = State (record { looked = 0; found = 0; undecided = d }); list = list }
+    record { answer = Ok (record { looked = 0; found = 0; undecided = d }); list = list }
 
 -- the tree over d days has 2 · d − ones d chains, and no walk has more: a limit of 2 · d is never reached
 abbrev pub WalkShort : Type 0

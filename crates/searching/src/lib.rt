@@ -4,21 +4,17 @@
 ghost use Rattle.std.specs.Prelude.{◌≡◌, ◌++◌, ◌≤◌, ◌<◌, length, drop};
 ghost use Rattle.refusals.specs.Refusals.{book_limit};
 ghost use Rattle.reading.specs.Private.{Given};
-ghost use Rattle.searching.specs.Searching.{search_refusal, progress_of, found_days, searched};
+ghost use Rattle.searching.specs.Searching.{search_tested, progress_of, found_days, searched};
 ghost use Rattle.searching.specs.Private.{Fits, Largest, Looked};
 
+use refusals::Refusal;
+
 // The chains looked at, the days found, and the days under chains that are due and not looked at.
-#[derive(Drop)]
+#[derive(Clone, Copy, Debug, PartialEq, Eq)]
 pub struct Progress {
     pub looked: u32,
     pub found: u32,
     pub undecided: u32,
-}
-
-#[derive(Drop)]
-pub enum Searched {
-    State(Progress),
-    Refused(u32),
 }
 
 // Where the walk is: the days up to day are decided, found of them are changed, and the chain that is due first, behind
@@ -31,22 +27,23 @@ struct Cursor {
 }
 
 // Tests 1 2 3 7 8 12 13 14 20 (SPEC 11.12).
-#[tactic(auto, using(crate::proofs::Calls::refusal_laws))]
-fn refusal(scheme: u32, n: u32, f: u32, d: u32, outcomes: &[u8], places: usize) -> u32
-    ensures { result ≡ search_refusal scheme n f d outcomes.now places }
+#[tactic(auto, using(crate::proofs::Calls::search_laws))]
+fn test_search(
+    scheme: u32,
+    n: u32,
+    f: u32,
+    d: u32,
+    outcomes: &[u8],
+    places: usize,
+) -> Result<(), Refusal>
+    ensures { result ≡ search_tested scheme n f d outcomes.now places }
 {
-    let r = layouts::layout_refusal(scheme, n, f, d);
-    if r != 0 {
-        return r;
-    }
-    let x = reading::table_refusal(scheme, n, d, outcomes, places);
-    if x != 0 {
-        return x;
-    }
+    layouts::test_layout(scheme, n, f, d)?;
+    reading::test_table(scheme, n, d, outcomes, places)?;
     if scheme != 3 {
-        return 20;
+        return Err(Refusal::NotTree);
     }
-    0
+    Ok(())
 }
 
 // The level of the largest chain that starts behind day g and ends by day d: the one due next when the days up to g are
@@ -126,15 +123,12 @@ pub fn search(
     outcomes: &[u8],
     limit: u32,
     list: &mut [u32],
-) -> Searched
+) -> Result<Progress, Refusal>
     ensures value { result ≡ (searched scheme n f d outcomes.now limit list.old).answer }
     ensures list_after { list.new ≡
         (searched scheme n f d outcomes.now limit list.old).list }
 {
-    let r = refusal(scheme, n, f, d, outcomes, list.len());
-    if r != 0 {
-        return Searched::Refused(r);
-    }
+    test_search(scheme, n, f, d, outcomes, list.len())?;
     let values = layouts::values_through(scheme, n, d) as usize;
-    Searched::State(walk(n, d, &outcomes[..values], limit, list))
+    Ok(walk(n, d, &outcomes[..values], limit, list))
 }
