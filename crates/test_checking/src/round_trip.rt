@@ -41,10 +41,7 @@ fn print_answer(
             print_reference(rt, [scheme, m.listed, m.first, m.low, m.high, m.last_good])?;
             print_first(rt, list, m.listed)
         }
-        Reading::Refused(x) => {
-            print::bytes(rt, b"NO,")?;
-            print::number_line(rt, x)
-        }
+        Reading::Refused(refusal) => print::refused(rt, refusal),
     }
 }
 

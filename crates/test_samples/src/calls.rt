@@ -13,7 +13,7 @@ impl Setup {
     }
 
     pub fn seal(self, ledger: &[u8], ends: &[u32], book: &mut [u8]) -> u32 {
-        refusals::number_of(sealing::seal(self.scheme, self.n, self.f, self.d, ledger, ends, book))
+        refusals::number_of(&sealing::seal(self.scheme, self.n, self.f, self.d, ledger, ends, book))
     }
 
     pub fn check(
@@ -24,7 +24,7 @@ impl Setup {
         work: &mut [u8],
         outcomes: &mut [u8],
     ) -> u32 {
-        refusals::number_of(checking::check(
+        refusals::number_of(&checking::check(
             self.scheme,
             self.n,
             self.f,

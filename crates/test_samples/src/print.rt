@@ -1,4 +1,5 @@
 // What the test programs print.
+use refusals::Refusal;
 use std::io;
 
 // The bytes in hexadecimal, with width digits or more each.
@@ -46,6 +47,12 @@ pub fn hex_line(rt: &HostRuntime, s: &[u8]) -> io::Result<()> {
 
 pub fn number_line(rt: &HostRuntime, x: u32) -> io::Result<()> {
     println!(rt; "{x}")
+}
+
+// 'NO,' and the refusal's number.
+pub fn refused(rt: &HostRuntime, refusal: Refusal) -> io::Result<()> {
+    let x = refusal.number();
+    println!(rt; "NO,{x}")
 }
 
 pub fn digest_line(rt: &HostRuntime, s: &[u8]) -> io::Result<()> {

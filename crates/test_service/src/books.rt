@@ -1,7 +1,8 @@
 // Books by open, add and close.
-ghost use Rattle.std.specs.Prelude.{◌≤◌, ◌<◌, length};
+ghost use Rattle.std.specs.Prelude.{ℕ, ◌≤◌, ◌<◌, length, IfOk};
 
-use service::{Closed, Record};
+use refusals::Refusal;
+use service::Record;
 use test_samples::{answers, days};
 
 // A thousand days, or sixteen whose lengths meet the block bounds.
@@ -56,34 +57,24 @@ fn short_size(g: usize) -> usize
 }
 
 // Adds the piece, and an empty one where gap says so.
-fn add(state: Record, piece: &[u8], gap: bool) -> Record {
-    let next = service::add(state, piece).state;
+fn add(state: &mut Record, piece: &[u8], gap: bool) -> Result<(), Refusal> {
+    service::add(state, piece)?;
     if gap {
-        service::add(next, b"").state
-    } else {
-        next
+        service::add(state, b"")?;
     }
+    Ok(())
 }
 
 // Adds the day in pieces of size bytes, then the rest.
-fn add_day(state: Record, day: &[u8], size: usize, gap: bool) -> Record
+fn add_day(state: &mut Record, day: &[u8], size: usize, gap: bool) -> Result<(), Refusal>
     requires { 0 < size }
 {
     let pieces = day.chunks_exact(size);
     let rest = pieces.remainder();
-    let mut now = state;
     for piece in pieces {
-        now = add(now, piece, gap);
+        add(state, piece, gap)?;
     }
-    add(now, rest, gap)
-}
-
-// Adds day g, of n bytes, and closes it.
-fn day(state: Record, g: usize, n: usize, piece: usize, gap: bool, part: &mut [u8]) -> Closed
-    requires { (n ≤ 130) × (0 < piece) }
-{
-    let bytes = days::bytes(g);
-    service::close(add_day(state, &bytes[..n], piece, gap), part)
+    add(state, rest, gap)
 }
 
 // Seals the days, each in pieces of piece bytes, with an empty piece after each where gap says so. A piece longer
@@ -97,16 +88,17 @@ pub fn seal(
     piece: usize,
     gap: bool,
     book: &mut [u8],
-) -> usize
+) -> Result<usize, Refusal>
     requires { 0 < piece }
-    ensures { result ≤ length book.new }
+    ensures { IfOk result (λ (at : ℕ). at ≤ length book.new) }
 {
-    let mut state = service::open(scheme, n, f).state;
+    let mut state = service::open(scheme, n, f)?;
     let mut at = 0;
     for g in 1..=ledger.days() {
-        let closed = day(state, g, ledger.size(g), piece, gap, &mut book[at..]);
-        state = closed.state;
-        at = answers::past(at, service::count_of(closed.answer), book.len());
+        let day = days::bytes(g);
+        add_day(&mut state, &day[..ledger.size(g)], piece, gap)?;
+        let closed = service::close(&mut state, &mut book[at..])?;
+        at = answers::past(at, closed.values, book.len());
     }
-    at
+    Ok(at)
 }

@@ -4,7 +4,8 @@
 // done; 'changed' stands before that number where the record or the part that comes back is not the one due.
 // reference/service_refusals.py writes both.
 use crate::compare;
-use service::Record;
+use refusals::Refusal;
+use service::{Closed, Record};
 use std::io;
 use std::io::Read;
 use test_samples::{answers, input, lent, print, records};
@@ -19,41 +20,43 @@ fn print_answer(rt: &HostRuntime, number: u32, due: bool) -> io::Result<()> {
 
 fn open(rt: &HostRuntime, c: [u32; 11]) -> io::Result<()> {
     let opened = service::open(c[0], c[1], c[2]);
-    let x = refusals::number_of(opened.answer);
-    if x != 0 {
-        return print_answer(rt, x, compare::zeros(opened.state));
-    }
-    print_answer(
-        rt,
-        0,
-        compare::same(opened.state, records::fresh(c[0], c[1], c[2])),
-    )
+    let due = match opened {
+        Ok(state) => compare::same(state, records::fresh(c[0], c[1], c[2])),
+        Err(_) => compare::zeros(service::zeros()),
+    };
+    print_answer(rt, refusals::number_of(&opened), due)
 }
 
 fn add_piece(rt: &HostRuntime, state: Record, piece: &[u8]) -> io::Result<()> {
-    let added = service::add(state, piece);
-    let x = refusals::number_of(added.answer);
-    if x != 0 {
-        return print_answer(rt, x, compare::same(added.state, state));
-    }
-    print_answer(rt, 0, compare::grown(state, added.state, piece.len()))
+    let mut next = state;
+    let added = service::add(&mut next, piece);
+    let due = match added {
+        Ok(_) => compare::grown(state, next, piece.len()),
+        Err(_) => compare::same(next, state),
+    };
+    print_answer(rt, refusals::number_of(&added), due)
 }
 
 // Whether what comes back of a close is due: the record and the part as they were, or the next day's record and the
 // rest of the part.
-fn due(number: u32, k: u32, state: Record, next: Record, part: &[u8]) -> bool {
+fn due(answer: Result<Closed, Refusal>, state: Record, next: Record, part: &[u8]) -> bool {
     let kept = lent::kept(part);
-    if number != 0 {
-        return kept == 0 && compare::same(next, state);
+    match answer {
+        Ok(closed) => {
+            kept <= answers::past(0, closed.values, part.len()) && compare::next_day(state, next)
+        }
+        Err(_) => kept == 0 && compare::same(next, state),
     }
-    kept <= answers::past(0, k, part.len()) && compare::next_day(state, next)
 }
 
 fn close_part(rt: &HostRuntime, state: Record, part: &mut [u8]) -> io::Result<()> {
-    let closed = service::close(state, part);
-    let x = service::writing_number(closed.answer);
-    let k = service::count_of(closed.answer);
-    print_answer(rt, x, due(x, k, state, closed.state, part))
+    let mut next = state;
+    let closed = service::close(&mut next, part);
+    print_answer(
+        rt,
+        refusals::number_of(&closed),
+        due(closed, state, next, part),
+    )
 }
 
 fn record(c: [u32; 11]) -> Record {

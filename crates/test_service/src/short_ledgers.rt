@@ -14,11 +14,10 @@ fn compare(rt: &HostRuntime, book: &[u8], scheme: u32, piece: usize, gap: bool) 
     requires { 0 < piece }
 {
     let mut other = [0u8; 1024];
-    let n = books::seal(scheme, 4, 1, Ledger::Short, piece, gap, &mut other);
-    if book != &other[..n] {
-        print::bytes(rt, b"differs\n")?;
+    match books::seal(scheme, 4, 1, Ledger::Short, piece, gap, &mut other) {
+        Ok(n) if book == &other[..n] => Ok(()),
+        _ => print::bytes(rt, b"differs\n"),
     }
-    Ok(())
 }
 
 fn print_book(rt: &HostRuntime, book: &[u8], scheme: u32) -> io::Result<()> {
@@ -31,8 +30,10 @@ fn print_book(rt: &HostRuntime, book: &[u8], scheme: u32) -> io::Result<()> {
 
 fn lines(rt: &HostRuntime, scheme: u32) -> io::Result<()> {
     let mut book = [0u8; 1024];
-    let n = books::seal(scheme, 4, 1, Ledger::Short, 131, false, &mut book);
-    print_book(rt, &book[..n], scheme)
+    match books::seal(scheme, 4, 1, Ledger::Short, 131, false, &mut book) {
+        Ok(n) => print_book(rt, &book[..n], scheme),
+        Err(refusal) => print::refused(rt, refusal),
+    }
 }
 
 pub fn run(rt: &HostRuntime) -> io::Result<()> {

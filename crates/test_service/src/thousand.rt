@@ -28,8 +28,10 @@ fn print_book(rt: &HostRuntime, book: &[u8]) -> io::Result<()> {
 
 fn lines(rt: &HostRuntime, scheme: u32, f: u32) -> io::Result<()> {
     let mut book = [0u8; 67584];
-    let n = books::seal(scheme, 8, f, Ledger::Thousand, 131, false, &mut book);
-    print_book(rt, &book[..n])
+    match books::seal(scheme, 8, f, Ledger::Thousand, 131, false, &mut book) {
+        Ok(n) => print_book(rt, &book[..n]),
+        Err(refusal) => print::refused(rt, refusal),
+    }
 }
 
 pub fn run(rt: &HostRuntime) -> io::Result<()> {
