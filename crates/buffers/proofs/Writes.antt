@@ -24,10 +24,6 @@ wrote_front {r} n h e = grind (arith, common_steps)
 pub wrote_through : {at r : ℕ} {F l k : List ℕ} (end : ℕ) → Wrote at F l r k → at ≤ length l → at + length F ≡ end → take end k ≡ take at l ++ F
 wrote_through {at} {r} {F} {l} end w h e = grind (arith, common_steps)
 
--- a list written up to the buffer's end
-pub wrote_end : {at r : ℕ} {F l k : List ℕ} → Wrote at F l r k → length l ≤ at + length F → k ≡ take at l ++ F
-wrote_end {at} {r} {F} {l} h e = grind (arith, common_steps)
-
 pub wrote_join : (at : ℕ) (F A B l m k : List ℕ) (b r : ℕ) → F ≡ A ++ B → at + length F ≤ length l → Wrote at A l b m → Wrote b B m r k → Wrote at F l r k
 wrote_join at F A B l m k b r f h u v =
     let front : take b m ≡ take at l ++ A = grind (arith, common_steps) in

@@ -1,22 +1,8 @@
-// Lent buffers: numbers made wider, and bytes copied to a place.
+// Lent buffers: bytes copied to a place.
 #![tactic(auto)]
 
 ghost use Rattle.std.specs.Prelude.{◌≡◌, ◌+◌, ◌≤◌, ◌<◌, length};
 ghost use Rattle.buffers.specs.Private.{Wrote};
-
-// A number as a place or a length.
-pub fn wide(x: u32) -> usize
-    ensures { result ≡ x }
-{
-    x as usize
-}
-
-// A byte as a number.
-pub fn byte(x: u8) -> u32
-    ensures { (result ≡ x) × (result < 256) }
-{
-    x as u32
-}
 
 // Writes the bytes from a place on, and gives the place behind them.
 pub fn put(out: &mut [u8], at: usize, bytes: &[u8]) -> usize

@@ -29,6 +29,7 @@ pub fn maj(x: u32, y: u32, z: u32) -> u32
     y ^ ((x ^ y) & (y ^ z))
 }
 
+// The four functions as the standard writes them (4.1.2): a common one of three constants would be no shorter.
 #[tactic(auto, unfolding(crate::specs::Words::bsig0))]
 pub fn bsig0(x: u32) -> u32
     ensures { result ≡ spec.bsig0 x }
