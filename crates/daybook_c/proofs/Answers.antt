@@ -1,94 +1,135 @@
 -- What a call of the C interface returns and leaves, from what the call below it ensures.
-use mathlib.Core.Path.{◌≡◌, sym, ap, ◌∙◌}
+use mathlib.Core.Path.{◌≡◌, refl, sym, ap, ◌∙◌}
+use mathlib.Core.Bool.{true}
 use mathlib.Core.List.{List, [], ◌∷◌}
-use Prim.Native.Nat.{ℕ}
+use Prim.Native.Nat.{ℕ, ◌≤◌}
 use lib.ListN.{length}
-use Rattle.refusals.specs.Refusals.{number_of}
-use Rattle.refusals.proofs.TestLaws.{old_stays, new_stands}
-use Rattle.layouts.specs.Layouts.{layout_refusal, chains, value_count}
-use Rattle.layouts.proofs.AllowedLaws.{values_counted}
+use Rattle.std.specs.Prelude.{Result, Ok, Err}
+use Rattle.refusals.specs.Refusals.{book_limit, number, number_of, answered, unless_refused}
+use Rattle.refusals.specs.declared.Refusal.{Refusal}
+use Rattle.refusals.proofs.TestLaws.{answered_ok, answered_err, passed_number, number_some, number_stays, old_stays, new_stands}
+use Rattle.layouts.specs.Layouts.{allowed_scheme, allowed_n, layout_tested, layout_refusal, chains, value_count}
+use Rattle.layouts.proofs.AllowedLaws.{layout_asks, values_counted}
 use Rattle.reading.specs.Contract.{Report, report_of, five_numbers}
 use Rattle.reading.specs.Private.{NumbersOf}
 use Rattle.reading.specs.declared.Numbers.{Numbers}
 use Rattle.reading.specs.declared.Reading.{Reading}
 use Rattle.record_bytes.specs.Bytes.{bytes_of_record, record_of}
-use Rattle.service.specs.Contract.{writing_number, count_of, added, Closing, closing, written_so_far}
+use Rattle.service.specs.Contract.{opened, zeros, Added, added, count_of, both_of, Closing, closing}
 use Rattle.service.specs.declared.Record.{Record}
-use Rattle.service.specs.declared.Writing.{Writing}
-use Rattle.service.specs.declared.Added.{Added}
 use Rattle.service.specs.declared.Closed.{Closed}
-use Rattle.daybook_c.specs.Contract.{added_bytes, closed_bytes, numbers_after, values_after, record_values_after}
+use Rattle.service.proofs.CallLaws.{opened_zeros, both_ok, both_err}
+use Rattle.daybook_c.specs.Contract.{added_bytes, closed_bytes, numbers_after, values_after}
+
+-- ---- open
+
+module _ (s n f : ℕ) where
+  module _ {r : Record} (call : answered (opened s n f).answer (opened s n f).state ≡ Ok r) where
+    pub open_number : 0 ≡ number_of (opened s n f).answer
+    open_number = rw (answered_ok (opened s n f).answer (opened s n f).state call).0 refl
+
+    pub open_state : bytes_of_record r ≡ bytes_of_record (opened s n f).state
+    open_state = ap bytes_of_record (answered_ok (opened s n f).answer (opened s n f).state call).1
+
+  module _ {x : Refusal} (call : answered (opened s n f).answer (opened s n f).state ≡ Err x) where
+    pub open_refused : number x ≡ number_of (opened s n f).answer
+    open_refused = rw (answered_err (opened s n f).answer (opened s n f).state call) refl
+
+    pub open_zeros : bytes_of_record zeros ≡ bytes_of_record (opened s n f).state
+    open_zeros = ap bytes_of_record (opened_zeros s n f (answered_err (opened s n f).answer (opened s n f).state call))
+
+pub ruleset open_laws = (open_number, open_state, open_refused, open_zeros)
 
 -- ---- add
 
-module _ (b piece : List ℕ) (old : ℕ) (s : Record) (o : Added) (x : ℕ) (decoded : s ≡ record_of b) (call : o ≡ added s piece) (number : x ≡ number_of o.answer) where
-  given : o ≡ added (record_of b) piece
-  given = call ∙ ap (λ (r : Record). added r piece) decoded
+module _ (b piece : List ℕ) (old : ℕ) where
+  abbrev A : Added
+  A = added (record_of b) piece
 
-  said : x ≡ number_of (added (record_of b) piece).answer
-  said = number ∙ ap (λ (a : Added). number_of a.answer) given
+  module _ {k : ℕ} (call : answered A.answer A.blocks ≡ Ok k) where
+    taken : (A.answer ≡ Ok tt) × (k ≡ A.blocks)
+    taken = answered_ok A.answer A.blocks call
 
-  pub add_number : x ≡ (added_bytes b piece old).number
-  unfolding added_bytes
-  add_number = said
+    pub add_number : 0 ≡ (added_bytes b piece old).number
+    unfolding added_bytes
+    add_number = rw taken.0 refl
 
-  pub add_done : (e : List ℕ) → x ≡ 0 → e ≡ bytes_of_record o.state → e ≡ (added_bytes b piece old).state
-  unfolding added_bytes
-  add_done e z enc = enc ∙ ap (λ (a : Added). bytes_of_record a.state) given ∙ new_stands (number_of (added (record_of b) piece).answer) _ b said z
+    pub add_done : {e : List ℕ} → e ≡ bytes_of_record A.state → e ≡ (added_bytes b piece old).state
+    unfolding added_bytes
+    add_done q = rw taken.0 q
 
-  pub add_blocks : x ≡ 0 → o.blocks ≡ (added_bytes b piece old).blocks
-  unfolding added_bytes
-  add_blocks z = ap (λ (a : Added). a.blocks) given ∙ new_stands (number_of (added (record_of b) piece).answer) _ old said z
+    pub add_blocks : k ≡ (added_bytes b piece old).blocks
+    unfolding added_bytes
+    add_blocks = rw taken.0 taken.1
 
-  pub add_kept : (x ≡ 0 → ⊥) → (b ≡ (added_bytes b piece old).state) × (old ≡ (added_bytes b piece old).blocks)
-  unfolding added_bytes
-  add_kept some =
-      let a = added (record_of b) piece in (
-        old_stays (number_of a.answer) (bytes_of_record a.state) b said some,
-        old_stays (number_of a.answer) a.blocks old said some,
-      )
+  module _ {r : Refusal} (call : answered A.answer A.blocks ≡ Err r) where
+    refused : A.answer ≡ Err r
+    refused = answered_err A.answer A.blocks call
+
+    pub add_refused : number r ≡ (added_bytes b piece old).number
+    unfolding added_bytes
+    add_refused = rw refused refl
+
+    pub add_kept : (b ≡ (added_bytes b piece old).state) × (old ≡ (added_bytes b piece old).blocks)
+    unfolding added_bytes
+    add_kept = (
+      sym (old_stays A.answer (bytes_of_record A.state) b refused),
+      sym (old_stays A.answer A.blocks old refused),
+    )
 
 -- ---- close
 
-module _ (b part : List ℕ) (old was : ℕ) (s : Record) (o : Closed) (p : List ℕ) (x : ℕ) (decoded : s ≡ record_of b) (call : o ≡ (closing s part).result) (left : p ≡ (closing s part).part)
-    (number : x ≡ writing_number o.answer) where
+-- what stands by the number of an answer
+stands : (a : Result ℕ Refusal) {B : Type 0} (new old : B) {k : ℕ} → a ≡ Ok k → new ≡ unless_refused (number_of a) new old
+stands a new old e = rw e refl
+
+stays : (a : Result ℕ Refusal) {B : Type 0} (new old : B) {r : Refusal} → a ≡ Err r → old ≡ unless_refused (number_of a) new old
+stays (Ok k) new old {r} e = absurd (number_some r (sym (ap number_of e)))
+stays (Err x) new old e = sym (number_stays (number x) new old (number_some x))
+
+module _ (b part : List ℕ) (old was : ℕ) where
   abbrev C : Closing
   C = closing (record_of b) part
 
-  result_is : o ≡ (closing (record_of b) part).result
-  result_is = call ∙ ap (λ (r : Record). (closing r part).result) decoded
-
-  number_is : x ≡ writing_number (closing (record_of b) part).result.answer
-  number_is = number ∙ ap (λ (c : Closed). writing_number c.answer) result_is
-
-  pub close_number : x ≡ (closed_bytes b part old was).number
+  pub close_part : {p : List ℕ} → p ≡ C.part → p ≡ (closed_bytes b part old was).part
   unfolding closed_bytes
-  close_number = number_is
+  close_part q = q
 
-  pub close_part : p ≡ (closed_bytes b part old was).part
-  unfolding closed_bytes
-  close_part = left ∙ ap (λ (r : Record). (closing r part).part) decoded
+  module _ {c : Closed} (call : both_of C.result.answer C.result.blocks ≡ Ok c) where
+    done : (C.result.answer ≡ Ok c.values) × (c.blocks ≡ C.result.blocks)
+    done = both_ok C.result.answer C.result.blocks call
 
-  pub close_done : (e : List ℕ) → x ≡ 0 → e ≡ bytes_of_record o.state → e ≡ (closed_bytes b part old was).state
-  unfolding closed_bytes
-  close_done e z enc = enc ∙ ap (λ (c : Closed). bytes_of_record c.state) result_is ∙ new_stands (writing_number C.result.answer) _ b number_is z
+    pub close_number : 0 ≡ (closed_bytes b part old was).number
+    unfolding closed_bytes
+    close_number = rw done.0 refl
 
-  pub close_count : (k : ℕ) → x ≡ 0 → k ≡ count_of o.answer → k ≡ (closed_bytes b part old was).values
-  unfolding closed_bytes
-  close_count k z e = e ∙ ap (λ (c : Closed). count_of c.answer) result_is ∙ new_stands (writing_number C.result.answer) _ old number_is z
+    pub close_done : {e : List ℕ} → e ≡ bytes_of_record C.result.state → e ≡ (closed_bytes b part old was).state
+    unfolding closed_bytes
+    close_done q = q ∙ stands C.result.answer _ b done.0
 
-  pub close_blocks : x ≡ 0 → o.blocks ≡ (closed_bytes b part old was).blocks
-  unfolding closed_bytes
-  close_blocks z = ap (λ (c : Closed). c.blocks) result_is ∙ new_stands (writing_number C.result.answer) _ was number_is z
+    pub close_count : c.values ≡ (closed_bytes b part old was).values
+    unfolding closed_bytes
+    close_count = sym (ap count_of done.0) ∙ stands C.result.answer _ old done.0
 
-  pub close_kept : (x ≡ 0 → ⊥) →
-      (b ≡ (closed_bytes b part old was).state) × (old ≡ (closed_bytes b part old was).values) × (was ≡ (closed_bytes b part old was).blocks)
-  unfolding closed_bytes
-  close_kept some = (
-    old_stays (writing_number C.result.answer) (bytes_of_record C.result.state) b number_is some,
-    old_stays (writing_number C.result.answer) (count_of C.result.answer) old number_is some,
-    old_stays (writing_number C.result.answer) C.result.blocks was number_is some,
-  )
+    pub close_blocks : c.blocks ≡ (closed_bytes b part old was).blocks
+    unfolding closed_bytes
+    close_blocks = done.1 ∙ stands C.result.answer _ was done.0
+
+  module _ {r : Refusal} (call : both_of C.result.answer C.result.blocks ≡ Err r) where
+    none : C.result.answer ≡ Err r
+    none = both_err C.result.answer C.result.blocks call
+
+    pub close_refused : number r ≡ (closed_bytes b part old was).number
+    unfolding closed_bytes
+    close_refused = rw none refl
+
+    pub close_kept : (b ≡ (closed_bytes b part old was).state) × (old ≡ (closed_bytes b part old was).values) × (was ≡ (closed_bytes b part old was).blocks)
+    unfolding closed_bytes
+    close_kept = (
+      stays C.result.answer (bytes_of_record C.result.state) b none,
+      stays C.result.answer (count_of C.result.answer) old none,
+      stays C.result.answer C.result.blocks was none,
+    )
 
 -- ---- read
 
@@ -100,37 +141,34 @@ module _ (d : ℕ) (report : Report) (a : Reading) (x : ℕ) (call : report_of d
       m.listed ∷ m.first ∷ m.low ∷ m.high ∷ m.last_good ∷ [] ≡ numbers_after report old
   unfolding numbers_after
   read_done m old z e =
-      rw (e.listed_is, e.first_is, e.low_is, e.high_is, e.last_good_is) (ap five_numbers call ∙ new_stands report.refusal _ old read_number z)
+      rw (e.listed_is, e.first_is, e.low_is, e.high_is, e.last_good_is) (ap five_numbers call ∙ sym (ap (λ (n : ℕ). unless_refused n (five_numbers report) old) (sym read_number ∙ z)))
 
   pub read_kept : (old : List ℕ) → (x ≡ 0 → ⊥) → old ≡ numbers_after report old
   unfolding numbers_after
-  read_kept old some = old_stays report.refusal (five_numbers report) old read_number some
+  read_kept old some = sym (number_stays report.refusal (five_numbers report) old (λ z. some (read_number ∙ z)))
 
 -- ---- values
 
-module _ (scheme n f d x old : ℕ) (e : x ≡ layout_refusal scheme n f d) where
-  pub values_done : (k : ℕ) → x ≡ 0 → k ≡ length (chains scheme n d) → k ≡ values_after scheme n f d old
-  unfolding values_after
-  values_done k z q = q ∙ sym (values_counted scheme n f d (sym e ∙ z)) ∙ new_stands (layout_refusal scheme n f d) (value_count scheme n d) old e z
+module _ (scheme n f d old : ℕ) where
+  module _ (e : layout_tested scheme n f d ≡ Ok tt) where
+    pub values_ask : (allowed_scheme scheme ≡ true) × (allowed_n n ≡ true) × (d ≤ book_limit)
+    values_ask = layout_asks scheme n f d e
 
-  pub values_kept : (x ≡ 0 → ⊥) → old ≡ values_after scheme n f d old
-  unfolding values_after
-  values_kept some = old_stays (layout_refusal scheme n f d) (value_count scheme n d) old e some
+    pub values_number : 0 ≡ layout_refusal scheme n f d
+    values_number = sym (passed_number (layout_tested scheme n f d) e)
 
--- ---- values of a record
+    pub values_done : length (chains scheme n d) ≡ values_after scheme n f d old
+    unfolding values_after
+    values_done =
+        sym (values_counted scheme n f d (passed_number (layout_tested scheme n f d) e)) ∙
+        sym (new_stands (layout_tested scheme n f d) (value_count scheme n d) old e)
 
-module _ (b : List ℕ) (old : ℕ) (s : Record) (a : Writing) (x : ℕ) (decoded : s ≡ record_of b) (call : a ≡ written_so_far s)
-    (number : x ≡ writing_number a) where
-  so_far_is : a ≡ written_so_far (record_of b)
-  so_far_is = call ∙ ap written_so_far decoded
+  module _ {r : Refusal} (e : layout_tested scheme n f d ≡ Err r) where
+    pub values_refused : number r ≡ layout_refusal scheme n f d
+    values_refused = rw e refl
 
-  pub record_number : x ≡ writing_number (written_so_far (record_of b))
-  record_number = number ∙ ap writing_number so_far_is
+    pub values_kept : old ≡ values_after scheme n f d old
+    unfolding values_after
+    values_kept = sym (old_stays (layout_tested scheme n f d) (value_count scheme n d) old e)
 
-  pub record_done : (k : ℕ) → x ≡ 0 → k ≡ count_of a → k ≡ record_values_after b old
-  unfolding record_values_after
-  record_done k z e = e ∙ ap count_of so_far_is ∙ new_stands (writing_number (written_so_far (record_of b))) _ old record_number z
-
-  pub record_kept : (x ≡ 0 → ⊥) → old ≡ record_values_after b old
-  unfolding record_values_after
-  record_kept some = old_stays (writing_number (written_so_far (record_of b))) (count_of (written_so_far (record_of b))) old record_number some
+pub ruleset values_laws = (values_ask, values_number, values_done, values_refused, values_kept)

@@ -1,22 +1,17 @@
 -- What the calls of the C interface (SPEC 15.3) return and leave in the arrays that they are lent, by the calls' own
 -- definitions; for a record, by its bytes. A call returns 0, or 01's number of the refusal. Definitions only.
-use Rattle.std.specs.Prelude.{List, [], ◌∷◌, ℕ}
+use Rattle.std.specs.Prelude.{List, [], ◌∷◌, ℕ, Result, Ok, Err}
 use Rattle.refusals.specs.Refusals.{number_of, unless_refused}
+use Rattle.refusals.specs.declared.Refusal.{Refusal}
 use Rattle.layouts.specs.Layouts.{layout_refusal, value_count}
 use Rattle.reading.specs.Contract.{Report, five_numbers}
 use Rattle.record_bytes.specs.Bytes.{bytes_of_record, record_of}
-use Rattle.sizing.specs.declared.Sizing.{Sizing}
-use Rattle.sizing.specs.declared.Sizing.TheVariants.{Sized, Refused}
-use Rattle.positions.specs.declared.Located.{Located}
-use Rattle.positions.specs.declared.Located.TheVariants as case-of-located
-use Rattle.positions.specs.declared.Place.{Place}
-use Rattle.positions.specs.declared.Place.TheVariants as case-of-place
+use Rattle.sizing.specs.declared.Sizes.{Sizes}
+use Rattle.positions.specs.declared.Chain.{Chain}
 use Rattle.positions.specs.Positions.{numbers_of}
-use Rattle.searching.specs.declared.Searched.{Searched}
-use Rattle.searching.specs.declared.Searched.TheVariants as case-of-searched
-use Rattle.ambiguity.specs.declared.Counting.{Counting}
-use Rattle.ambiguity.specs.declared.Counting.TheVariants as case-of-counting
-use Rattle.service.specs.Contract.{writing_number, count_of, added, closing, written_so_far}
+use Rattle.searching.specs.declared.Progress.{Progress}
+use Rattle.ambiguity.specs.declared.Counts.{Counts}
+use Rattle.service.specs.Contract.{count_of, added, closing, written_so_far}
 
 -- add, on a record's bytes; blocks is what the number of blocks was before
 pub record AddedBytes : Type 0 where
@@ -45,7 +40,7 @@ pub record ClosedBytes : Type 0 where
 unfoldable pub closed_bytes : List ℕ → List ℕ → ℕ → ℕ → ClosedBytes
 closed_bytes state part values blocks =
     let call = closing (record_of state) part in
-    let number = writing_number call.result.answer in
+    let number = number_of call.result.answer in
     record {
       number = number;
       state = unless_refused number (bytes_of_record call.result.state) state;
@@ -65,32 +60,32 @@ values_after scheme n f d values = unless_refused (layout_refusal scheme n f d) 
 -- the number of values of a record's closed days (SPEC 15.5), from its bytes
 unfoldable pub record_values_after : List ℕ → ℕ → ℕ
 record_values_after state values =
-    let answer = written_so_far (record_of state) in unless_refused (writing_number answer) (count_of answer) values
+    let answer = written_so_far (record_of state) in unless_refused (number_of answer) (count_of answer) values
 
 -- the sizes after forecast: values, bytes, blocks (SPEC 17)
-unfoldable pub sizes_after : Sizing → List ℕ → List ℕ
-sizes_after (Sized s) sizes = s.values ∷ s.bytes ∷ s.blocks ∷ []
-sizes_after (Refused number) sizes = sizes
+unfoldable pub sizes_after : Result Sizes Refusal → List ℕ → List ℕ
+sizes_after (Ok s) sizes = s.values ∷ s.bytes ∷ s.blocks ∷ []
+sizes_after (Err refusal) sizes = sizes
 
 -- the four numbers after chain_at: kind, index or level, first and last day (SPEC 18.2)
-unfoldable pub chain_after : Located → List ℕ → List ℕ
-chain_after (case-of-located.At c) chain = numbers_of c
-chain_after (case-of-located.Refused number) chain = chain
+unfoldable pub chain_after : Result Chain Refusal → List ℕ → List ℕ
+chain_after (Ok c) chain = numbers_of c
+chain_after (Err refusal) chain = chain
 
 -- the position after position_of
-unfoldable pub position_after : Place → ℕ → ℕ
-position_after (case-of-place.At p) position = p
-position_after (case-of-place.Refused number) position = position
+unfoldable pub position_after : Result ℕ Refusal → ℕ → ℕ
+position_after (Ok p) position = p
+position_after (Err refusal) position = position
 
 -- the three numbers after search: looked, found, undecided (SPEC 20.5)
-unfoldable pub progress_after : Searched → List ℕ → List ℕ
-progress_after (case-of-searched.State p) progress = p.looked ∷ p.found ∷ p.undecided ∷ []
-progress_after (case-of-searched.Refused number) progress = progress
+unfoldable pub progress_after : Result Progress Refusal → List ℕ → List ℕ
+progress_after (Ok p) progress = p.looked ∷ p.found ∷ p.undecided ∷ []
+progress_after (Err refusal) progress = progress
 
 -- the two numbers after tile_counts: sets, listed (SPEC 21.2)
-unfoldable pub counts_after : Counting → List ℕ → List ℕ
-counts_after (case-of-counting.Counted c) counts = c.sets ∷ c.listed ∷ []
-counts_after (case-of-counting.Refused number) counts = counts
+unfoldable pub counts_after : Result Counts Refusal → List ℕ → List ℕ
+counts_after (Ok c) counts = c.sets ∷ c.listed ∷ []
+counts_after (Err refusal) counts = counts
 
 -- the version of the calls: 10000 · major + 100 · minor + patch
 abbrev pub version : ℕ

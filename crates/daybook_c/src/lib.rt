@@ -5,32 +5,36 @@
 ghost use Rattle.std.specs.Prelude.{◌≡◌};
 ghost use Rattle.refusals.specs.Refusals.{number_of};
 ghost use Rattle.layouts.specs.Layouts.{layout_refusal};
-ghost use Rattle.service.specs.Contract.{opened, writing_number, written_so_far};
+ghost use Rattle.service.specs.Contract.{opened, written_so_far};
 ghost use Rattle.record_bytes.specs.Bytes.{bytes_of_record, record_of};
-ghost use Rattle.sizing.specs.Sizing.{forecasted, sizing_number};
-ghost use Rattle.positions.specs.Positions.{located, located_number, placed, place_number};
+ghost use Rattle.sizing.specs.Sizing.{forecasted};
+ghost use Rattle.positions.specs.Positions.{located, placed};
 ghost use Rattle.sealing.specs.Contract.{sealed_book};
 ghost use Rattle.checking.specs.Contract.{checked};
 ghost use Rattle.reading.specs.Contract.{readout};
-ghost use Rattle.searching.specs.Searching.{searched, searched_number};
+ghost use Rattle.searching.specs.Searching.{searched};
 ghost use Rattle.daybook_c.specs.Contract.{added_bytes, closed_bytes, numbers_after, values_after};
 ghost use Rattle.daybook_c.specs.Contract.{record_values_after, sizes_after, chain_after, position_after};
-ghost use Rattle.ambiguity.specs.Ambiguity.{counted, counting_number};
+ghost use Rattle.ambiguity.specs.Ambiguity.{counted};
 ghost use Rattle.daybook_c.specs.Contract.{progress_after, counts_after, version};
 
-use ambiguity::Counting;
-use positions::{Located, Place};
 use record_bytes::RECORD_BYTES;
-use searching::Searched;
-use sizing::Sizing;
 
+#[tactic(auto, using(crate::proofs::Answers::open_laws))]
 pub fn daybook_open(scheme: u32, n: u32, f: u32, state: &mut [u8; RECORD_BYTES]) -> u32
     ensures value { result ≡ number_of (opened scheme n f).answer }
     ensures state_after { state.new ≡ bytes_of_record (opened scheme n f).state }
 {
-    let opened = service::open(scheme, n, f);
-    *state = record_bytes::encode(opened.state);
-    refusals::number_of(opened.answer)
+    match service::open(scheme, n, f) {
+        Ok(fresh) => {
+            *state = record_bytes::encode(fresh);
+            0
+        }
+        Err(refusal) => {
+            *state = record_bytes::encode(service::zeros());
+            refusal.number()
+        }
+    }
 }
 
 pub fn daybook_add(state: &mut [u8; RECORD_BYTES], piece: &[u8], blocks: &mut u32) -> u32
@@ -40,13 +44,15 @@ pub fn daybook_add(state: &mut [u8; RECORD_BYTES], piece: &[u8], blocks: &mut u3
     ensures blocks_after { blocks.new ≡
         (added_bytes state.old piece.now blocks.old).blocks }
 {
-    let added = service::add(record_bytes::decode(*state), piece);
-    let x = refusals::number_of(added.answer);
-    if x == 0 {
-        *state = record_bytes::encode(added.state);
-        *blocks = added.blocks;
+    let mut grown = record_bytes::decode(*state);
+    match service::add(&mut grown, piece) {
+        Ok(filled) => {
+            *state = record_bytes::encode(grown);
+            *blocks = filled;
+            0
+        }
+        Err(refusal) => refusal.number(),
     }
-    x
 }
 
 pub fn daybook_close(
@@ -66,14 +72,16 @@ pub fn daybook_close(
     ensures blocks_after { blocks.new ≡
         (closed_bytes state.old part.old values.old blocks.old).blocks }
 {
-    let closed = service::close(record_bytes::decode(*state), part);
-    let x = service::writing_number(closed.answer);
-    if x == 0 {
-        *state = record_bytes::encode(closed.state);
-        *values = service::count_of(closed.answer);
-        *blocks = closed.blocks;
+    let mut next = record_bytes::decode(*state);
+    match service::close(&mut next, part) {
+        Ok(closed) => {
+            *state = record_bytes::encode(next);
+            *values = closed.values;
+            *blocks = closed.blocks;
+            0
+        }
+        Err(refusal) => refusal.number(),
     }
-    x
 }
 
 pub fn daybook_seal(
@@ -91,7 +99,7 @@ pub fn daybook_seal(
         (sealed_book scheme n f d ledger.now ends.now book.old).book }
 {
     let a = sealing::seal(scheme, n, f, d, ledger, ends, book);
-    refusals::number_of(a)
+    refusals::number_of(&a)
 }
 
 pub fn daybook_check(
@@ -115,7 +123,7 @@ pub fn daybook_check(
         work.old outcomes.old).outcomes }
 {
     let a = checking::check(scheme, n, f, d, ledger, ends, book, work, outcomes);
-    refusals::number_of(a)
+    refusals::number_of(&a)
 }
 
 pub fn daybook_read(
@@ -144,27 +152,32 @@ pub fn daybook_read(
     x
 }
 
+#[tactic(auto, using(crate::proofs::Answers::values_laws))]
 pub fn daybook_values(scheme: u32, n: u32, f: u32, d: u32, values: &mut u32) -> u32
     ensures value { result ≡ layout_refusal scheme n f d }
     ensures values_after { values.new ≡ values_after scheme n f d values.old }
 {
-    let x = layouts::layout_refusal(scheme, n, f, d);
-    if x == 0 {
-        *values = layouts::values_through(scheme, n, d);
+    match layouts::test_layout(scheme, n, f, d) {
+        Ok(()) => {
+            *values = layouts::values_through(scheme, n, d);
+            0
+        }
+        Err(refusal) => refusal.number(),
     }
-    x
 }
 
+#[tactic(auto, unfolding(crate::specs::Contract::record_values_after))]
 pub fn daybook_record_values(state: &[u8; RECORD_BYTES], values: &mut u32) -> u32
-    ensures value { result ≡ writing_number (written_so_far (record_of state.now)) }
+    ensures value { result ≡ number_of (written_so_far (record_of state.now)) }
     ensures values_after { values.new ≡ record_values_after state.now values.old }
 {
-    let written = service::values_so_far(record_bytes::decode(*state));
-    let x = service::writing_number(written);
-    if x == 0 {
-        *values = service::count_of(written);
+    match service::values_so_far(record_bytes::decode(*state)) {
+        Ok(written) => {
+            *values = written;
+            0
+        }
+        Err(refusal) => refusal.number(),
     }
-    x
 }
 
 #[tactic(auto, unfolding(crate::specs::Contract::sizes_after))]
@@ -176,16 +189,16 @@ pub fn daybook_forecast(
     lengths: &[u32],
     sizes: &mut [u64; 3],
 ) -> u32
-    ensures value { result ≡ sizing_number (forecasted scheme n f d lengths.now) }
+    ensures value { result ≡ number_of (forecasted scheme n f d lengths.now) }
     ensures sizes_after { sizes.new ≡
         sizes_after (forecasted scheme n f d lengths.now) sizes.old }
 {
     match sizing::forecast(scheme, n, f, d, lengths) {
-        Sizing::Sized(s) => {
+        Ok(s) => {
             *sizes = [u64::from(s.values), u64::from(s.bytes), s.blocks];
             0
         }
-        Sizing::Refused(x) => x,
+        Err(refusal) => refusal.number(),
     }
 }
 
@@ -198,15 +211,15 @@ pub fn daybook_chain_at(
     position: u32,
     chain: &mut [u32; 4],
 ) -> u32
-    ensures value { result ≡ located_number (located scheme n f d position) }
+    ensures value { result ≡ number_of (located scheme n f d position) }
     ensures chain_after { chain.new ≡ chain_after (located scheme n f d position) chain.old }
 {
     match positions::chain_at(scheme, n, f, d, position) {
-        Located::At(c) => {
-            *chain = [positions::kind_number(c.kind), c.index, c.first, c.last];
+        Ok(c) => {
+            *chain = c.numbers();
             0
         }
-        Located::Refused(x) => x,
+        Err(refusal) => refusal.number(),
     }
 }
 
@@ -219,16 +232,16 @@ pub fn daybook_position_of(
     chain: &[u32; 4],
     position: &mut u32,
 ) -> u32
-    ensures value { result ≡ place_number (placed scheme n f d chain.now) }
+    ensures value { result ≡ number_of (placed scheme n f d chain.now) }
     ensures position_after { position.new ≡
         position_after (placed scheme n f d chain.now) position.old }
 {
     match positions::position_of_numbers(scheme, n, f, d, *chain) {
-        Place::At(p) => {
+        Ok(p) => {
             *position = p;
             0
         }
-        Place::Refused(x) => x,
+        Err(refusal) => refusal.number(),
     }
 }
 
@@ -244,7 +257,7 @@ pub fn daybook_search(
     progress: &mut [u32; 3],
 ) -> u32
     ensures value { result ≡
-        searched_number (searched scheme n f d outcomes.now limit list.old).answer }
+        number_of (searched scheme n f d outcomes.now limit list.old).answer }
     ensures list_after { list.new ≡
         (searched scheme n f d outcomes.now limit list.old).list }
     ensures progress_after { progress.new ≡
@@ -252,25 +265,25 @@ pub fn daybook_search(
         progress.old }
 {
     match searching::search(scheme, n, f, d, outcomes, limit, list) {
-        Searched::State(p) => {
+        Ok(p) => {
             *progress = [p.looked, p.found, p.undecided];
             0
         }
-        Searched::Refused(x) => x,
+        Err(refusal) => refusal.number(),
     }
 }
 
 #[tactic(auto, unfolding(crate::specs::Contract::counts_after))]
 pub fn daybook_tile_counts(n: u32, k: u32, counts: &mut [u32; 2]) -> u32
-    ensures value { result ≡ counting_number (counted n k) }
+    ensures value { result ≡ number_of (counted n k) }
     ensures counts_after { counts.new ≡ counts_after (counted n k) counts.old }
 {
     match ambiguity::tile_counts(n, k) {
-        Counting::Counted(c) => {
+        Ok(c) => {
             *counts = [c.sets, c.listed];
             0
         }
-        Counting::Refused(x) => x,
+        Err(refusal) => refusal.number(),
     }
 }
 

@@ -5,17 +5,17 @@
 ghost use Rattle.std.specs.Prelude.{◌≡◌};
 ghost use Rattle.refusals.specs.Refusals.{number_of};
 ghost use Rattle.layouts.specs.Layouts.{layout_refusal};
-ghost use Rattle.service.specs.Contract.{opened, writing_number, written_so_far};
+ghost use Rattle.service.specs.Contract.{opened, written_so_far};
 ghost use Rattle.record_bytes.specs.Bytes.{bytes_of_record, record_of};
-ghost use Rattle.sizing.specs.Sizing.{forecasted, sizing_number};
-ghost use Rattle.positions.specs.Positions.{located, located_number, placed, place_number};
+ghost use Rattle.sizing.specs.Sizing.{forecasted};
+ghost use Rattle.positions.specs.Positions.{located, placed};
 ghost use Rattle.sealing.specs.Contract.{sealed_book};
 ghost use Rattle.checking.specs.Contract.{checked};
 ghost use Rattle.reading.specs.Contract.{readout};
-ghost use Rattle.searching.specs.Searching.{searched, searched_number};
+ghost use Rattle.searching.specs.Searching.{searched};
 ghost use Rattle.daybook_c.specs.Contract.{added_bytes, closed_bytes, numbers_after, values_after};
 ghost use Rattle.daybook_c.specs.Contract.{record_values_after, sizes_after, chain_after, position_after};
-ghost use Rattle.ambiguity.specs.Ambiguity.{counted, counting_number};
+ghost use Rattle.ambiguity.specs.Ambiguity.{counted};
 ghost use Rattle.daybook_c.specs.Contract.{progress_after, counts_after, version};
 
 use record_bytes::RECORD_BYTES;
@@ -133,7 +133,7 @@ pub extern "C" fn daybook_values(scheme: u32, n: u32, f: u32, d: u32, values: &m
 
 #[unsafe(no_mangle)]
 pub extern "C" fn daybook_record_values(state: &[u8; RECORD_BYTES], values: &mut u32) -> u32
-    ensures value { result ≡ writing_number (written_so_far (record_of state.now)) }
+    ensures value { result ≡ number_of (written_so_far (record_of state.now)) }
     ensures values_after { values.new ≡ record_values_after state.now values.old }
 {
     daybook_c::daybook_record_values(state, values)
@@ -148,7 +148,7 @@ pub extern "C" fn daybook_forecast(
     lengths: &[u32],
     sizes: &mut [u64; 3],
 ) -> u32
-    ensures value { result ≡ sizing_number (forecasted scheme n f d lengths.now) }
+    ensures value { result ≡ number_of (forecasted scheme n f d lengths.now) }
     ensures sizes_after { sizes.new ≡
         sizes_after (forecasted scheme n f d lengths.now) sizes.old }
 {
@@ -164,7 +164,7 @@ pub extern "C" fn daybook_chain_at(
     position: u32,
     chain: &mut [u32; 4],
 ) -> u32
-    ensures value { result ≡ located_number (located scheme n f d position) }
+    ensures value { result ≡ number_of (located scheme n f d position) }
     ensures chain_after { chain.new ≡ chain_after (located scheme n f d position) chain.old }
 {
     daybook_c::daybook_chain_at(scheme, n, f, d, position, chain)
@@ -179,7 +179,7 @@ pub extern "C" fn daybook_position_of(
     chain: &[u32; 4],
     position: &mut u32,
 ) -> u32
-    ensures value { result ≡ place_number (placed scheme n f d chain.now) }
+    ensures value { result ≡ number_of (placed scheme n f d chain.now) }
     ensures position_after { position.new ≡
         position_after (placed scheme n f d chain.now) position.old }
 {
@@ -198,7 +198,7 @@ pub extern "C" fn daybook_search(
     progress: &mut [u32; 3],
 ) -> u32
     ensures value { result ≡
-        searched_number (searched scheme n f d outcomes.now limit list.old).answer }
+        number_of (searched scheme n f d outcomes.now limit list.old).answer }
     ensures list_after { list.new ≡
         (searched scheme n f d outcomes.now limit list.old).list }
     ensures progress_after { progress.new ≡
@@ -210,7 +210,7 @@ pub extern "C" fn daybook_search(
 
 #[unsafe(no_mangle)]
 pub extern "C" fn daybook_tile_counts(n: u32, k: u32, counts: &mut [u32; 2]) -> u32
-    ensures value { result ≡ counting_number (counted n k) }
+    ensures value { result ≡ number_of (counted n k) }
     ensures counts_after { counts.new ≡ counts_after (counted n k) counts.old }
 {
     daybook_c::daybook_tile_counts(n, k, counts)

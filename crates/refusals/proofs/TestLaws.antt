@@ -230,3 +230,16 @@ value_is {A} {answer} {a} {b} e f = ap value (sym e ∙ f)
     value : Result A Refusal → A
     value (Ok x) = x
     value (Err r) = a
+
+-- a value that is answered, and a refusal
+pub answered_ok : {A : Type 0} (t : Result Unit Refusal) (value : A) {k : A} → answered t value ≡ Ok k → (t ≡ Ok tt) × (k ≡ value)
+answered_ok (Ok u) value e = (refl, sym (value_is refl e))
+answered_ok (Err r) value e = absurd (not_both e refl)
+
+pub answered_err : {A : Type 0} (t : Result Unit Refusal) (value : A) {r : Refusal} → answered t value ≡ Err r → t ≡ Err r
+answered_err (Ok u) value e = absurd (not_both refl e)
+answered_err {A} (Err x) value e = ap cause_of e
+  where
+    cause_of : Result A Refusal → Result Unit Refusal
+    cause_of (Ok y) = Ok tt
+    cause_of (Err y) = Err y

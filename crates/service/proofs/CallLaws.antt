@@ -10,11 +10,11 @@ use Rattle.std.specs.Prelude.{Result, Ok, Err}
 use Rattle.refusals.specs.declared.Refusal.{Refusal}
 use Rattle.refusals.specs.declared.Refusal.TheVariants as cause
 use Rattle.refusals.specs.Refusals.{day_limit, ◌or_refuse◌, number_of, tested, answered}
-use Rattle.refusals.proofs.TestLaws.{none_fails, passed_number, number_passed, refused_before, passed_before, number_answered, old_stays, front_stands}
+use Rattle.refusals.proofs.TestLaws.{front_stands, none_fails, not_both, number_answered, number_passed, old_stays, passed_before, passed_number, refused_before, value_is}
 use Rattle.layouts.specs.Layouts.{setup_tested, setup_refusal, chains_of_day}
 use Rattle.service.specs.declared.Record.{Record}
 use Rattle.service.specs.declared.Closed.{Closed}
-use Rattle.service.specs.Contract.{fresh, opened, current, record_tests, add_tests, add_tested, add_refusal, grown, grown_blocks, added}
+use Rattle.service.specs.Contract.{fresh, opened, current, record_tests, add_tests, add_tested, add_refusal, grown, grown_blocks, added, zeros}
 use Rattle.service.specs.Contract.{day_count, close_tests, close_tested, close_refusal, day_bytes, count_of, both_of, closing}
 use Rattle.service.specs.Private.{record_tested, Open, ClosedDay}
 use Rattle.service.proofs.RecordLaws.{record_passes, record_open, current_bytes, current_scheme, current_n}
@@ -191,6 +191,24 @@ pub closing_ok : (r : Record) (part : List ℕ) → close_refusal r (length part
     Ok (record { values = count_of (closing r part).result.answer; blocks = (closing r part).result.blocks })
 unfolding closing
 closing_ok r part e = rw (number_passed (close_tested r (length part)) e) refl
+
+-- ---- what a call that returned a value, or a refusal, leaves
+
+pub opened_zeros : (s n f : ℕ) {r : Refusal} → (opened s n f).answer ≡ Err r → zeros ≡ (opened s n f).state
+unfolding opened
+opened_zeros s n f e = sym (old_stays (setup_tested s n f) (fresh s n f) zeros e)
+
+pub both_ok : (a : Result ℕ Refusal) (b : ℕ) {c : Closed} → both_of a b ≡ Ok c → (a ≡ Ok c.values) × (c.blocks ≡ b)
+both_ok (Ok k) b e = let q = value_is e refl in (ap (λ (x : Closed). Ok x.values) (sym q), ap (λ (x : Closed). x.blocks) q)
+both_ok (Err r) b e = absurd (not_both e refl)
+
+pub both_err : (a : Result ℕ Refusal) (b : ℕ) {r : Refusal} → both_of a b ≡ Err r → a ≡ Err r
+both_err (Ok k) b e = absurd (not_both refl e)
+both_err (Err x) b e = ap cause_of e
+  where
+    cause_of : Result Closed Refusal → Result ℕ Refusal
+    cause_of (Ok y) = Ok 0
+    cause_of (Err y) = Err y
 
 -- ---- what functions of the code are proved by
 

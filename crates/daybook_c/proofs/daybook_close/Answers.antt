@@ -1,39 +1,30 @@
 -- `daybook_c::daybook_close` meets its contract.
-use Rattle.daybook_c.proofs.Answers.{close_number, close_part, close_done, close_count, close_blocks, close_kept}
+use mathlib.Core.Path.{sym, ◌∙◌}
+use Rattle.daybook_c.proofs.Answers.{close_number, close_part, close_done, close_count, close_blocks, close_refused, close_kept}
 use Rattle.daybook_c.proofs.daybook_close.Goals as goal
 
-pub returns-then-x-eq0 : goal.returns-then-x-eq0
-returns-then-x-eq0 c =
-    let args = c.args in
-    let decoded = c.decode.ensures in
-    let call = c.close-closed.ensures in
-    let number = c.writing_number-x.ensures in
-    let test = c.if-x-eq0.true in
+pub returns-in-Ok : goal.returns-in-Ok
+returns-in-Ok c =
+    let a = c.args in
+    let call = rw c.decode-next.ensures at (sym c.close.ensures.value ∙ c.in-Ok.is) in
+    let left = rw c.decode-next.ensures at c.close.ensures.state_after in
     record {
-      value = close_number args.state.now args.part.now args.values.now args.blocks.now _ _ _ _ decoded call.value call.part_after number;
-      state_after =
-          close_done args.state.now args.part.now args.values.now args.blocks.now _ _ _ _ decoded call.value call.part_after number _ test
-          c.encode.ensures;
-      part_after = close_part args.state.now args.part.now args.values.now args.blocks.now _ _ _ _ decoded call.value call.part_after number;
-      values_after =
-          close_count args.state.now args.part.now args.values.now args.blocks.now _ _ _ _ decoded call.value call.part_after number _ test
-          c.count_of.ensures;
-      blocks_after = close_blocks args.state.now args.part.now args.values.now args.blocks.now _ _ _ _ decoded call.value call.part_after number test;
+      value = close_number a.state.now a.part.now a.values.now a.blocks.now call;
+      state_after = close_done a.state.now a.part.now a.values.now a.blocks.now call (rw left at c.encode.ensures);
+      part_after = close_part a.state.now a.part.now a.values.now a.blocks.now (rw c.decode-next.ensures at c.close.ensures.part_after);
+      values_after = close_count a.state.now a.part.now a.values.now a.blocks.now call;
+      blocks_after = close_blocks a.state.now a.part.now a.values.now a.blocks.now call;
     }
 
-pub returns-else-x-eq0 : goal.returns-else-x-eq0
-returns-else-x-eq0 c =
-    let args = c.args in
-    let decoded = c.decode.ensures in
-    let call = c.close-closed.ensures in
-    let number = c.writing_number-x.ensures in
-    let kept =
-    close_kept args.state.now args.part.now args.values.now args.blocks.now _ _ _ _ decoded call.value call.part_after number
-    c.if-x-eq0.false in
+pub returns-in-Err : goal.returns-in-Err
+returns-in-Err c =
+    let a = c.args in
+    let call = rw c.decode-next.ensures at (sym c.close.ensures.value ∙ c.in-Err.is) in
+    let kept = close_kept a.state.now a.part.now a.values.now a.blocks.now call in
     record {
-      value = close_number args.state.now args.part.now args.values.now args.blocks.now _ _ _ _ decoded call.value call.part_after number;
+      value = c.number.ensures ∙ close_refused a.state.now a.part.now a.values.now a.blocks.now call;
       state_after = kept.0;
-      part_after = close_part args.state.now args.part.now args.values.now args.blocks.now _ _ _ _ decoded call.value call.part_after number;
+      part_after = close_part a.state.now a.part.now a.values.now a.blocks.now (rw c.decode-next.ensures at c.close.ensures.part_after);
       values_after = kept.1;
       blocks_after = kept.2;
     }
