@@ -6,20 +6,22 @@ use lib.ListN.{length, take, drop, length-append, length-map, take-append-drop}
 use lib.Seq.{take_at, drop_at}
 use borrow.Author.Tests.{le-leb}
 use Rattle.lists.specs.Lists.{◌among◌}
-use Rattle.refusals.specs.{Refusals.◌or_refuse◌, declared.Answer.TheVariants.Done}
-use Rattle.refusals.proofs.TestLaws.{none_fails, all_pass, pass_both}
+use Rattle.std.specs.Prelude.{Ok}
+use Rattle.refusals.specs.Refusals.{◌or_refuse◌}
+use Rattle.refusals.specs.declared.Refusal.TheVariants as cause
+use Rattle.refusals.proofs.TestLaws.{none_fails, no_refusal, number_passed, pass_both}
 use Rattle.evidence.specs.Evidence.{days, Within, set_outcome, table_of, Gives, listing, accepted, day_of, values, check_outcomes, Collision}
 use Rattle.evidence.proofs.TableLaws.{listing_ascends, listed_iff, given_iff_accepted, lists_none}
 use Rattle.evidence.proofs.ValueLaws.{changed_within, changed_listed, listed_changed, none_listed}
 use Rattle.evidence.proofs.Collisions.{collide_or_not}
-use Rattle.layouts.specs.Layouts.{divides, allowed_d, setup_tests, layout_tests, setup_refusal, layout_refusal, chains}
+use Rattle.layouts.specs.Layouts.{divides, allowed_d, setup_tests, setup_tested, setup_refusal, layout_tests, layout_tested, layout_refusal, chains}
 use Rattle.layouts.proofs.AllowedLaws.{Setup, setup_is, allowed_scheme_is, allowed_n_is, allowed_d_is, divides_factor}
 use Rattle.layouts.proofs.Coverage.{chains_cover, tree_single}
-use Rattle.ledger.specs.Ledger.{ends_tests, ends_refusal}
+use Rattle.ledger.specs.Ledger.{ends_tests, ends_tested}
 use Rattle.sha256.specs.Sha256.{sha256}
 use Rattle.chains.specs.Book.{start, book_of, inputs_of}
 use Rattle.chains.proofs.BookLaws.{book_front, values_of_length, check_finds, check_passes}
-use Rattle.checking.specs.Contract.{room_tests, check_tests, check_refusal, digests_of, outcomes_of, checked}
+use Rattle.checking.specs.Contract.{room_tests, check_tests, check_tested, check_refusal, digests_of, outcomes_of, checked}
 use Rattle.checking.proofs.Through.{digests_length, outcomes_length}
 use Rattle.reading.specs.Numbers.{last_good_day}
 use Rattle.reading.specs.Contract.{Report, Readout, table_in, passed_refusal, read_refusal, listed_in, found}
@@ -27,10 +29,10 @@ use Rattle.reading.proofs.{LastGood.good_given, RefusalLaws.passed_none, Refusal
 use Rattle.daybook.specs.Detection.{Handed, ledger_days, changed_days, checking, reading, listed_days, table_of_changes, SealedApart, Premises, Detected}
 use Rattle.daybook.specs.Claim.{ReadsClean}
 
-layout_ok : (s n f d : ℕ) → setup_refusal s n f ≡ 0 → allowed_d n f d ≡ true → layout_refusal s n f d ≡ 0
-unfolding setup_refusal layout_refusal
+pub layout_ok : (s n f d : ℕ) → setup_refusal s n f ≡ 0 → allowed_d n f d ≡ true → layout_refusal s n f d ≡ 0
+unfolding setup_tested layout_tested
 layout_ok s n f d e a =
-    all_pass (layout_tests s n f d) (pass_both (setup_tests s n f) (allowed_d n f d or_refuse 7 ∷ []) (none_fails (setup_tests s n f) refl e) (a, tt))
+    no_refusal (layout_tests s n f d) (pass_both (setup_tests s n f) (allowed_d n f d or_refuse cause.BadD ∷ []) (none_fails (setup_tests s n f) e) (a, tt))
 
 -- ---- a list of days, its number, its first
 
@@ -79,19 +81,19 @@ module _ (s n f : ℕ) (opens : setup_refusal s n f ≡ 0) (E : List (List ℕ))
   -- ---- check
 
   not_refused : check_refusal s n f d x.ends (length x.ledger) (length x.book) (length x.work) (length x.outcomes) ≡ 0
-  unfolding layout_refusal ends_refusal check_refusal
+  unfolding layout_tested ends_tested check_tested
   not_refused =
       let room = room_tests s n d (length x.book) (length x.work) (length x.outcomes) in
-      all_pass (check_tests s n f d x.ends (length x.ledger) (length x.book) (length x.work) (length x.outcomes))
-      (pass_both (layout_tests s n f d) (ends_tests d x.ends (length x.ledger) ++ room) (none_fails (layout_tests s n f d) refl layout)
-      (pass_both (ends_tests d x.ends (length x.ledger)) room (none_fails (ends_tests d x.ends (length x.ledger)) refl fit.ends_pass) (
+      no_refusal (check_tests s n f d x.ends (length x.ledger) (length x.book) (length x.work) (length x.outcomes))
+      (pass_both (layout_tests s n f d) (ends_tests d x.ends (length x.ledger) ++ room) (none_fails (layout_tests s n f d) layout)
+      (pass_both (ends_tests d x.ends (length x.ledger)) room (none_fails (ends_tests d x.ends (length x.ledger)) fit.ends_pass) (
         le-leb (32 * length C) (length x.book) book_long,
         (rw (le-leb (32 * d) (length x.work) fit.work_long, le-leb (length C) (length x.outcomes) fit.outcomes_long), tt),
       )))
 
-  done : (checking s n f d x).answer ≡ Done
+  done : (checking s n f d x).answer ≡ Ok tt
   unfolding checked
-  done = rw not_refused
+  done = number_passed (check_tested s n f d x.ends (length x.ledger) (length x.book) (length x.work) (length x.outcomes)) not_refused
 
   digests_left : (checking s n f d x).work ≡ digests_of x.ledger x.ends d ++ drop (32 * d) x.work
   unfolding checked

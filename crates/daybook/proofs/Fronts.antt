@@ -14,7 +14,8 @@ use Rattle.lists.proofs.Laws.{split}
 use Rattle.refusals.specs.Refusals.{book_limit}
 use Rattle.evidence.specs.Evidence.{day_of, values}
 use Rattle.evidence.proofs.ValueLaws.{value_same, values_same}
-use Rattle.layouts.specs.Layouts.{allowed_d, setup_refusal, chains}
+use Rattle.refusals.proofs.TestLaws.{number_passed}
+use Rattle.layouts.specs.Layouts.{allowed_d, setup_tested, setup_refusal, chains}
 use Rattle.layouts.proofs.AllowedLaws.{allowed_d_is, setup_bounds}
 use Rattle.layouts.proofs.Coverage.{chains_within}
 use Rattle.sha256.specs.Sha256.{sha256}
@@ -40,11 +41,14 @@ front_is s n d E h =
 -- ---- the largest number of days that 01 allows
 
 module _ (s n f : ℕ) (ok : setup_refusal s n f ≡ 0) where
+  bounds : (1 ≤ n) × (n ≤ 256) × (1 ≤ f) × (f ≤ 64)
+  bounds = setup_bounds s n f (number_passed (setup_tested s n f) ok)
+
   m_some : 1 ≤ f * n
-  m_some = let b = setup_bounds s n f ok in mul-pos b.2 b.0
+  m_some = mul-pos bounds.2 bounds.0
 
   m_most : f * n ≤ 16384
-  m_most = let b = setup_bounds s n f ok in mul-le-mul b.3 b.1
+  m_most = mul-le-mul bounds.3 bounds.1
 
   -- it is the whole multiples
   largest_is : largest_d n f ≡ book_limit / (f * n) * (f * n)

@@ -30,7 +30,7 @@ pub record Limited (j : Journal) : Type 0 where
 
 limited_entered : (s n : ℕ) (j : Journal) (a : Argument) → refusal_of s n j a ≡ 0 → Limited j → Limited (entered j a)
 limited_entered s n j (adds piece) e l =
-    let k = leb-true (length j.day + length piece) day_limit (none_fails (tests_of s n j (adds piece)) refl e).1.0 in
+    let k = leb-true (length j.day + length piece) day_limit (none_fails (tests_of s n j (adds piece)) e).1.0 in
     record { entries_limited = l.entries_limited; day_limited = rw (length-append j.day piece) k }
 limited_entered s n j (closes size) e l =
     record {

@@ -7,6 +7,7 @@ use Prim.Native.Nat.{ℕ, ◌*◌, ◌<◌}
 use native.Mathlib.Omega.{arith}
 use lib.ListN.{length, get_or, take, drop}
 use Rattle.lists.proofs.Laws.{get_d_mem}
+use Rattle.refusals.proofs.TestLaws.{passed_number}
 use Rattle.evidence.proofs.Collisions.{collide_or_not}
 use Rattle.layouts.specs.Layouts.{allowed_n, chains}
 use Rattle.layouts.proofs.AllowedLaws.{setup_is}
@@ -16,9 +17,9 @@ use Rattle.chains.proofs.BookLaws.{book_at, book_length}
 use Rattle.chains.proofs.Apart.{layouts_apart}
 use Rattle.service.proofs.CallLaws.{opened_number}
 use Rattle.journal.proofs.SeasonLaws.{open_book}
-use Rattle.checking.specs.Contract.{check_refusal, checked}
+use Rattle.checking.specs.Contract.{check_tested, checked}
 use Rattle.checking.proofs.RefusalLaws.{check_ready}
-use Rattle.checking.proofs.Statements.{answer_none, passes_if_stored}
+use Rattle.checking.proofs.Statements.{passes_if_stored}
 use Rattle.daybook.specs.Detection.{ledger_days, checking}
 use Rattle.daybook.specs.Claim.{sealed, wrote}
 use Rattle.daybook.specs.OtherLayout.{at_sealing, at_checking, OtherLayoutFails, FailsOrCollides}
@@ -40,7 +41,7 @@ other_layout_fails s n f opens cs season t m f₂ d differ x done nc =
     m_ok : allowed_n m ≡ true
     m_ok =
         (check_ready t m f₂ d x.ends (length x.ledger) (length x.book) (length x.work) (length x.outcomes)
-        (answer_none (check_refusal t m f₂ d x.ends (length x.ledger) (length x.book) (length x.work) (length x.outcomes)) done)).n_ok
+        (passed_number (check_tested t m f₂ d x.ends (length x.ledger) (length x.book) (length x.work) (length x.outcomes)) done)).n_ok
 
     anywhere : (i j : ℕ) → i < length (chains t m d) → j < length (chains s n (length E)) →
         take 32 (drop (32 * i) x.book) ≡ take 32 (drop (32 * j) W) → get_or (checking t m f₂ d x).outcomes i 0 ≡ 0

@@ -9,7 +9,7 @@ use lib.ListN.{length, replicate, length-append, length-replicate}
 use borrow.Author.Tests.{le-leb, leb-true, leb-false, lt-ltb}
 use Rattle.lists.proofs.Laws.{split}
 use Rattle.refusals.specs.Refusals.{book_limit, last_season}
-use Rattle.refusals.proofs.TestLaws.{all_pass}
+use Rattle.refusals.proofs.TestLaws.{no_refusal}
 use Rattle.layouts.specs.Layouts.{chains_of_day}
 use Rattle.journal.specs.Journal.{closes, tests_of}
 use Rattle.journal.specs.Seasons.{Seasons, first, current, refusal_in, kept_in, seasons_after}
@@ -51,7 +51,7 @@ module _ (s n : ℕ) where
       let j = (current d).present in
       let need = 32 * length (chains_of_day s n (suc (length j.entries))) in
       let size = length-replicate {A = ℕ} need 0 in
-      all_pass (tests_of s n j (closes (length (replicate {A = ℕ} need 0))))
+      no_refusal (tests_of s n j (closes (length (replicate {A = ℕ} need 0))))
       (lt-ltb (length j.entries) book_limit c.left, (le-leb need (length (replicate {A = ℕ} need 0)) (omega (arith, size)), tt))
 
   one_more : (i : ℕ) (d : Seasons) → Closed i d → i < 65536 * book_limit → Closed (suc i) (kept_in s n d (argument_of (next_close d)))

@@ -1,14 +1,14 @@
 -- Demand 3 for a book written by seal: the calls that it stands for seal the ledger's days, and write its book.
-use mathlib.Core.Path.{◌≡◌, refl, sym, ap, ◌∙◌}
+use mathlib.Core.Path.{◌≡◌, sym, ap, ◌∙◌}
 use mathlib.Core.List.{List, [], ◌∷◌, ◌++◌, map, flat_map, map-append, append-nil}
 use Prim.Native.Nat.{ℕ, zero, suc, ◌+◌, ◌*◌, ◌≤◌, ◌<◌}
 use native.Mathlib.Omega.{arith}
 use lib.ListN.{length, drop, length-append, length-drop}
 use borrow.Author.Tests.{le-leb, lt-ltb}
 use Rattle.lists.proofs.Laws.{up_from_snoc, flat_map_append}
-use Rattle.refusals.specs.Refusals.{book_limit, day_limit, number_of, answer_of}
-use Rattle.refusals.specs.declared.Answer.TheVariants.{Done}
-use Rattle.refusals.proofs.TestLaws.{all_pass}
+use Rattle.std.specs.Prelude.{Ok}
+use Rattle.refusals.specs.Refusals.{book_limit, day_limit}
+use Rattle.refusals.proofs.TestLaws.{no_refusal, passed_number}
 use Rattle.evidence.specs.Evidence.{days, day_of}
 use Rattle.layouts.specs.Layouts.{chains, chains_of_day}
 use Rattle.layouts.proofs.Coverage.{chains_suc, chains_front}
@@ -20,7 +20,7 @@ use Rattle.journal.specs.Seasons.{Seasons, first, kept_in, seasons_after, entrie
 use Rattle.journal.specs.Run.{argument_of}
 use Rattle.journal.proofs.SeasonLaws.{seasons_append, only, taken_only}
 use Rattle.service.proofs.CallLaws.{opened_number}
-use Rattle.sealing.specs.Contract.{seal_refusal, sealed_book}
+use Rattle.sealing.specs.Contract.{seal_tested, seal_refusal, sealed_book}
 use Rattle.sealing.proofs.SealLaws.{Sealable, sealable}
 use Rattle.daybook.specs.Claim.{sealed, wrote, day_calls, seal_calls, SealClaim}
 use Rattle.daybook.proofs.Claim.{demand_3}
@@ -52,7 +52,7 @@ module _ (s n f d : ℕ) (ledger ends book : List ℕ) (ok : Sealable s n f d le
     count_is = days_length ledger ends i
 
     add_taken : refusal_of s n (sealed_to i) (adds day) ≡ 0
-    add_taken = all_pass (tests_of s n (sealed_to i) (adds day))
+    add_taken = no_refusal (tests_of s n (sealed_to i) (adds day))
         (lt-ltb (length (days_of ledger ends i)) book_limit (omega (arith, count_is, ok.days_most)), (le-leb (0 + length day) day_limit (let w = day_fits in omega arith), tt))
 
     room : 32 * length (chains_of_day s n (suc (length (days_of ledger ends i)))) ≤ length (rest i)
@@ -66,7 +66,7 @@ module _ (s n f d : ℕ) (ledger ends book : List ℕ) (ok : Sealable s n f d le
     grown = record { entries = days_of ledger ends i; day = day }
 
     close_taken : refusal_of s n grown (closes (length (rest i))) ≡ 0
-    close_taken = all_pass (tests_of s n grown (closes (length (rest i)))) (
+    close_taken = no_refusal (tests_of s n grown (closes (length (rest i)))) (
       lt-ltb (length (days_of ledger ends i)) book_limit (omega (arith, count_is, ok.days_most)),
       (le-leb (32 * length (chains_of_day s n (suc (length (days_of ledger ends i))))) (length (rest i)) room, tt),
     )
@@ -94,13 +94,9 @@ module _ (s n f d : ℕ) (ledger ends book : List ℕ) (ok : Sealable s n f d le
   days_are : sealed s n (seal_calls s n d D book) 0 ≡ D
   days_are = ap (λ (e : Seasons). entries_of e 0) (sealed_to_lem d (omega arith))
 
-not_refused : (s n f d : ℕ) (ledger ends book : List ℕ) → (sealed_book s n f d ledger ends book).answer ≡ Done → seal_refusal s n f d ends (length ledger) (length book) ≡ 0
+not_refused : (s n f d : ℕ) (ledger ends book : List ℕ) → (sealed_book s n f d ledger ends book).answer ≡ Ok tt → seal_refusal s n f d ends (length ledger) (length book) ≡ 0
 unfolding sealed_book
-not_refused s n f d ledger ends book e = go (seal_refusal s n f d ends (length ledger) (length book)) e
-  where
-    go : (x : ℕ) → answer_of x ≡ Done → x ≡ 0
-    go zero q = refl
-    go (suc x) q = let z : ◌≡◌ {A = ℕ} (number_of (answer_of (suc x))) 0 = ap number_of q in absurd (omega arith)
+not_refused s n f d ledger ends book e = passed_number (seal_tested s n f d ends (length ledger) (length book)) e
 
 book_of_seal : (s n f d : ℕ) (ledger ends book : List ℕ) → seal_refusal s n f d ends (length ledger) (length book) ≡ 0 →
     (sealed_book s n f d ledger ends book).book ≡ book_of s n (days_of ledger ends d) ++ drop (length (book_of s n (days_of ledger ends d))) book

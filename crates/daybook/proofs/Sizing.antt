@@ -14,8 +14,8 @@ use borrow.Author.Tests.{leb-true, le-leb, eq-eqb, ne_eqb}
 use Rattle.lists.specs.Lists.{◌among◌, every}
 use Rattle.lists.proofs.Laws.{split, and_both}
 use Rattle.refusals.specs.Refusals.{book_limit, day_limit, last_season, number_of}
-use Rattle.layouts.specs.Layouts.{allowed_d, layout_refusal}
-use Rattle.layouts.proofs.AllowedLaws.{layout_0}
+use Rattle.refusals.proofs.TestLaws.{number_passed}
+use Rattle.layouts.specs.Layouts.{allowed_d}
 use Rattle.chains.specs.declared.Value.{Value}
 use Rattle.chains.specs.Step.{links_of}
 use Rattle.chains.proofs.BlockLaws.{Eights}
@@ -23,17 +23,19 @@ use Rattle.service.specs.declared.Record.{Record}
 use Rattle.service.specs.Contract as service
 use Rattle.service.specs.Contract.{opened, added, grown_blocks, closing, closed_blocks}
 use Rattle.service.proofs.BlockLaws.{Typed, grown_blocks_lem, closed_blocks_lem}
-use Rattle.service.proofs.CallLaws.{opened_number}
+use Rattle.service.proofs.CallLaws.{closing_number}
 use Rattle.journal.specs.Journal.{Journal, Argument, adds, closes}
 use Rattle.journal.specs.Seasons.{Seasons, first, turns, next, current, refusal_in, entered_in, kept_in, seasons_after, entries_of}
 use Rattle.journal.specs.Run.{Call, add, close, argument_of, Called, called, called_all, blocks_to, of_season, made_in}
 use Rattle.journal.proofs.RunLaws.{record_allowed, add_same, close_same}
 use Rattle.journal.proofs.SeasonLaws.{by_refusal, of_season_is, of_season_not, current_next, current_stays, entries_current, entries_present, InSeason, in_current, in_called, in_open, season_taken, refused_left, taken_entries, no_entries}
 use Rattle.record_bytes.specs.Bytes.{Slots, Fits}
-use Rattle.sizing.specs.Sizing.{day_blocks, blocks_through, short_day}
+use Rattle.sizing.specs.Sizing.{day_blocks, blocks_through, short_day, sizing_tested}
 use Rattle.sizing.proofs.LengthLaws.{Passed, blocks_front, forecast_sized, passes_sizing}
 use Rattle.daybook.specs.Claim.{sealed}
 use Rattle.daybook.specs.Sizing.{lengths, blocks_taken, ForecastMet, ForecastsMet}
+use Rattle.daybook.proofs.Claim.{accepted_setup}
+use Rattle.daybook.proofs.Detection.{layout_ok}
 use Rattle.daybook.proofs.Meets.{limited}
 use Rattle.daybook.proofs.Records.{Chained, chained_open, chained_current, chained_called, fits_kept}
 
@@ -117,7 +119,9 @@ module _ {s n f : ℕ} {d : Seasons} {r : Record} (k : InSeason s n f d r) (t : 
 
     closing_blocks : (part : List ℕ) → refusal_in s n d (closes (length part)) ≡ 0 → ((called r (close part)).blocks ≡ closed_blocks (service.current r)) × ((called r (close part)).closed ≡ 1)
     unfolding closing
-    closing_blocks part e = rw (close_same r (record_allowed k.keeps) made.keeps (length part) ∙ e) (refl, refl)
+    closing_blocks part e =
+        let q = close_same r (record_allowed k.keeps) made.keeps (length part) ∙ e in
+        (rw q refl, rw (closing_number r part ∙ q) refl)
 
     abbrev at : Seasons → List (List ℕ)
     at c = entries_of c t
@@ -318,13 +322,12 @@ all_short (e ∷ E) h (suc d) = rw (le-leb (length e) day_limit (h e (Memᴰ.hea
 
 module _ (s n f : ℕ) (opens : number_of (opened s n f).answer ≡ 0) (cs : List Call) (t d : ℕ) (l : d ≤ length (sealed s n cs t)) where
   passes : allowed_d n f d ≡ true → (lent : List ℕ) → take d lent ≡ take d (lengths s n f cs t) → Passed s n f d lent
-  unfolding layout_refusal
   passes a lent e =
       let L = lengths s n f cs t in
       let m : d ≤ length L = rw length-map l in
       let c : length (take d lent) ≡ d = ap length e ∙ length-take-le d L m in
       record {
-        layout = sym (layout_0 s n f d refl (sym (opened_number s n f) ∙ opens) refl (rw a));
+        layout = layout_ok s n f d (accepted_setup s n f opens) a;
         enough = take_enough d lent c;
         short = ap (every short_day) e ∙ all_short (sealed s n cs t) (limited s n cs t) d;
       }
@@ -333,7 +336,7 @@ module _ (s n f : ℕ) (opens : number_of (opened s n f).answer ≡ 0) (cs : Lis
   forecast_told =
       record {
         met = forecast_met s n f opens cs t d l;
-        told = λ a lent e. sym (forecast_sized s n f d lent refl (passes_sizing s n f d lent (passes a lent e)) refl
+        told = λ a lent e. sym (forecast_sized s n f d lent (number_passed (sizing_tested s n f d lent) (passes_sizing s n f d lent (passes a lent e))) refl
             (forecast_met s n f opens cs t d l ∙ sym (blocks_front s n lent (lengths s n f cs t) d e d (le_refl d))));
       }
 

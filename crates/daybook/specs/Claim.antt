@@ -2,11 +2,10 @@
 -- altering the ledger of a season, and checking and reading after it; and what stands beside it. The calls stand in it
 -- by the functions of their contracts: opened, added, closing (open, add, close), checked (check), readout (read),
 -- sealed_book (seal). docs/CLAIM.md goes through it.
-use Rattle.std.specs.Prelude.{◌≡◌, ◌⊎◌, true, ℕ, pred, ◌-◌, ◌*◌, ◌%◌, ◌≤◌, ◌<◌, length, take, drop}
+use Rattle.std.specs.Prelude.{◌≡◌, ◌⊎◌, true, ℕ, pred, ◌-◌, ◌*◌, ◌%◌, ◌≤◌, ◌<◌, length, take, drop, Ok}
 use mathlib.Core.List.{List, [], ◌∷◌, ◌++◌, map, flat_map}
 use Rattle.lists.specs.Lists.{◌among◌}
 use Rattle.refusals.specs.Refusals.{book_limit, last_season, number_of}
-use Rattle.refusals.specs.declared.Answer.TheVariants.{Done}
 use Rattle.evidence.specs.Evidence.{days, day_of, Collision}
 use Rattle.layouts.specs.Layouts.{allowed_d, chains}
 use Rattle.ledger.specs.Ledger.{days_of, ends_refusal}
@@ -99,7 +98,7 @@ DetectedOrCollided =
 -- ---- an unaltered ledger reads clean, with no premise on collisions
 
 pub record ReadsClean (scheme n f d : ℕ) (x : Handed) : Type 0 where
-  pub check_done : (checking scheme n f d x).answer ≡ Done
+  pub check_done : (checking scheme n f d x).answer ≡ Ok tt
   pub read_done : (reading scheme n f d x).report.refusal ≡ 0
   pub clean : (reading scheme n f d x).report.clean ≡ true
   pub list_left : (reading scheme n f d x).list ≡ x.list
@@ -108,7 +107,8 @@ abbrev pub Unaltered : Type 0
 Unaltered =
     (scheme n f : ℕ) → number_of (opened scheme n f).answer ≡ 0 → (cs : List Call) (t d : ℕ) (x : Handed) →
     Premises scheme n f (sealed scheme n cs t) (wrote scheme n f cs t) d x →
-    ((g : ℕ) → g among days d → day_of (sealed scheme n cs t) g ≡ day_of (ledger_days d x) g) → ReadsClean scheme n f d x
+    ((g : ℕ) → g among days d → day_of (sealed scheme n cs t) g ≡ day_of (ledger_days d x) g) →
+    ReadsClean scheme n f d x
 
 -- ---- the premises can be met: for whatever was sealed in a season and each d up to it that 01 allows, by a ledger of
 -- the same days and with each P that 19 lets pass
@@ -138,7 +138,8 @@ SeasonsReached =
 
 -- the calls that seal stands for (SPEC 15.2): for each day, its bytes in one piece, and a close lent the book's rest
 abbrev pub day_calls : ℕ → ℕ → List (List ℕ) → List ℕ → ℕ → List Call
-day_calls scheme n ledger book g = add (day_of ledger g) ∷ close (drop (32 * length (chains scheme n (pred g))) book) ∷ []
+day_calls scheme n ledger book g =
+    add (day_of ledger g) ∷ close (drop (32 * length (chains scheme n (pred g))) book) ∷ []
 
 abbrev pub seal_calls : ℕ → ℕ → ℕ → List (List ℕ) → List ℕ → List Call
 seal_calls scheme n d ledger book = flat_map (day_calls scheme n ledger book) (days d)
@@ -153,5 +154,5 @@ pub record SealedSo (scheme n f d : ℕ) (ledger ends book : List ℕ) (cs : Lis
 
 abbrev pub SealClaim : Type 0
 SealClaim =
-    (scheme n f d : ℕ) (ledger ends book : List ℕ) → (sealed_book scheme n f d ledger ends book).answer ≡ Done →
+    (scheme n f d : ℕ) (ledger ends book : List ℕ) → (sealed_book scheme n f d ledger ends book).answer ≡ Ok tt →
     SealedSo scheme n f d ledger ends book (seal_calls scheme n d (days_of ledger ends d) book)

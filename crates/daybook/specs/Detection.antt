@@ -1,8 +1,7 @@
 -- What checking and reading find out about a ledger, over the days that were sealed and the book that was written for
 -- them, whoever sealed them: the premises (SPEC 9.3 p to u), and what then holds (SPEC 9.3 c to f). Definitions only.
-use Rattle.std.specs.Prelude.{◌≡◌, ◌↔◌, true, not, ◌&&◌, List, [], ◌++◌, ℕ, ◌*◌, ◌≤◌, length, take, drop}
+use Rattle.std.specs.Prelude.{◌≡◌, ◌↔◌, true, not, ◌&&◌, List, [], ◌++◌, ℕ, ◌*◌, ◌≤◌, length, take, drop, Ok}
 use Rattle.lists.specs.Lists.{◌among◌, keep, Ascends, last_of}
-use Rattle.refusals.specs.declared.Answer.TheVariants.{Done}
 use Rattle.evidence.specs.Evidence.{days, meets, table_of, Gives, changed, NoCollision}
 use Rattle.layouts.specs.Layouts.{divides, allowed_d, last_days, chains}
 use Rattle.ledger.specs.Ledger.{days_of, ends_refusal}
@@ -82,7 +81,7 @@ pub record Premises (scheme n f : ℕ) (sealed : List (List ℕ)) (written : Lis
 
 pub record Detected (scheme n f : ℕ) (sealed : List (List ℕ)) (d : ℕ) (x : Handed) : Type 0 where
   -- c: check is done, and writes the digests of the ledger's days and exactly the table that the changed days give
-  pub check_done : (checking scheme n f d x).answer ≡ Done
+  pub check_done : (checking scheme n f d x).answer ≡ Ok tt
   pub digests_written : (checking scheme n f d x).work ≡
       digests_of x.ledger x.ends d ++ drop (32 * d) x.work
   pub table_written : (checking scheme n f d x).outcomes ≡
@@ -105,4 +104,5 @@ pub record Detected (scheme n f : ℕ) (sealed : List (List ℕ)) (d : ℕ) (x :
   pub numbers : (reading scheme n f d x).report ≡
       found d x.passed (listed_days scheme n f d x) (last_good_day scheme n d (table_of_changes scheme n sealed d x))
   -- last good, the last day whose black value passes, is the last that n divides with no changed day up to it
-  pub last_good : last_good_day scheme n d (table_of_changes scheme n sealed d x) ≡ last_unchanged n d (changed_days sealed d x)
+  pub last_good : last_good_day scheme n d (table_of_changes scheme n sealed d x) ≡
+      last_unchanged n d (changed_days sealed d x)

@@ -1,7 +1,6 @@
 -- 02's book under another layout (C-17, SPEC 22.4): whatever the ledger, no value that was sealed passes.
-use Rattle.std.specs.Prelude.{◌≡◌, ◌⊎◌, List, ℕ, ◌*◌, ◌<◌, length, get_or, take, drop}
+use Rattle.std.specs.Prelude.{◌≡◌, ◌⊎◌, List, ℕ, ◌*◌, ◌<◌, length, get_or, take, drop, Ok}
 use Rattle.refusals.specs.Refusals.{number_of}
-use Rattle.refusals.specs.declared.Answer.TheVariants.{Done}
 use Rattle.evidence.specs.Evidence.{NoCollision, Collision}
 use Rattle.layouts.specs.Layouts.{chains}
 use Rattle.sha256.specs.Sha256.{sha256}
@@ -40,7 +39,7 @@ abbrev pub OtherLayoutFails : Type 0
 OtherLayoutFails =
     (scheme n f : ℕ) → number_of (opened scheme n f).answer ≡ 0 → (cs : List Call) (t : ℕ) →
     (scheme₂ n₂ f₂ d : ℕ) → Another scheme n scheme₂ n₂ → (x : Handed) →
-    (checking scheme₂ n₂ f₂ d x).answer ≡ Done →
+    (checking scheme₂ n₂ f₂ d x).answer ≡ Ok tt →
     NoCollision sha256 (at_sealing scheme n cs t) (at_checking scheme₂ n₂ d x) →
     NonePasses scheme n f cs t scheme₂ n₂ f₂ d x
 
@@ -49,6 +48,6 @@ abbrev pub FailsOrCollides : Type 0
 FailsOrCollides =
     (scheme n f : ℕ) → number_of (opened scheme n f).answer ≡ 0 → (cs : List Call) (t : ℕ) →
     (scheme₂ n₂ f₂ d : ℕ) → Another scheme n scheme₂ n₂ → (x : Handed) →
-    (checking scheme₂ n₂ f₂ d x).answer ≡ Done →
+    (checking scheme₂ n₂ f₂ d x).answer ≡ Ok tt →
     NonePasses scheme n f cs t scheme₂ n₂ f₂ d x ⊎
     Collision sha256 (at_sealing scheme n cs t) (at_checking scheme₂ n₂ d x)

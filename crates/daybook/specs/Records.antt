@@ -3,7 +3,7 @@
 use Rattle.std.specs.Prelude.{◌≡◌, List, ℕ, ◌*◌, length}
 use Rattle.refusals.specs.Refusals.{number_of}
 use Rattle.service.specs.declared.Record.{Record}
-use Rattle.service.specs.Contract.{opened, writing_number, count_of, written_so_far}
+use Rattle.service.specs.Contract.{opened, count_of, written_so_far}
 use Rattle.journal.specs.Run.{Call, state_after}
 use Rattle.record_bytes.specs.Bytes.{Fits, bytes_of_record, record_of}
 use Rattle.daybook.specs.Claim.{wrote}
@@ -13,7 +13,7 @@ pub record Told (r : Record) (written : List ℕ) : Type 0 where
   pub fits : Fits r
   pub same : record_of (bytes_of_record r) ≡ r
   -- 6 is not said, and the values counted are those that were written
-  pub not_refused : writing_number (written_so_far r) ≡ 0
+  pub not_refused : number_of (written_so_far r) ≡ 0
   pub counted : 32 * count_of (written_so_far r) ≡ length written
 
 abbrev pub RecordsTold : Type 0

@@ -1,6 +1,6 @@
 -- 02's search after checking (C-15, SPEC 20.9): under demand 3's premises the days that it finds are changed days, and
 -- it bounds their true number.
-use Rattle.std.specs.Prelude.{◌≡◌, List, ℕ, ◌+◌, ◌-◌, ◌*◌, ◌≤◌, leb, length, take, drop}
+use Rattle.std.specs.Prelude.{◌≡◌, List, ℕ, ◌+◌, ◌-◌, ◌*◌, ◌≤◌, leb, length, take, drop, Ok}
 use Rattle.std.specs.Int.Count.{ones}
 use Rattle.lists.specs.Lists.{keep}
 use Rattle.refusals.specs.Refusals.{number_of}
@@ -8,7 +8,6 @@ use Rattle.layouts.specs.Layouts.{lg}
 use Rattle.service.specs.Contract.{opened}
 use Rattle.journal.specs.Run.{Call}
 use Rattle.searching.specs.declared.Progress.{Progress}
-use Rattle.searching.specs.declared.Searched.TheVariants.{State}
 use Rattle.searching.specs.Searching.{Searchout, searched}
 use Rattle.daybook.specs.Detection.{Handed, changed_days, checking, Premises, SealedApart}
 use Rattle.daybook.specs.Claim.{sealed, wrote}
@@ -24,7 +23,7 @@ days_found n f d x limit p = take p.found (searching n f d x limit).list
 pub record Sought (n f : ℕ) (sealedDays : List (List ℕ)) (d : ℕ) (x : Handed) (limit : ℕ) : Type 0 where
   -- search is not refused
   pub progress : Progress
-  pub answer : (searching n f d x limit).answer ≡ State progress
+  pub answer : (searching n f d x limit).answer ≡ Ok progress
   pub few : progress.undecided ≤ d
   -- it finds the changed days before the undecided ones, and no other; the rest of the list stays
   pub counted : length (days_found n f d x limit progress) ≡ progress.found

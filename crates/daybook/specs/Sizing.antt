@@ -1,11 +1,10 @@
 -- 02's forecast met (C-11, SPEC 17.5): over every list of calls, the blocks of a season's calls that seal its days 1 to
 -- d are those forecast from the lengths of these days.
-use Rattle.std.specs.Prelude.{◌≡◌, true, List, map, ℕ, ◌*◌, ◌≤◌, length, take}
+use Rattle.std.specs.Prelude.{◌≡◌, true, List, map, ℕ, ◌*◌, ◌≤◌, length, take, Ok}
 use Rattle.refusals.specs.Refusals.{number_of}
 use Rattle.layouts.specs.Layouts.{allowed_d, chains}
 use Rattle.service.specs.Contract.{opened}
 use Rattle.journal.specs.Run.{Call, called_all, blocks_to, made_in}
-use Rattle.sizing.specs.declared.Sizing.TheVariants.{Sized}
 use Rattle.sizing.specs.Sizing.{blocks_through, forecasted}
 use Rattle.daybook.specs.Claim.{sealed}
 
@@ -22,7 +21,7 @@ module _ (scheme n f : ℕ) (cs : List Call) (t : ℕ) where
     -- where 01 allows d, the call, lent any lengths that begin with these, is not refused and gives this number, beside
     -- that of the layout's values and 32 bytes for each
     pub told : allowed_d n f d ≡ true → (lent : List ℕ) → take d lent ≡ take d lengths →
-        forecasted scheme n f d lent ≡ Sized (record {
+        forecasted scheme n f d lent ≡ Ok (record {
           values = length (chains scheme n d);
           bytes = 32 * length (chains scheme n d);
           blocks = blocks_taken d;

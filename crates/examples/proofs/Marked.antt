@@ -7,7 +7,7 @@ use Rattle.lists.proofs.Laws.{true_or_false}
 use Rattle.evidence.proofs.TableLaws.{listing_ascends, given_iff_accepted, listed_iff}
 use Rattle.layouts.specs.Layouts.{lg, names_through, chains}
 use Rattle.reading.specs.Numbers.{last_good_day}
-use Rattle.reading.specs.Contract.{read_refusal, readout, found, listed_in}
+use Rattle.reading.specs.Contract.{read_tested, readout, found, listed_in}
 use Rattle.ambiguity.specs.Ambiguity.{tile_table, tile_read, days_listed, offset_sets, sets, listed}
 use Rattle.searching.specs.Searching.{maximal, looks, found_in, found_days, days_under, progress_of}
 use Rattle.examples.specs.Examples.{Lists, NotGiven, Examples, LastGoods, Skipped, Searched, Figures}
@@ -71,7 +71,7 @@ searched =
     }
 
 pub figures : Figures
-unfolding table_of lg names_through flat_map chains listing accepted read_refusal readout found listed_in last_good_day tile_table tile_read days_listed offset_sets sets listed
+unfolding table_of lg names_through flat_map chains listing accepted read_tested readout found listed_in last_good_day tile_table tile_read days_listed offset_sets sets listed
 figures =
     record {
       one_of_4 = record { sets_are = refl; listed_are = refl };
