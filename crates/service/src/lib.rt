@@ -151,7 +151,8 @@ fn close_day(state: Record, part: &mut [u8]) -> Closed
 {
     let g = state.days + 1;
     let k = layouts::values_of_day(state.scheme, state.n, g);
-    let (black, mut running) = day::linked(state);
+    let mut running = state.running;
+    let black = day::link(state, &mut running);
     if k > 0 {
         let values = chains::day_values(state.scheme, state.n, g, k, black, running);
         day::write(part, values, k);
