@@ -44,6 +44,7 @@ fn four_rounds(v: [u32; 8], w: &Rows<64>, k: &[u32; 64], t: usize, j: usize) -> 
     ensures { result ≡ form.on_lane w.now k.now t 4 v j }
 {
     let mut r = v;
+    // u comes first: a call whose result goes straight into an array has no generated proof.
     for i in 0..4 {
         let u = sha256::round(r, k[t + i], w[t + i][j]);
         r = u;
