@@ -8,7 +8,7 @@ use borrow.Author.Tests.{lt-ltb, le-ltb, ltb-true, ltb-false}
 use lib.Dec.{ltb}
 use lib.ListN.{length, get_or, take, drop, set, replicate}
 use Rattle.std.proofs.lemmas.List.{get_or-replicate}
-use lib.Seq.{get_or-set_same, get_or-set_other, get_or-drop, take_all, take_at, take-suc-set}
+use lib.Seq.{get_or-set_same, get_or-set_other, get_or-drop, take_all, take_at, take-suc-set, length-take-le}
 use Rattle.std.proofs.lemmas.List.{take-map}
 use Rattle.lists.proofs.Laws.{split}
 use Rattle.sha256_words.specs.Words.{k_table}
@@ -65,10 +65,10 @@ row_more : (b : List ℕ) (w : List (List ℕ)) (i j : ℕ) (row : List ℕ) →
 unfolding lane schedule grown
 row_more b w i j row e l h = rw (add-one, take-suc-set w i row l, map-append (word_of j) (take i w) (row ∷ [])) (ap₂ (λ (a : List ℕ) (x : ℕ). a ++ x ∷ []) e h)
 
-pub schedules_first : (m rest : List (List ℕ)) {a : List (List ℕ)} → a ≡ m → length a ≡ 16 → (j : ℕ) → j < 16 → lane (take 16 (a ++ rest)) j ≡ schedule (lane m j) 16
-schedules_first m rest {a} e l j h =
-    let n : length (lane m j) ≡ 16 = length_lane m j ∙ ap length (sym e) ∙ l in
-    ap (λ (z : List (List ℕ)). lane z j) (take_at a rest 16 l ∙ e) ∙ sym (begins (lane m j) 16 n (omega arith) ∙ take_all 16 (lane m j) (omega (arith, n)))
+pub schedules_first : (w : List (List ℕ)) → length w ≡ 64 → (j : ℕ) → j < 16 → lane (take 16 w) j ≡ schedule (lane (take 16 w) j) 16
+schedules_first w l j h =
+    let n : length (lane (take 16 w) j) ≡ 16 = length_lane (take 16 w) j ∙ length-take-le 16 w (omega arith) in
+    sym (begins (lane (take 16 w) j) 16 n (omega arith) ∙ take_all 16 (lane (take 16 w) j) (omega (arith, n)))
 
 pub schedules_next : (m w : List (List ℕ)) (i : ℕ) (row : List ℕ) → ((j : ℕ) → j < 16 → lane (take i w) j ≡ schedule (lane m j) i) → ((j : ℕ) → j < 16 → get_or row j 0 ≡ later (lane w j) i)
     → 16 ≤ i → i < length w → (j : ℕ) → j < 16 → lane (take (i + 1) (set w i row)) j ≡ schedule (lane m j) (i + 1)
@@ -152,10 +152,14 @@ compress_by : (h w m : List ℕ) → w ≡ schedule m 64 → summed h (rounds h 
 unfolding compress
 compress_by h w m e = rw e
 
-pub compressed_by : (s m w r : List (List ℕ)) → Lanes 64 (schedule_of m) w → Lanes 8 (worked_by s w) r → Wide r → r ≡ compressed s m
+pub compressed_by : (s m rest w r : List (List ℕ)) {a : List (List ℕ)} → a ≡ m → length a ≡ 16 → Lanes 64 (schedule_of (take 16 (a ++ rest))) w → Lanes 8 (worked_by s w) r → Wide r → r ≡ compressed s m
 unfolding compressed worked_by schedule_of
-compressed_by s m w r lw lr wr = by_lanes 8 (lane_after s m) r wr
-    record { size = lr.size; each = λ j h. lr.each j h ∙ compress_by (lane s j) (lane w j) (lane m j) (lw.each j h) }
+compressed_by s m rest w r {a} e n lw lr wr = by_lanes 8 (lane_after s m) r wr
+    record {
+      size = lr.size;
+      each = λ j h. lr.each j h
+          ∙ compress_by (lane s j) (lane w j) (lane m j) (lw.each j h ∙ ap (λ (x : List (List ℕ)). schedule (lane x j) 64) (take_at a rest 16 n ∙ e));
+    }
 
 pub compressed_same_lem : (s : List (List ℕ)) (m : List ℕ) (w r : List (List ℕ)) → Lanes 64 (always (schedule m 64)) w → Lanes 8 (worked_by s w) r → Wide r → r ≡ compressed_same s m
 unfolding compressed_same worked_by

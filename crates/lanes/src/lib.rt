@@ -2,7 +2,7 @@
 // of sixteen, a word of each lane, so that the compiler makes vector code of a loop over the lanes.
 #![tactic(auto)]
 
-ghost use Rattle.std.specs.Prelude.{◌≡◌, ℕ, ◌+◌, ◌≤◌, ◌<◌, length, get_or};
+ghost use Rattle.std.specs.Prelude.{◌≡◌, ℕ, ◌+◌, ◌≤◌, ◌<◌, length, get_or, take};
 ghost use Rattle.sha256.specs.Sha256.{later, scheduled, schedule};
 ghost use Rattle.lanes.specs.Lanes as spec;
 ghost use Rattle.lanes.specs.Lanes.{lane};
@@ -44,6 +44,7 @@ fn four_rounds(v: [u32; 8], w: &Rows<64>, k: &[u32; 64], t: usize, j: usize) -> 
     ensures { result ≡ form.on_lane w.now k.now t 4 v j }
 {
     let mut r = v;
+    // u comes first: a call whose result goes straight into an array has no generated proof.
     for i in 0..4 {
         let u = sha256::round(r, k[t + i], w[t + i][j]);
         r = u;
@@ -90,16 +91,13 @@ fn next_row(w: &Rows<64>, i: usize) -> [u32; 16]
     row
 }
 
-// The schedules of the blocks m, in lanes.
-fn schedules(m: Rows<16>) -> Rows<64>
-    ensures { form.Lanes 64 (form.schedule_of m) result }
+// The schedules of the blocks that are their first sixteen rows, in lanes.
+fn schedule(w: &mut Rows<64>)
+    ensures { form.Lanes 64 (form.schedule_of (take 16 w.old)) w.new }
 {
-    let mut w = [[0; 16]; 64];
-    w[..16].copy_from_slice(&m);
     for i in 16..64 {
-        w[i] = next_row(&w, i);
+        w[i] = next_row(w, i);
     }
-    w
 }
 
 // Word i of the schedule of the block m, from the rows before.
@@ -115,37 +113,38 @@ fn next_word(w: &Rows<64>, m: [u32; 16], i: usize) -> u32
 }
 
 // The schedule of the block m in every lane.
-fn same_schedules(m: [u32; 16]) -> Rows<64>
-    ensures { form.Lanes 64 (form.always (schedule m 64)) result }
+fn schedule_same(w: &mut Rows<64>, m: [u32; 16])
+    ensures { form.Lanes 64 (form.always (schedule m 64)) w.new }
 {
-    let mut w = [[0; 16]; 64];
     for i in 0..64 {
-        let x = next_word(&w, m, i);
+        let x = next_word(w, m, i);
         w[i] = [x; 16];
     }
-    w
 }
 
 // The hash value of each lane after that of s, by the lane's schedule.
-fn worked(s: Rows<8>, w: Rows<64>) -> Rows<8>
-    ensures lanes { form.Lanes 8 (form.worked_by s w) result }
+fn worked(s: Rows<8>, w: &Rows<64>) -> Rows<8>
+    ensures lanes { form.Lanes 8 (form.worked_by s w.now) result }
     ensures wide { form.Wide result }
 {
     let k = sha256_words::constants::table();
     let mut v = s;
     for i in 0..16 {
-        rounds(&mut v, &w, &k, 4 * i);
+        rounds(&mut v, w, &k, 4 * i);
     }
     summed(&mut v, &s);
     v
 }
 
-// The hash value of each lane after that of s, by the block of the lane.
-#[tactic(auto, using(crate::proofs::Steps::compressed_by))]
+// The hash value of each lane after that of s, by the block of the lane. The schedules are made in place: a function
+// that returned them would have them copied.
 pub fn compress(s: Rows<8>, m: Rows<16>) -> Rows<8>
     ensures { result ≡ spec.compressed s m }
 {
-    worked(s, schedules(m))
+    let mut w = [[0; 16]; 64];
+    w[..16].copy_from_slice(&m);
+    schedule(&mut w);
+    worked(s, &w)
 }
 
 // The hash value of each lane after that of s, by the same block for all.
@@ -153,5 +152,7 @@ pub fn compress(s: Rows<8>, m: Rows<16>) -> Rows<8>
 pub fn compress_same(s: Rows<8>, m: [u32; 16]) -> Rows<8>
     ensures { result ≡ spec.compressed_same s m }
 {
-    worked(s, same_schedules(m))
+    let mut w = [[0; 16]; 64];
+    schedule_same(&mut w, m);
+    worked(s, &w)
 }

@@ -70,7 +70,7 @@ pub fn tail(h: [u32; 8]) -> [u32; 64]
     prepared::prepare(back(h))
 }
 
-// The same as link_words, its second block prepared.
+// The same as link_words, its second block prepared: once for many links, where link_words has no use for that.
 pub fn link_by(v: [u32; 8], h: [u32; 8], w: &[u32; 64]) -> [u32; 8]
     requires { Prepared (form.back h) w.now }
     ensures { result ≡ hashed (1 ∷ (bytes_of v ++ bytes_of h)) }

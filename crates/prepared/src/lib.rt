@@ -67,6 +67,7 @@ pub fn compress(h: [u32; 8], w: &[u32; 64]) -> [u32; 8]
     ensures { result ≡ worked h w.now }
 {
     let mut v = h;
+    // next comes first: a call whose result goes straight into an array has no generated proof.
     for turn in 0..4 {
         let next = rounds(v, w, 16 * turn);
         v = next;

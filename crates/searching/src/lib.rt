@@ -66,7 +66,8 @@ fn look(n: u32, d: u32, t: &[u8], c: Cursor, list: &mut [u32]) -> Cursor
     ensures { Looked n d t.now c list.old result list.new }
 {
     let g = c.day + layouts::size(c.level);
-    if acceptance::values::tree_passes(n, c.level, g, t) {
+    let passes = acceptance::values::tree_passes(n, c.level, g, t);
+    if passes {
         return Cursor {
             day: g,
             level: level_behind(d, g),

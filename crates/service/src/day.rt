@@ -45,26 +45,27 @@ pub fn digest(state: Record) -> [u32; 8]
     hasher::finish(so_far(state), u64::from(state.bytes) + 1)
 }
 
-// Black and the slots with the open day linked. `chains::step` is not called for it: it would copy the slots twice
-// more.
+// Links the open day to the slots, where they stand, and gives black linked. A pair of both would copy the slots twice
+// more, as `chains::step` does.
 #[tactic(auto, using(crate::proofs::DayLaws::day_links))]
-pub fn linked(state: Record) -> (Value, [Value; 17])
-    requires { Open state }
-    ensures { Linked state result.0 result.1 }
+pub fn link(state: Record, slots: &mut [Value; 17]) -> Value
+    requires { Open state × (slots.old ≡ state.running) }
+    ensures { Linked state result slots.new }
 {
     let h = digest(state);
-    let slots = state.running;
     match state.scheme {
         2 => {
             let t = links::tail(h);
-            let tiles = chains::link_tiles(state.n, state.days + 1, slots, h, &t);
-            (chains::link_by(state.black, h, &t), tiles)
+            let tiles = chains::link_tiles(state.n, state.days + 1, *slots, h, &t);
+            *slots = tiles;
+            chains::link_by(state.black, h, &t)
         }
-        3 => (
-            chains::link_value(state.black, h),
-            chains::link_levels(slots, h),
-        ),
-        _ => (chains::link_value(state.black, h), slots),
+        3 => {
+            let levels = chains::link_levels(*slots, h);
+            *slots = levels;
+            chains::link_value(state.black, h)
+        }
+        _ => chains::link_value(state.black, h),
     }
 }
 

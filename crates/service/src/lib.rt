@@ -98,7 +98,8 @@ fn close_day(state: &mut Record, part: &mut [u8]) -> Closed
     let open = *state;
     let g = open.days + 1;
     let k = layouts::values_of_day(open.scheme, open.n, g);
-    let (black, mut running) = day::linked(open);
+    let mut running = open.running;
+    let black = day::link(open, &mut running);
     if k > 0 {
         let values = chains::day_values(open.scheme, open.n, g, k, black, running);
         day::write(part, values, k);

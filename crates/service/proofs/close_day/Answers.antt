@@ -21,8 +21,8 @@ next-requires c =
     let r = c.args.state.now in (
       c.requires.0,
       elim c.if-k-gt0.branch [
-        | then-k-gt0 w ↦ rw w.running-is (restarted_after r c.linked.ensures w.restart_slots-again.ensures)
-        | else-k-gt0 w ↦ rw w.running-is (quiet_after r c.linked.ensures (omega (arith, count_is r c.values_of_day-k.ensures)))
+        | then-k-gt0 w ↦ rw w.running-is (restarted_after r c.link-black.ensures w.restart_slots-again.ensures)
+        | else-k-gt0 w ↦ rw w.running-is (quiet_after r c.link-black.ensures (omega (arith, count_is r c.values_of_day-k.ensures)))
       ],
     )
 
@@ -31,7 +31,7 @@ returns c =
     let r = c.args.state.now in
     let many = count_is r c.values_of_day-k.ensures in
     closed_of r many c.next.ensures c.of_close.ensures (elim c.if-k-gt0.branch [
-      | then-k-gt0 w ↦ rw w.part-is (wrote_as (day_bytes r) (day_bytes_lem r c.linked.ensures _ _ w.day_values-values.ensures) w.write.ensures)
+      | then-k-gt0 w ↦ rw w.part-is (wrote_as (day_bytes r) (day_bytes_lem r c.link-black.ensures _ _ w.day_values-values.ensures) w.write.ensures)
       | else-k-gt0 w ↦
           let none : day_count r ≡ 0 = omega (arith, many) in
           rw (w.part-is, many) (quiet_written r c.args.part.now none)

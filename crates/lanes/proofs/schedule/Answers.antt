@@ -1,15 +1,10 @@
--- `lanes::schedules` meets its contract.
-use native.Mathlib.Omega.{arith}
-use lib.ListN.{length-append}
+-- `lanes::schedule` meets its contract.
 use borrow.Author.Rules.{rules}
 use Rattle.lanes.proofs.Steps.{schedules_first, schedules_next, schedules_all}
-use Rattle.lanes.proofs.schedules.Goals as goal
+use Rattle.lanes.proofs.schedule.Goals as goal
 
 pub loop-i-init : goal.loop-i-init
-loop-i-init c = (
-  simp length-append (omega arith),
-  schedules_first _ _ c.copy_from_slice.ensures.after (search rules),
-)
+loop-i-init c = (search rules, schedules_first _ (search rules))
 
 pub loop-i-preserved : goal.loop-i-preserved
 loop-i-preserved c = (search rules, schedules_next _ _ _ _ c.loop-i.invariant.1 c.next_row.ensures (search rules) (search rules))
