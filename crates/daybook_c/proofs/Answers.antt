@@ -15,30 +15,11 @@ use Rattle.reading.specs.Private.{NumbersOf}
 use Rattle.reading.specs.declared.Numbers.{Numbers}
 use Rattle.reading.specs.declared.Reading.{Reading}
 use Rattle.record_bytes.specs.Bytes.{bytes_of_record, record_of}
-use Rattle.service.specs.Contract.{opened, zeros, Added, added, count_of, both_of, Closing, closing}
+use Rattle.service.specs.Contract.{Added, added, count_of, both_of, Closing, closing}
 use Rattle.service.specs.declared.Record.{Record}
 use Rattle.service.specs.declared.Closed.{Closed}
-use Rattle.service.proofs.CallLaws.{opened_zeros, both_ok, both_err}
+use Rattle.service.proofs.CallLaws.{both_ok, both_err}
 use Rattle.daybook_c.specs.Contract.{added_bytes, closed_bytes, numbers_after, values_after}
-
--- ---- open
-
-module _ (s n f : ℕ) where
-  module _ {r : Record} (call : answered (opened s n f).answer (opened s n f).state ≡ Ok r) where
-    pub open_number : 0 ≡ number_of (opened s n f).answer
-    open_number = rw (answered_ok (opened s n f).answer (opened s n f).state call).0 refl
-
-    pub open_state : bytes_of_record r ≡ bytes_of_record (opened s n f).state
-    open_state = ap bytes_of_record (answered_ok (opened s n f).answer (opened s n f).state call).1
-
-  module _ {x : Refusal} (call : answered (opened s n f).answer (opened s n f).state ≡ Err x) where
-    pub open_refused : number x ≡ number_of (opened s n f).answer
-    open_refused = rw (answered_err (opened s n f).answer (opened s n f).state call) refl
-
-    pub open_zeros : bytes_of_record zeros ≡ bytes_of_record (opened s n f).state
-    open_zeros = ap bytes_of_record (opened_zeros s n f (answered_err (opened s n f).answer (opened s n f).state call))
-
-pub ruleset open_laws = (open_number, open_state, open_refused, open_zeros)
 
 -- ---- add
 

@@ -20,21 +20,13 @@ ghost use Rattle.daybook_c.specs.Contract.{progress_after, counts_after, version
 
 use record_bytes::RECORD_BYTES;
 
-#[tactic(auto, using(crate::proofs::Answers::open_laws))]
 pub fn daybook_open(scheme: u32, n: u32, f: u32, state: &mut [u8; RECORD_BYTES]) -> u32
     ensures value { result ≡ number_of (opened scheme n f).answer }
     ensures state_after { state.new ≡ bytes_of_record (opened scheme n f).state }
 {
-    match service::open(scheme, n, f) {
-        Ok(fresh) => {
-            *state = record_bytes::encode(fresh);
-            0
-        }
-        Err(refusal) => {
-            *state = record_bytes::encode(service::zeros());
-            refusal.number()
-        }
-    }
+    let opened = service::open(scheme, n, f);
+    *state = record_bytes::encode(opened.state);
+    refusals::number_of(&opened.answer)
 }
 
 pub fn daybook_add(state: &mut [u8; RECORD_BYTES], piece: &[u8], blocks: &mut u32) -> u32

@@ -10,7 +10,7 @@ use Rattle.lists.proofs.Laws.{length-up_from}
 use Rattle.evidence.specs.Evidence.{days, listing}
 use Rattle.evidence.proofs.TableLaws.{accepted_gives, listing_within}
 use Rattle.std.specs.Prelude.{Result, Ok, Err}
-use Rattle.refusals.specs.Refusals.{number_of}
+use Rattle.refusals.specs.Refusals.{number, number_of}
 use Rattle.refusals.specs.declared.Refusal.{Refusal}
 use Rattle.refusals.proofs.TestLaws.{passed_number, old_stays, new_stands}
 use Rattle.layouts.specs.Layouts.{allowed_scheme, allowed_n, chains}
@@ -101,9 +101,9 @@ module _ (s n d : ℕ) (t l : List ℕ) (G : Given s n d t (length l)) where
 
 module _ (s n f d p : ℕ) (o l : List ℕ) where
   module _ {r : Refusal} (e : read_tested s n f d p o (length l) ≡ Err r) where
-    pub report_refused : report_of d (Refused r) ≡ (readout s n f d p o l).report
+    pub report_refused : {x : ℕ} → x ≡ number r → report_of d (Refused x) ≡ (readout s n f d p o l).report
     unfolding report_of readout
-    report_refused = ap (λ (x : Result Unit Refusal). refused_report (number_of x)) (sym e) ∙ sym (old_stays (read_tested s n f d p o (length l)) _ _ e)
+    report_refused q = ap refused_report q ∙ ap (λ (x : Result Unit Refusal). refused_report (number_of x)) (sym e) ∙ sym (old_stays (read_tested s n f d p o (length l)) _ _ e)
 
     pub list_refused : l ≡ (readout s n f d p o l).list
     unfolding readout

@@ -7,11 +7,10 @@ use lib.{ListN.length, ListN.take, ListN.drop, Seq.take_at, Seq.drop_at, Seq.tak
 use Rattle.lists.proofs.Laws.{enough_read, split, true_or_false}
 use Rattle.evidence.specs.Evidence.{accepted, listing}
 use Rattle.evidence.proofs.TableLaws.{given_iff_accepted, listed_iff, listing_ascends}
-use Rattle.refusals.specs.Refusals.{number, number_of, first_refusal, unless_refused}
+use Rattle.refusals.specs.Refusals.{number_of, first_refusal, unless_refused}
 use Rattle.std.specs.Prelude.{Result, Ok, Err}
 use Rattle.refusals.specs.declared.Refusal.{Refusal}
 use Rattle.refusals.specs.declared.Refusal.TheVariants as cause
-use Rattle.refusals.proofs.TestLaws.{number_some, number_same}
 use Rattle.layouts.specs.Layouts.{chains}
 use Rattle.reading.specs.{declared.Reading.Reading, Numbers.last_good_day, Private.given_tests}
 use Rattle.reading.specs.declared.Reading.TheVariants.{Clean, Changed, Refused}
@@ -130,7 +129,7 @@ case_of d Clean r K e =
     record {
       clean = (λ h. (sym z, sym k), λ h. refl);
       changed = (λ h. absurd (let y = h.1 in let q : ◌≡◌ {A = ℕ} 0 1 = cc in omega arith), λ h. absurd (omega (arith, h.1)));
-      refused = λ x. (λ h. absurd (let q : ◌≡◌ {A = ℕ} 0 1 = cc in omega arith), λ h. absurd (number_some x (sym h ∙ sym z)));
+      refused = λ x. (λ h. absurd (let q : ◌≡◌ {A = ℕ} 0 1 = cc in omega arith), λ h. absurd (omega (arith, h.0, h.1)));
     }
 case_of d (Changed m) r K e =
     let z = ap (λ (x : Report). x.refusal) e in
@@ -138,15 +137,21 @@ case_of d (Changed m) r K e =
     record {
       clean = (λ h. absurd (let q : ◌≡◌ {A = ℕ} 0 1 = cc in omega arith), λ h. absurd (omega (arith, h.1)));
       changed = (λ h. (sym z, k), λ h. (m, refl));
-      refused = λ x. (λ h. absurd (let q : ◌≡◌ {A = ℕ} 0 1 = cc in omega arith), λ h. absurd (number_some x (sym h ∙ sym z)));
+      refused = λ x. (λ h. absurd (let q : ◌≡◌ {A = ℕ} 0 1 = cc in omega arith), λ h. absurd (omega (arith, h.0, h.1)));
     }
 case_of d (Refused x) r K e =
     let z = ap (λ (y : Report). y.refusal) e in
+    let k = ap (λ (y : Report). y.listed) e in
+    let some = number x z k in
     record {
-      clean = (λ h. absurd (let q : ◌≡◌ {A = ℕ} 0 1 = cc in omega arith), λ h. absurd (number_some x (z ∙ h.0)));
-      changed = (λ h. absurd (let y = h.1 in let q : ◌≡◌ {A = ℕ} 0 1 = cc in omega arith), λ h. absurd (number_some x (z ∙ h.0)));
-      refused = λ y. (λ h. let q : x ≡ y = cc in sym z ∙ ap number q, λ h. ap (λ (w : Refusal). Refused w) (number_same x y (z ∙ h)));
+      clean = (λ h. absurd (let q : ◌≡◌ {A = ℕ} 0 1 = cc in omega arith), λ h. absurd (omega (arith, h.0)));
+      changed = (λ h. absurd (let y = h.1 in let q : ◌≡◌ {A = ℕ} 0 1 = cc in omega arith), λ h. absurd (omega (arith, h.0)));
+      refused = λ y. (λ h. let q : x ≡ y = cc in (sym z ∙ q, omega arith), λ h. ap Refused (z ∙ h.0));
     }
+  where
+    number : (y : ℕ) → y ≡ r.refusal → 0 ≡ r.listed → 1 ≤ y
+    number zero z k = let m = K (sym z) (sym (ap (λ (w : Report). w.clean) e)) in absurd (omega arith)
+    number (suc y) z k = omega arith
 
 pub case_told : CaseTold
 case_told s n f d p o l a e = case_of d a (readout s n f d p o l).report (changed_lists s n f d p o l) e

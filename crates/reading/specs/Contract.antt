@@ -2,7 +2,7 @@
 use Rattle.std.specs.Prelude.{Bool, true, false, ◌&&◌, ◌||◌, List, [], ◌∷◌, ◌++◌, ℕ, eqb, leb, ltb, length, take}
 use Rattle.std.specs.Prelude.{Result}
 use Rattle.evidence.specs.Evidence.{listing, accepted}
-use Rattle.refusals.specs.Refusals.{Test, ◌or_refuse◌, tested, number, number_of, unless_refused, front_written}
+use Rattle.refusals.specs.Refusals.{Test, ◌or_refuse◌, tested, number_of, unless_refused, front_written}
 use Rattle.refusals.specs.declared.Refusal.{Refusal}
 use Rattle.refusals.specs.declared.Refusal.TheVariants as cause
 use Rattle.layouts.specs.Layouts.{divides, layout_tests, chains}
@@ -42,7 +42,7 @@ report_of d (Changed m) =
       high = m.high;
       last_good = m.last_good;
     }
-report_of d (Refused refusal) = refused_report (number refusal)
+report_of d (Refused number) = refused_report number
 
 -- 01's five numbers (SPEC 8.6), in 01's order
 abbrev pub five_numbers : Report → List ℕ

@@ -2,8 +2,6 @@
 use Rattle.std.specs.Prelude.{◌≡◌, ◌↔◌, ◌⊎◌, true, false, List, ℕ, ◌≤◌, length, take, drop}
 use Rattle.lists.specs.Lists.{◌among◌, Ascends}
 use Rattle.evidence.specs.Evidence.{Gives}
-use Rattle.refusals.specs.Refusals.{number}
-use Rattle.refusals.specs.declared.Refusal.{Refusal}
 use Rattle.layouts.specs.Layouts.{divides, layout_refusal, chains}
 use Rattle.reading.specs.Numbers.{validation_before}
 use Rattle.reading.specs.declared.Numbers.{Numbers}
@@ -94,7 +92,7 @@ OutcomesRead =
 pub record CaseOf (a : Reading) (r : Report) : Type 0 where
   pub clean : (a ≡ Clean) ↔ ((r.refusal ≡ 0) × (r.listed ≡ 0))
   pub changed : ((m : Numbers) × (a ≡ Changed m)) ↔ ((r.refusal ≡ 0) × (1 ≤ r.listed))
-  pub refused : (refusal : Refusal) → (a ≡ Refused refusal) ↔ (r.refusal ≡ number refusal)
+  pub refused : (number : ℕ) → (a ≡ Refused number) ↔ ((r.refusal ≡ number) × (1 ≤ number))
 
 abbrev pub CaseTold : Type 0
 CaseTold =

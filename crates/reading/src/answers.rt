@@ -12,7 +12,7 @@ pub fn number_of(d: u32, a: Reading) -> u32
 {
     match a {
         Reading::Clean | Reading::Changed(_) => 0,
-        Reading::Refused(refusal) => refusal.number(),
+        Reading::Refused(number) => number,
     }
 }
 

@@ -27,11 +27,12 @@ pub struct Numbers {
     pub last_good: u32,
 }
 
+// The enum that is asked for: clean; changed, with its numbers; refused, with its number.
 #[derive(Clone, Copy)]
 pub enum Reading {
     Clean,
     Changed(Numbers),
-    Refused(Refusal),
+    Refused(u32),
 }
 
 // ---- the tests
@@ -180,7 +181,7 @@ pub fn read(
         (readout scheme n f d passed outcomes.now list.old).list }
 {
     if let Err(refusal) = test(scheme, n, f, d, passed, outcomes, list.len()) {
-        return Reading::Refused(refusal);
+        return Reading::Refused(refusal.number());
     }
     let values = layouts::values_through(scheme, n, d) as usize;
     read_table(scheme, n, d, passed, &outcomes[..values], list)

@@ -38,7 +38,7 @@ fn seal_days(scheme: u32, n: u32, f: u32, d: u32, ledger: &[u8], ends: &[u32], b
     ensures { book.new ≡
         front_written 0 (book_of scheme n (days_of ledger.now ends.now d)) book.old }
 {
-    let mut state = service::open(scheme, n, f).unwrap();
+    let mut state = service::open(scheme, n, f).state;
     let mut at = 0;
     for i in 0..d as usize {
         let day = &ledger[ledger::start_of(ends, i)..ledger::end_of(ends, i)];

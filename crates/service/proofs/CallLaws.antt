@@ -10,9 +10,10 @@ use Rattle.std.specs.Prelude.{Result, Ok, Err}
 use Rattle.refusals.specs.declared.Refusal.{Refusal}
 use Rattle.refusals.specs.declared.Refusal.TheVariants as cause
 use Rattle.refusals.specs.Refusals.{day_limit, ◌or_refuse◌, number_of, tested, answered}
-use Rattle.refusals.proofs.TestLaws.{front_stands, none_fails, not_both, number_answered, number_passed, old_stays, passed_before, passed_number, refused_before, value_is}
+use Rattle.refusals.proofs.TestLaws.{front_stands, none_fails, not_both, number_answered, number_passed, old_stays, passed_before, passed_number, refused_before, value_is, new_stands}
 use Rattle.layouts.specs.Layouts.{setup_tested, setup_refusal, chains_of_day}
 use Rattle.service.specs.declared.Record.{Record}
+use Rattle.service.specs.declared.Opened.{Opened}
 use Rattle.service.specs.declared.Closed.{Closed}
 use Rattle.service.specs.Contract.{fresh, opened, current, record_tests, add_tests, add_tested, add_refusal, grown, grown_blocks, added, zeros}
 use Rattle.service.specs.Contract.{day_count, close_tests, close_tested, close_refusal, day_bytes, count_of, both_of, closing}
@@ -91,13 +92,17 @@ module _ (r : Record) (size : ℕ) (e : close_tested r size ≡ Ok tt) {made : R
 -- ---- what a call gives, refused and not
 
 module _ (s n f : ℕ) where
-  pub opened_refused : {x : Refusal} → setup_tested s n f ≡ Err x → Err x ≡ answered (opened s n f).answer (opened s n f).state
+  pub opened_refused : {x : Refusal} {a : Result Unit Refusal} → a ≡ setup_tested s n f → a ≡ Err x → record { answer = a; state = zeros } ≡ opened s n f
   unfolding opened
-  opened_refused e = rw e refl
+  opened_refused {a = a} e q =
+      ap₂ {C = Opened} (λ (y : Result Unit Refusal) (t : Record). record { answer = y; state = t }) e
+      (sym (old_stays (setup_tested s n f) (fresh s n f) zeros (sym e ∙ q)))
 
-  pub opened_done : setup_tested s n f ≡ Ok tt → Ok (fresh s n f) ≡ answered (opened s n f).answer (opened s n f).state
+  pub opened_done : {a : Result Unit Refusal} → a ≡ setup_tested s n f → a ≡ Ok tt → record { answer = a; state = fresh s n f } ≡ opened s n f
   unfolding opened
-  opened_done e = rw e refl
+  opened_done {a = a} e q =
+      ap₂ {C = Opened} (λ (y : Result Unit Refusal) (t : Record). record { answer = y; state = t }) e
+      (sym (new_stands (setup_tested s n f) (fresh s n f) zeros (sym e ∙ q)))
 
 module _ (r : Record) (piece : List ℕ) where
   module _ {x : Refusal} (e : add_tested r (length piece) ≡ Err x) where
@@ -178,10 +183,6 @@ module _ (r : Record) (part : List ℕ) where
 
 -- ---- what a call that is not refused returns
 
-pub opened_ok : (s n f : ℕ) → setup_refusal s n f ≡ 0 → answered (opened s n f).answer (opened s n f).state ≡ Ok (opened s n f).state
-unfolding opened
-opened_ok s n f e = rw (number_passed (setup_tested s n f) e) refl
-
 pub added_ok : (r : Record) (piece : List ℕ) → add_refusal r (length piece) ≡ 0 → answered (added r piece).answer (added r piece).blocks ≡ Ok (added r piece).blocks
 unfolding added
 added_ok r piece e = rw (number_passed (add_tested r (length piece)) e) refl
@@ -193,10 +194,6 @@ unfolding closing
 closing_ok r part e = rw (number_passed (close_tested r (length part)) e) refl
 
 -- ---- what a call that returned a value, or a refusal, leaves
-
-pub opened_zeros : (s n f : ℕ) {r : Refusal} → (opened s n f).answer ≡ Err r → zeros ≡ (opened s n f).state
-unfolding opened
-opened_zeros s n f e = sym (old_stays (setup_tested s n f) (fresh s n f) zeros e)
 
 pub both_ok : (a : Result ℕ Refusal) (b : ℕ) {c : Closed} → both_of a b ≡ Ok c → (a ≡ Ok c.values) × (c.blocks ≡ b)
 both_ok (Ok k) b e = let q = value_is e refl in (ap (λ (x : Closed). Ok x.values) (sym q), ap (λ (x : Closed). x.blocks) q)

@@ -15,6 +15,7 @@ use Rattle.chains.specs.declared.Value.{Value}
 use Rattle.chains.specs.Step.{start_value, linked, link_blocks, linked_slots, slot_blocks, restarted, day_values}
 use Rattle.chains.specs.Step.{value_bytes}
 use Rattle.service.specs.declared.Record.{Record}
+use Rattle.service.specs.declared.Opened.{Opened}
 use Rattle.service.specs.declared.Closed.{Closed}
 
 -- ---- open (SPEC 5.2): 01's tests 1 2 3 (SPEC 11.1)
@@ -60,11 +61,7 @@ zeros =
       season = 0;
     }
 
--- what open gives, and the record that stands after it
-pub record Opened : Type 0 where
-  pub answer : Result Unit Refusal
-  pub state : Record
-
+-- what open gives
 unfoldable pub opened : ℕ → ℕ → ℕ → Opened
 opened scheme n f =
     let refusal = setup_refusal scheme n f in

@@ -8,7 +8,7 @@ mod records;
 
 ghost use Rattle.std.specs.Prelude.{◌≡◌, ◌*◌, ◌≤◌, length};
 ghost use Rattle.refusals.specs.Refusals.{answered};
-ghost use Rattle.service.specs.Contract.{zeros, opened, add_tested, added, day_count, close_tested, closing};
+ghost use Rattle.service.specs.Contract.{opened, add_tested, added, day_count, close_tested, closing};
 ghost use Rattle.service.specs.Contract.{both_of, written_so_far};
 ghost use Rattle.service.specs.Private.{Open, ClosedDay};
 
@@ -39,20 +39,25 @@ pub struct Closed {
     pub blocks: u32,
 }
 
-// The record of a refused open.
-pub fn zeros() -> Record
-    ensures { result ≡ zeros }
-{
-    records::zeros()
+// The answer, and the record, which after a refusal is of zeros: what a refused open gives is asked for, so that no Result
+// of a record serves.
+#[derive(Clone, Copy)]
+pub struct Opened {
+    pub answer: Result<(), Refusal>,
+    pub state: Record,
 }
 
 // Tests 1 2 3 (SPEC 11.1).
 #[tactic(auto, using(crate::proofs::CallLaws::open_laws))]
-pub fn open(scheme: u32, n: u32, f: u32) -> Result<Record, Refusal>
-    ensures { result ≡ answered (opened scheme n f).answer (opened scheme n f).state }
+pub fn open(scheme: u32, n: u32, f: u32) -> Opened
+    ensures { result ≡ opened scheme n f }
 {
-    layouts::test_setup(scheme, n, f)?;
-    Ok(records::fresh(scheme, n, f))
+    let answer = layouts::test_setup(scheme, n, f);
+    let state = match answer {
+        Ok(()) => records::fresh(scheme, n, f),
+        Err(_) => records::zeros(),
+    };
+    Opened { answer, state }
 }
 
 // Tests 6 5 4 (SPEC 11.2).

@@ -13,7 +13,7 @@ use Rattle.std.specs.Prelude.{Result, Ok, Err}
 use Rattle.refusals.specs.Refusals.{Test, ◌or_refuse◌, number, number_of, tested, first_refusal}
 use Rattle.refusals.specs.declared.Refusal.{Refusal}
 use Rattle.refusals.specs.declared.Refusal.TheVariants as cause
-use Rattle.refusals.proofs.TestLaws.{none_fails, no_refusal, pass_split, refused_before, passed_before, number_after, number_some, number_stays, passed_number, old_stays}
+use Rattle.refusals.proofs.TestLaws.{none_fails, no_refusal, pass_split, refused_before, passed_before, number_after, number_stays, passed_number, old_stays}
 use Rattle.buffers.specs.Private.{Wrote}
 use Rattle.layouts.specs.Layouts.{allowed_scheme, allowed_n, layout_tested, chains}
 use Rattle.layouts.proofs.{AllowedLaws.allowed_d_is, AllowedLaws.layout_is, Coverage.divisor_le}
@@ -23,7 +23,7 @@ use Rattle.reading.specs.Contract.{report_of, table_in, passed_tests, passed_tes
 use Rattle.reading.specs.declared.Reading.{Reading}
 use Rattle.reading.specs.declared.Reading.TheVariants.{Clean, Changed, Refused}
 use Rattle.reading.specs.Contract as reading
-use Rattle.reading.proofs.{RefusalLaws.passed_early, RefusalLaws.passed_facts, RefusalLaws.number_late, Report.readout_found, Statements.refusal_said, Statements.count_found}
+use Rattle.reading.proofs.{RefusalLaws.passed_early, RefusalLaws.passed_facts, RefusalLaws.number_late, Report.readout_found, Statements.refusal_said, Statements.count_found, Statements.case_told}
 use Rattle.number_text.specs.Numbers.{digit_of, digits, value_in, decimal}
 use Rattle.table_text.specs.Text.{from_n, from_f, from_d, from_passed, has_passed, last_field, last_line, is_formed, scheme_in, n_in, f_in, d_in, passed_in, outcomes_in, form_tests, digit_tests, digits_tested, answer_tests}
 use Rattle.table_text.specs.Text.{text_tests, text_refusal, line, no_line, ref_line, day_lines, table_lines, printed, text_of}
@@ -86,7 +86,7 @@ days_most s n d o h = omega (arith, days_kept (λ g. not (cleared g (chains s n 
 -- ---- a table's answer
 
 -- an answer that is no refusal
-not_refused : (d : ℕ) (v : Reading) → ((x : Refusal) → v ≡ Refused x → ⊥) → (report_of d v).refusal ≡ 0
+not_refused : (d : ℕ) (v : Reading) → ((x : ℕ) → v ≡ Refused x → ⊥) → (report_of d v).refusal ≡ 0
 unfolding report_of
 not_refused d Clean h = refl
 not_refused d (Changed m) h = refl
@@ -123,14 +123,15 @@ module _ (s n f d p : ℕ) (o : List ℕ) where
         ap (λ (i : reading.Report). i.refusal) h ∙ refusal_said s n f d p o l ∙ read_refusal_lem ∙
         sym (number_after (digit_tests s n f d p (length o)) (outcome_tests s n d o) none_early)
 
-    pub answer_late : {r : Refusal} → v ≡ Refused r → answered s n f d p o ≡ no_line (number r)
+    pub answer_late : {x : ℕ} → v ≡ Refused x → answered s n f d p o ≡ no_line x
     unfolding answered report_of
-    answer_late {r} q =
+    answer_late {x} q =
         let R = first_refusal (answer_tests s n f d p o) in
-        let k : number r ≡ R = ap (λ (w : Reading). (report_of d w).refusal) (sym q) ∙ refusal_is in
-        number_stays R (table_lines s n d p o) (no_line R) (λ e. number_some r (k ∙ e)) ∙ ap no_line (sym k)
+        let k : x ≡ R = ap (λ (w : Reading). (report_of d w).refusal) (sym q) ∙ refusal_is in
+        let some = (((case_told s n f d p o l v h).refused x).0 q).1 in
+        number_stays R (table_lines s n d p o) (no_line R) (λ e. omega (arith, some, k, e)) ∙ ap no_line (sym k)
 
-    module _ (q : (x : Refusal) → v ≡ Refused x → ⊥) {r : Numbers} (k : NumbersOf (report_of d v) r) {m : List ℕ} (w : m ≡ (readout s n f d p o l).list) where
+    module _ (q : (x : ℕ) → v ≡ Refused x → ⊥) {r : Numbers} (k : NumbersOf (report_of d v) r) {m : List ℕ} (w : m ≡ (readout s n f d p o l).list) where
       none : read_refusal s n f d p o (length l) ≡ 0
       none = sym (ap (λ (i : reading.Report). i.refusal) h ∙ refusal_said s n f d p o l) ∙ not_refused d v q
 

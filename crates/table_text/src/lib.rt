@@ -67,12 +67,12 @@ fn answer(
         result out.new }
 {
     if let Err(refusal) = test_digits(scheme, n, f, d, passed, outcomes.len()) {
-        return lines::refuse(out, refusal);
+        return lines::refuse(out, refusal.number());
     }
     let mut list = [0u32; 256];
     let reading = reading::read(scheme, n, f, d, passed, outcomes, &mut list);
-    if let Reading::Refused(refusal) = reading {
-        return lines::refuse(out, refusal);
+    if let Reading::Refused(number) = reading {
+        return lines::refuse(out, number);
     }
     let report = answers::numbers_of(d, reading);
     lines::put_report(out, scheme, report, &list[..report.listed as usize])
@@ -85,7 +85,7 @@ fn answer_line(t: &Typed, outcomes: &[u8], out: &mut [u8]) -> usize
     ensures { Wrote 0 (answered_line t.now outcomes.now) out.old result out.new }
 {
     if let Err(refusal) = layouts::test_layout(t.scheme, t.n, t.f, t.d) {
-        return lines::refuse(out, refusal);
+        return lines::refuse(out, refusal.number());
     }
     let validation = t.d - t.f * t.n;
     let passed = t.passed.unwrap_or(validation);
@@ -98,10 +98,10 @@ fn put_text(input: &[u8], out: &mut [u8]) -> usize
     ensures { Wrote 0 (text_of input.now) out.old result out.new }
 {
     let Some(t) = input::read_lines(input) else {
-        return lines::refuse(out, Refusal::BadText);
+        return lines::refuse(out, Refusal::BadText.number());
     };
     if !is_small(input.len(), t.d) {
-        return lines::refuse(out, Refusal::BadText);
+        return lines::refuse(out, Refusal::BadText.number());
     }
     let mut table = [0u8; 1024];
     input::outcomes(t.outcomes, &mut table);

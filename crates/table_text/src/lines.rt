@@ -1,13 +1,11 @@
 // The lines NO, REF and DAY. Each function writes from a place on and gives the place after what it wrote.
 ghost use Rattle.std.specs.Prelude.{◌∷◌, [], ◌++◌, ◌+◌, ◌*◌, ◌≤◌, length};
 ghost use Rattle.buffers.specs.Private.{Wrote};
-ghost use Rattle.refusals.specs.Refusals.{number};
 ghost use Rattle.table_text.specs.Text as spec;
 ghost use Rattle.table_text.specs.Text.{no_line, day_lines};
 ghost use Rattle.table_text.specs.Private.{numbers_in};
 
 use reading::Numbers;
-use refusals::Refusal;
 
 // A word, numbers, and a line feed.
 fn put_line(out: &mut [u8], at: usize, word: &[u8], numbers: &[u32]) -> usize
@@ -34,11 +32,11 @@ fn put_days(out: &mut [u8], at: usize, days: &[u32]) -> usize
 }
 
 // The line of a refusal.
-pub fn refuse(out: &mut [u8], refusal: Refusal) -> usize
+pub fn refuse(out: &mut [u8], number: u32) -> usize
     requires { 2048 ≤ length out.old }
-    ensures { Wrote 0 (no_line (number refusal)) out.old result out.new }
+    ensures { Wrote 0 (no_line number) out.old result out.new }
 {
-    put_line(out, 0, b"NO", &[refusal.number()])
+    put_line(out, 0, b"NO", &[number])
 }
 
 // The line REF, and a line for each day.

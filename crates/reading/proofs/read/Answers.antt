@@ -6,7 +6,7 @@ use Rattle.reading.proofs.read.Goals as goal
 
 pub returns-in-Err : goal.returns-in-Err
 returns-in-Err c = let l = c.args.list.now in let e = sym c.in-Err.ensures in
-    record { result_value = report_refused _ _ _ _ _ _ l e; list_after = list_refused _ _ _ _ _ _ l e }
+    record { result_value = report_refused _ _ _ _ _ _ l e c.number.ensures; list_after = list_refused _ _ _ _ _ _ l e }
 
 pub values_through-values-requires : goal.values_through-values-requires
 values_through-values-requires c = values_need _ _ _ _ _ _ c.args.list.now (sym c.test.ensures ∙ c.in_default.is)

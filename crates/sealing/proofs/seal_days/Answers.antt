@@ -6,7 +6,7 @@ use native.Mathlib.Omega.{arith}
 use Rattle.refusals.proofs.TestLaws.{passed_number, value_is}
 use Rattle.service.specs.declared.Closed.{Closed}
 use Rattle.service.specs.Contract.{added}
-use Rattle.service.proofs.CallLaws.{opened_ok, added_ok, closing_ok}
+use Rattle.service.proofs.CallLaws.{added_ok, closing_ok}
 use Rattle.ledger.specs.Ledger.{day_at}
 use Rattle.sealing.proofs.SealLaws.{Sealable, sealable, no_day_sealed, add_passed, close_passed, day_sealed, all_sealed}
 use Rattle.sealing.proofs.seal_days.Goals.{Start, After-add}
@@ -16,15 +16,8 @@ use Rattle.sealing.proofs.seal_days.Goals as goal
 ready : (c : Start) → let a = c.args in Sealable a.scheme a.n a.f a.d a.ledger.now a.ends.now a.book.now
 ready c = sealable _ _ _ _ _ _ _ (passed_number _ c.requires)
 
-pub unwrap-state-requires : goal.unwrap-state-requires
-unwrap-state-requires c =
-    let ok = ready (goal.at.unwrap-state-requires c).Start in
-    rw (c.open.ensures ∙ opened_ok _ _ _ ok.setup) refl
-
 pub loop-i-init : goal.loop-i-init
-loop-i-init c =
-    let ok = ready (goal.at.loop-i-init c).Start in
-    no_day_sealed ok _ (value_is c.unwrap-state.ensures (c.open.ensures ∙ opened_ok _ _ _ ok.setup))
+loop-i-init c = no_day_sealed (ready (goal.at.loop-i-init c).Start) _ (ap (λ x. x.state) c.open.ensures)
 
 pub start_of-requires : goal.start_of-requires
 start_of-requires c = omega (arith, (ready (goal.at.start_of-requires c).Start).ends_hold.enough)

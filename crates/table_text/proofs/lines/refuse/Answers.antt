@@ -4,4 +4,4 @@ use Rattle.table_text.proofs.lines.refuse.Goals as goal
 
 pub returns : goal.returns
 unfolding no_line
-returns c = rw (← c.number.ensures) c.put_line.ensures
+returns c = c.put_line.ensures
