@@ -7,7 +7,8 @@ use lib.ListN.{length}
 use Rattle.std.specs.Prelude.{Result, Ok, Err}
 use Rattle.refusals.specs.Refusals.{book_limit, number, number_of, answered, unless_refused}
 use Rattle.refusals.specs.declared.Refusal.{Refusal}
-use Rattle.refusals.proofs.TestLaws.{answered_ok, answered_err, passed_number, number_some, number_stays, old_stays, new_stands}
+use Rattle.refusals.proofs.TestLaws.{answered_ok, answered_err, passed_number, number_some, number_stays, old_stays}
+use Rattle.refusals.proofs.TestLaws.{new_stands}
 use Rattle.layouts.specs.Layouts.{allowed_scheme, allowed_n, layout_tested, layout_refusal, chains, value_count}
 use Rattle.layouts.proofs.AllowedLaws.{layout_asks, values_counted}
 use Rattle.reading.specs.Contract.{Report, report_of, five_numbers}
@@ -16,7 +17,6 @@ use Rattle.reading.specs.declared.Numbers.{Numbers}
 use Rattle.reading.specs.declared.Reading.{Reading}
 use Rattle.record_bytes.specs.Bytes.{bytes_of_record, record_of}
 use Rattle.service.specs.Contract.{Added, added, count_of, both_of, Closing, closing}
-use Rattle.service.specs.declared.Record.{Record}
 use Rattle.service.specs.declared.Closed.{Closed}
 use Rattle.service.proofs.CallLaws.{both_ok, both_err}
 use Rattle.daybook_c.specs.Contract.{added_bytes, closed_bytes, numbers_after, values_after}

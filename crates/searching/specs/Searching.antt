@@ -121,7 +121,7 @@ pub record Searchout : Type 0 where
   pub answer : Result Progress Refusal
   pub list : List ℕ
 
--- the numbers, and the days found before what stood in the list; a refusal says its number and changes nothing
+-- the numbers, and the days found before what stood in the list; a refusal gives its cause and changes nothing
 unfoldable pub searched : ℕ → ℕ → ℕ → ℕ → List ℕ → ℕ → List ℕ → Searchout
 searched scheme n f d outcomes limit list =
     let tests = search_tested scheme n f d outcomes (length list) in

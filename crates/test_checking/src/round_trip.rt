@@ -41,7 +41,7 @@ fn print_answer(
             print_reference(rt, [scheme, m.listed, m.first, m.low, m.high, m.last_good])?;
             print_first(rt, list, m.listed)
         }
-        Reading::Refused(refusal) => print::refused(rt, refusal),
+        Reading::Refused(number) => print::refused(rt, number),
     }
 }
 

@@ -1,5 +1,4 @@
 // What the test programs print.
-use refusals::Refusal;
 use std::io;
 
 // The bytes in hexadecimal, with width digits or more each.
@@ -49,10 +48,9 @@ pub fn number_line(rt: &HostRuntime, x: u32) -> io::Result<()> {
     println!(rt; "{x}")
 }
 
-// 'NO,' and the refusal's number.
-pub fn refused(rt: &HostRuntime, refusal: Refusal) -> io::Result<()> {
-    let x = refusal.number();
-    println!(rt; "NO,{x}")
+// 'NO,' and the number of a refusal.
+pub fn refused(rt: &HostRuntime, number: u32) -> io::Result<()> {
+    println!(rt; "NO,{number}")
 }
 
 pub fn digest_line(rt: &HostRuntime, s: &[u8]) -> io::Result<()> {

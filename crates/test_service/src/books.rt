@@ -92,7 +92,9 @@ pub fn seal(
     requires { 0 < piece }
     ensures { IfOk result (λ (at : ℕ). at ≤ length book.new) }
 {
-    let mut state = service::open(scheme, n, f)?;
+    let opened = service::open(scheme, n, f);
+    opened.answer?;
+    let mut state = opened.state;
     let mut at = 0;
     for g in 1..=ledger.days() {
         let day = days::bytes(g);

@@ -15,7 +15,7 @@ fn print_close(rt: &HostRuntime, answer: Result<Closed, Refusal>, part: &[u8]) -
             let n = answers::past(0, closed.values, part.len());
             print::digest_line(rt, &part[..n])
         }
-        Err(refusal) => print::refused(rt, refusal),
+        Err(refusal) => print::refused(rt, refusal.number()),
     }
 }
 

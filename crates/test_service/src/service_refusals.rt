@@ -20,11 +20,11 @@ fn print_answer(rt: &HostRuntime, number: u32, due: bool) -> io::Result<()> {
 
 fn open(rt: &HostRuntime, c: [u32; 11]) -> io::Result<()> {
     let opened = service::open(c[0], c[1], c[2]);
-    let due = match opened {
-        Ok(state) => compare::same(state, records::fresh(c[0], c[1], c[2])),
-        Err(_) => compare::zeros(service::zeros()),
+    let due = match opened.answer {
+        Ok(()) => compare::same(opened.state, records::fresh(c[0], c[1], c[2])),
+        Err(_) => compare::zeros(opened.state),
     };
-    print_answer(rt, refusals::number_of(&opened), due)
+    print_answer(rt, refusals::number_of(&opened.answer), due)
 }
 
 fn add_piece(rt: &HostRuntime, state: Record, piece: &[u8]) -> io::Result<()> {

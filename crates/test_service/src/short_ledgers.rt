@@ -32,7 +32,7 @@ fn lines(rt: &HostRuntime, scheme: u32) -> io::Result<()> {
     let mut book = [0u8; 1024];
     match books::seal(scheme, 4, 1, Ledger::Short, 131, false, &mut book) {
         Ok(n) => print_book(rt, &book[..n], scheme),
-        Err(refusal) => print::refused(rt, refusal),
+        Err(refusal) => print::refused(rt, refusal.number()),
     }
 }
 

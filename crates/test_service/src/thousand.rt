@@ -30,7 +30,7 @@ fn lines(rt: &HostRuntime, scheme: u32, f: u32) -> io::Result<()> {
     let mut book = [0u8; 67584];
     match books::seal(scheme, 8, f, Ledger::Thousand, 131, false, &mut book) {
         Ok(n) => print_book(rt, &book[..n]),
-        Err(refusal) => print::refused(rt, refusal),
+        Err(refusal) => print::refused(rt, refusal.number()),
     }
 }
 
