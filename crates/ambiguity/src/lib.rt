@@ -70,7 +70,8 @@ pub fn tile_counts(n: u32, k: u32) -> Result<Counts, Refusal>
     })
 }
 
-// The line of N and k, at most 44 bytes, from a place on; gives the place after it.
+// The line of N and k, at most 44 bytes, from a place on; gives the place after it. (With the rest of the buffer and a
+// count each call would slice and add.)
 fn put_line(out: &mut [u8], at: usize, n: u32, k: u32) -> usize
     requires { Countable n k × (at + 44 ≤ length out.old) }
     ensures { Wrote at (line_of n k) out.old result out.new }

@@ -8,7 +8,7 @@ use native.Mathlib.Omega.{arith}
 use lib.Dec.{leb}
 use lib.ListN.{length, get_or, take, set, replicate, length-map, length-append}
 use lib.Pow.{pow_mono}
-use lib.Seq.{take-suc, take-suc-set}
+use lib.Seq.{length-take-le, take-suc, take-suc-set}
 use borrow.Author.Tests.{leb-true, leb-false}
 use Rattle.lists.specs.Lists.{up_from}
 use Rattle.lists.proofs.Laws.{split, true_or_false, up_from_mem, keep_mem, up_from_snoc, length-up_from}
@@ -20,7 +20,7 @@ use Rattle.layouts.proofs.Positions.{levels_run}
 use Rattle.chains.specs.declared.Value.{Value}
 use Rattle.chains.specs.declared.DayStep.{DayStep}
 use Rattle.chains.specs.Step.{linked, stores_black, linked_slots, restarted, current, day_values}
-use Rattle.chains.specs.Private.{DayLinked, Stepped, levels_linked}
+use Rattle.chains.specs.Private.{DayLinked, levels_linked}
 use Rattle.chains.proofs.Slots.{none_restarted, black_slots, black_kept}
 use Rattle.chains.proofs.Levels.{tree_linked}
 
@@ -169,24 +169,20 @@ day_black s n g old slots h a two three ek eb =
     let one : s ≡ 1 = omega (arith, two, three) in
     day_linked s n g old slots h ek eb (rw one (black_slots n g h slots))
 
--- and started again: on a day that has values, and on one that has none
-pub day_ended : (s n g : ℕ) (start old : Value) (slots : List Value) (h : List ℕ) (d : DayStep) {next : List Value} → DayLinked s n g old slots h d → next ≡ restarted s n g start d.slots →
-    Stepped s n g start old slots h (record { black = d.black; slots = next; count = d.count })
-day_ended s n g start old slots h d e q =
-    record { black_is = e.black_is; slots_are = q ∙ ap (restarted s n g start) e.slots_are; count_is = e.count_is }
+-- the first k of seventeen values
+module _ (values : List Value) {k : ℕ} (n : length values ≡ 17) (m : k ≤ 17) where
+  pub first_within : k ≤ length values
+  first_within = omega (arith, m, n)
 
-pub day_quiet : (s n g : ℕ) (start old : Value) (slots : List Value) (h : List ℕ) (d : DayStep) → DayLinked s n g old slots h d → d.count ≡ 0 → 1 ≤ g → Stepped s n g start old slots h d
-day_quiet s n g start old slots h d e z p =
-    record {
-      black_is = e.black_is;
-      slots_are = e.slots_are ∙ sym (none_restarted s n g start (linked_slots s n g h slots) p (sym e.count_is ∙ z));
-      count_is = e.count_is;
-    }
+  pub first_are : k ≡ length (take k values)
+  first_are = sym (length-take-le k values first_within)
 
--- scheme 1: black alone, whatever stands in the slots
-pub black_stepped : (n g : ℕ) (start old : Value) (slots : List Value) (h : List ℕ) {b : Value} {k : ℕ} → b ≡ linked old h → k ≡ length (names_of_day 1 n g) →
-    Stepped 1 n g start old slots h (record { black = b; slots = slots; count = k })
-black_stepped n g start old slots h eb ek = record { black_is = eb; slots_are = black_kept n g start h slots; count_is = ek }
+-- on a day that has no value no slot starts again
+pub day_quiet : (s n g : ℕ) (start old : Value) (slots : List Value) (h : List ℕ) (d : DayStep) → DayLinked s n g old slots h d → d.count ≡ 0 → 1 ≤ g →
+    d.slots ≡ restarted s n g start (linked_slots s n g h slots)
+day_quiet s n g start old slots h d e z p = e.slots_are ∙ sym (none_restarted s n g start (linked_slots s n g h slots) p (sym e.count_is ∙ z))
+
+-- scheme 1
 
 pub black_values : (n g : ℕ) (b : Value) (slots : List Value) → day_values 1 n g b slots ≡ take (length (names_of_day 1 n g)) (replicate 17 b)
 unfolding day_values

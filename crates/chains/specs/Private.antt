@@ -13,12 +13,6 @@ pub record DayLinked (scheme n g : ℕ) (b : Value) (slots : List Value) (h : Li
   pub slots_are : r.slots ≡ linked_slots scheme n g h slots
   pub count_is : r.count ≡ length (names_of_day scheme n g)
 
--- the running hashes after day g: the chains that are values of it have started again
-pub record Stepped (scheme n g : ℕ) (start b : Value) (slots : List Value) (h : List ℕ) (r : DayStep) : Type 0 where
-  pub black_is : r.black ≡ linked b h
-  pub slots_are : r.slots ≡ restarted scheme n g start (linked_slots scheme n g h slots)
-  pub count_is : r.count ≡ length (names_of_day scheme n g)
-
 -- ---- the links of the slots 0 to 15 in lanes
 
 -- what stands for a slot that is not there; the words of slot j

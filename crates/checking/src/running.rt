@@ -46,7 +46,8 @@ impl Running for Black {
         self.black = black;
         let k = layouts::values_of_day(1, self.n, g);
         if k > 0 {
-            comparing::all(book, [black; 17], k, outcomes);
+            let values = [black; 17];
+            comparing::all(book, &values[..k as usize], outcomes);
         }
         k
     }
@@ -98,7 +99,7 @@ impl Running for Slots {
         self.slots = linked;
         if count > 0 {
             let values = chains::day_values(self.scheme, self.n, g, count, black, linked);
-            comparing::all(book, values, count, outcomes);
+            comparing::all(book, &values[..count as usize], outcomes);
             let again = chains::restart_slots(self.scheme, self.n, g, self.start, linked);
             self.slots = again;
         }

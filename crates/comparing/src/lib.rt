@@ -17,14 +17,14 @@ fn outcome(book: &[u8], v: Value) -> u8
     u8::from(book[..32] == b[..])
 }
 
-// Compares the first k values with the front of the book, and writes their outcomes to the front of the buffer.
+// Compares the values with the front of the book, and writes their outcomes to the front of the buffer.
 #[tactic(auto, unfolding(crate::specs::Private::compared))]
-pub fn all(book: &[u8], values: [Value; 17], k: u32, outcomes: &mut [u8])
-    requires { (k ≤ 17) × (32 * k ≤ length book.now) × (k ≤ length outcomes.old) }
+pub fn all(book: &[u8], values: &[Value], outcomes: &mut [u8])
+    requires { (32 * length values.now ≤ length book.now) × (length values.now ≤ length outcomes.old) }
     ensures { outcomes.new ≡
-        compared (take k values) book.now ++ drop k outcomes.old }
+        compared values.now book.now ++ drop (length values.now) outcomes.old }
 {
-    for j in 0..k as usize {
-        outcomes[j] = outcome(&book[32 * j..], values[j]);
+    for (j, v) in values.iter().enumerate() {
+        outcomes[j] = outcome(&book[32 * j..], *v);
     }
 }

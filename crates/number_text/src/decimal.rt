@@ -1,4 +1,5 @@
 // Decimals. Each function writes from a place on and gives the place after what it wrote.
+// (With the rest of the buffer and a count each call would slice and add.)
 ghost use Rattle.std.specs.Prelude.{◌∷◌, ◌+◌, ◌*◌, ◌≤◌, length};
 ghost use Rattle.buffers.specs.Private.{Wrote};
 ghost use Rattle.number_text.specs.Numbers.{comma, decimal_in, decimal, comma_numbers};

@@ -69,13 +69,13 @@ pub fn link(state: Record, slots: &mut [Value; 17]) -> Value
     }
 }
 
-// Writes the first k values to the front of the part.
-pub fn write(part: &mut [u8], values: [Value; 17], k: u32)
-    requires { (k ≤ 17) × (32 * k ≤ length part.old) }
-    ensures { Wrote 0 (value_bytes (take k values)) part.old (32 * k) part.new }
+// Writes the values to the front of the part.
+pub fn write(part: &mut [u8], values: &[Value])
+    requires { 32 * length values.now ≤ length part.old }
+    ensures { Wrote 0 (value_bytes values.now) part.old (32 * length values.now) part.new }
 {
-    for i in 0..k as usize {
-        buffers::put(part, 32 * i, &sha256_words::bytes(values[i].words));
+    for (i, v) in values.iter().enumerate() {
+        buffers::put(part, 32 * i, &sha256_words::bytes(v.words));
     }
 }
 

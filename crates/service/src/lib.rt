@@ -107,7 +107,7 @@ fn close_day(state: &mut Record, part: &mut [u8]) -> Closed
     let black = day::link(open, &mut running);
     if k > 0 {
         let values = chains::day_values(open.scheme, open.n, g, k, black, running);
-        day::write(part, values, k);
+        day::write(part, &values[..k as usize]);
         let again = chains::restart_slots(open.scheme, open.n, g, open.start, running);
         running = again;
     }
