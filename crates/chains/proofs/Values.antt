@@ -12,7 +12,8 @@ use lib.Seq.{length-take-le, take-suc, take-suc-set}
 use borrow.Author.Tests.{leb-true, leb-false}
 use Rattle.lists.specs.Lists.{up_from}
 use Rattle.lists.proofs.Laws.{split, true_or_false, up_from_mem, keep_mem, up_from_snoc, length-up_from}
-use Rattle.layouts.specs.Layouts.{divides, allowed_scheme, allowed_n, lg, Name, black, tile, tree, levels, stored_once, stores_black_of_tree, names_of_day, chains_of_day, covered_days}
+use Rattle.layouts.specs.Layouts.{divides, allowed_scheme, allowed_n, lg, Name, black, tile, tree, levels}
+use Rattle.layouts.specs.Layouts.{stored_once, stores_black_of_tree, names_of_day, chains_of_day, covered_days}
 use Rattle.layouts.proofs.AllowedLaws.{allowed_scheme_is, allowed_n_is}
 use Rattle.layouts.proofs.Coverage.{divisor_le}
 use Rattle.layouts.proofs.Counts.{of_power}
@@ -21,7 +22,7 @@ use Rattle.chains.specs.declared.Value.{Value}
 use Rattle.chains.specs.declared.DayStep.{DayStep}
 use Rattle.chains.specs.Step.{linked, stores_black, linked_slots, restarted, current, day_values}
 use Rattle.chains.specs.Private.{DayLinked, levels_linked}
-use Rattle.chains.proofs.Slots.{none_restarted, black_slots, black_kept}
+use Rattle.chains.proofs.Slots.{none_restarted, black_slots}
 use Rattle.chains.proofs.Levels.{tree_linked}
 
 -- the names of a day: m of slots, in order, then black where it is a value of its own

@@ -5,7 +5,7 @@ use Rattle.lanes.specs.Private.{Lanes}
 use Rattle.links.specs.Private.{front}
 use Rattle.chains.specs.declared.DayStep.{DayStep}
 use Rattle.chains.specs.declared.Value.{Value}
-use Rattle.chains.specs.Step.{linked, each, linked_slots, restarted}
+use Rattle.chains.specs.Step.{linked, each, linked_slots}
 
 -- the running hashes with day g linked, and the number of its values
 pub record DayLinked (scheme n g : ℕ) (b : Value) (slots : List Value) (h : List ℕ) (r : DayStep) : Type 0 where

@@ -1,6 +1,8 @@
 -- A block that is filled with bytes, and the last eight bytes of a block.
 -- Assumes nothing.
-use Rattle.std.proofs.Common.{◌≡◌, ℕ, suc, ◌+◌, ◌-◌, ◌*◌, ◌/◌, ◌%◌, ◌^◌, ◌<◌, ◌≤◌, List, [], ◌∷◌, ◌++◌, append_assoc, append-nil, length, take, drop, set, replicate, length-append, length-take-le, take_at, drop_at, drop_of_length-le, arith, refl, sym}
+use Rattle.std.proofs.Common.{◌≡◌, ℕ, suc, ◌+◌, ◌-◌, ◌*◌, ◌/◌, ◌%◌, ◌^◌, ◌<◌, ◌≤◌, List, [], ◌∷◌, ◌++◌, append_assoc}
+use Rattle.std.proofs.Common.{append-nil, length, take, drop, set, replicate, length-append, take_at, drop_at}
+use Rattle.std.proofs.Common.{drop_of_length-le, arith, refl, sym}
 use Rattle.std.proofs.Math.Seq.{drop-drop, set_at}
 use Rattle.std.proofs.lemmas.List.{drop-replicate}
 use Rattle.std.specs.Int.{to_be_bytes, w64}
@@ -10,16 +12,16 @@ use Rattle.hasher.specs.Hasher.{filled}
 
 -- ---- a block of zeros, written from the left
 
--- the first at bytes of b and then s, of which the block has room
-pub filled_by : (b s x y : List ℕ) (at : ℕ) → length b ≡ 64 → at + length s ≤ 64 → x ≡ take at b → y ≡ s
-    → put_mid at (at + length s - at) (x ++ drop at (replicate 64 0)) y ≡ filled (take at b ++ s)
+-- the bytes b and then s, of which the block has room
+pub filled_by : (b s x y : List ℕ) → length b + length s ≤ 64 → x ≡ b → y ≡ s
+    → put_mid (length b) (length b + length s - length b) (x ++ drop (length b) (replicate 64 0)) y ≡ filled (b ++ s)
 unfolding filled
-filled_by b s x y at e room ex ey =
-    let size : length (take at b) ≡ at = length-take-le at b (omega arith) in
+filled_by b s x y room ex ey =
+    let at = length b in
     let many : at + length s - at ≡ length s = omega arith in
-    let left : 64 - at - length s ≡ 64 - length (take at b ++ s) = omega (arith, length-append (take at b) s) in
-    rw (ex, ey, take_at (take at b) (drop at (replicate 64 0)) at size, drop_at (take at b) (drop at (replicate 64 0)) at size, many, drop-replicate {X = ℕ} at 64 0, drop-replicate {X = ℕ} (length s) (64 - at) 0, left)
-    (sym (append_assoc (take at b) s (replicate (64 - length (take at b ++ s)) 0)))
+    let left : 64 - at - length s ≡ 64 - length (b ++ s) = omega (arith, length-append b s) in
+    rw (ex, ey, take_at b (drop at (replicate 64 0)) at refl, drop_at b (drop at (replicate 64 0)) at refl, many, drop-replicate {X = ℕ} at 64 0, drop-replicate {X = ℕ} (length s) (64 - at) 0, left)
+    (sym (append_assoc b s (replicate (64 - length (b ++ s)) 0)))
 
 -- the byte p, the bytes s and the mark, put into a block of zeros one after the other
 pub marked_by : (p : ℕ) (s y : List ℕ) → y ≡ s → length s < 55 → set (p ∷ (y ++ drop (1 + length s - 1) (replicate 63 0))) (1 + length s) 0x80 ≡ filled ((p ∷ s) ++ 0x80 ∷ [])

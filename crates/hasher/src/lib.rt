@@ -18,14 +18,15 @@ pub struct Hasher {
     pub block: [u8; 64],
 }
 
-// A block of the first at bytes of b, those of s, and zeros.
+// A block of the bytes kept, those of s, and zeros.
 #[tactic(auto, using(crate::proofs::Filling::filled_by))]
-fn fill(b: [u8; 64], at: usize, s: &[u8]) -> [u8; 64]
-    requires { at + length s.now ≤ 64 }
-    ensures { result ≡ filled (take at b ++ s.now) }
+fn fill(kept: &[u8], s: &[u8]) -> [u8; 64]
+    requires { length kept.now + length s.now ≤ 64 }
+    ensures { result ≡ filled (kept.now ++ s.now) }
 {
     let mut r = [0u8; 64];
-    r[..at].copy_from_slice(&b[..at]);
+    let at = kept.len();
+    r[..at].copy_from_slice(kept);
     r[at..at + s.len()].copy_from_slice(s);
     r
 }
@@ -38,7 +39,7 @@ fn onward(h: [u32; 8], s: &[u8]) -> Hasher
     let whole = s.len() / 64 * 64;
     Hasher {
         words: blocks(h, s),
-        block: fill([0u8; 64], 0, &s[whole..]),
+        block: fill(&[], &s[whole..]),
     }
 }
 
@@ -78,10 +79,10 @@ pub fn absorb(st: Hasher, count: u64, s: &[u8]) -> Hasher
     }
     let room = 64 - n;
     if s.len() < room {
-        let block = fill(block, n, s);
+        let block = fill(&block[..n], s);
         return Hasher { words, block };
     }
-    let full = fill(block, n, &s[..room]);
+    let full = fill(&block[..n], &s[..room]);
     onward(blocks(words, &full), &s[room..])
 }
 
@@ -102,7 +103,7 @@ pub fn finish(st: Hasher, count: u64) -> [u32; 8]
 {
     let Hasher { words, block } = st;
     let n = (count % 64) as usize;
-    let c = fill(block, n, &[128u8]);
+    let c = fill(&block[..n], &[128u8]);
     if n < 56 {
         return blocks(words, &ended(c, count));
     }

@@ -1,11 +1,12 @@
 -- `service::close_day` meets its contract.
 use mathlib.Core.{Path.◌≡◌, Path.◌∙◌}
-use Rattle.std.proofs.Common.{ℕ, ◌≤◌, ◌*◌, rules, arith}
+use Rattle.std.proofs.Common.{◌≤◌, ◌*◌, rules, arith}
 use lib.ListN.{length}
 use Rattle.buffers.proofs.Writes.{wrote_as}
 use Rattle.chains.proofs.Values.{chains_of_day-length, first_within, first_are}
 use Rattle.service.specs.Contract.{day_count, day_bytes}
-use Rattle.service.proofs.DayLaws.{day_asks, count_is, day_fits, day_bytes_lem, quiet_after, restarted_after, quiet_written, closed_of}
+use Rattle.service.proofs.DayLaws.{day_asks, count_is, day_fits, day_bytes_lem, quiet_after, restarted_after}
+use Rattle.service.proofs.DayLaws.{quiet_written, closed_of}
 use Rattle.service.proofs.close_day.Goals as goal
 use Rattle.service.proofs.close_day.Goals.{After-values_of_day-k, then-k-gt0, else-k-gt0}
 
