@@ -39,8 +39,7 @@ pub struct Closed {
     pub blocks: u32,
 }
 
-// The answer, and the record, which after a refusal is of zeros: what a refused open gives is asked for, so that no Result
-// of a record serves.
+// The answer, and the record. After a refusal it is of zeros, which is asked for, so that no Result of a record serves.
 #[derive(Clone, Copy)]
 pub struct Opened {
     pub answer: Result<(), Refusal>,
