@@ -90,9 +90,9 @@ starts_lem m (b ∷ t) = and-true (eqb m b) ∙ same_either_way m b
 -- its number, where it is as laid out
 module _ (m : ℕ) (s : List ℕ) where
   pub field_some : is_number (digits s) ≡ true → list.starts_with eqb (after_digits s) (m ∷ []) ≡ true →
-      Some (number_from 0 (digits s)) ≡ cond (is_field m s) (Some (value_in s)) None
+      Some (number_from 0 (take 5 (digits s))) ≡ cond (is_field m s) (Some (value_in s)) None
   unfolding is_field value_in
-  field_some h k = rw (h, sym (starts_lem m (after_digits s)) ∙ k, take_all 5 (digits s) (number_short (digits s) h))
+  field_some h k = rw (h, sym (starts_lem m (after_digits s)) ∙ k)
 
   pub field_none : {b : Bool} → b ≡ is_number (digits s) → b ≡ false → None ≡ cond (is_field m s) (Some (value_in s)) None
   unfolding is_field
@@ -102,7 +102,12 @@ module _ (m : ℕ) (s : List ℕ) where
   unfolding is_field
   field_unmarked h k = rw (h, sym (starts_lem m (after_digits s)) ∙ k)
 
-pub ruleset field_laws = (number_short, field_some, field_none, field_unmarked)
+-- the number in any case
+pub first_value : (s : List ℕ) → number_from 0 (take 5 (digits s)) ≡ value_in s
+unfolding value_in
+first_value s = refl
+
+pub ruleset field_laws = (field_some, field_none, field_unmarked, first_value)
 
 -- ---- a field that is laid out
 

@@ -3,14 +3,15 @@
 
 pub mod decimal;
 
-ghost use Rattle.std.specs.Prelude.{◌≡◌, ◌≤◌, length, take_while, Some, None, if◌then◌else◌};
+ghost use Rattle.std.specs.Prelude.{◌≡◌, ◌≤◌, length, take, take_while, Some, None, if◌then◌else◌};
 ghost use Rattle.number_text.specs.Numbers.{is_digit, digit_of, digits, is_number, number_from, after_digits};
 ghost use Rattle.number_text.specs.Numbers.{is_field, value_in, after_field};
 
-// A field: its number, where it is as laid out, and what follows its mark.
+// A field: its number, where it is as laid out; the number of its first five digits in any case; what follows its mark.
 #[derive(Drop)]
 pub struct Field<'a> {
     pub value: Option<u32>,
+    pub number: u32,
     pub rest: &'a [u8],
 }
 
@@ -58,20 +59,30 @@ pub fn number(ds: &[u8]) -> u32
     v
 }
 
+// The number of the first five digits.
+fn first_number(ds: &[u8]) -> u32
+    ensures { result ≡ number_from 0 (take 5 ds.now) }
+{
+    number(&ds[..ds.len().min(5)])
+}
+
 // The field at the front, which the mark ends.
 #[tactic(auto, using(crate::proofs::FieldLaws::field_laws), unfolding(crate::specs::Numbers::after_field))]
 pub fn read_field(s: &[u8], mark: u8) -> Field<'_>
     ensures value { result.value ≡ (if is_field mark s.now then Some (value_in s.now) else None) }
+    ensures number { result.number ≡ value_in s.now }
     ensures rest { result.rest.now ≡ after_field s.now }
 {
     let (ds, after) = split_digits(s);
+    let number = first_number(ds);
     let value = if is_number(ds) && after.starts_with(&[mark]) {
-        Some(number(ds))
+        Some(number)
     } else {
         None
     };
     Field {
         value,
+        number,
         rest: after.get(1..).unwrap_or(&[]),
     }
 }
