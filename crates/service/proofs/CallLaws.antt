@@ -212,3 +212,5 @@ both_err (Err x) b e = ap cause_of e
 pub ruleset open_laws = (opened_refused, opened_done)
 
 pub ruleset add_laws = (add_early, bytes_within, add_4, add_passed)
+
+pub ruleset close_laws = (close_8, close_passed)

@@ -102,9 +102,9 @@ quiet_written r part z =
     let e = quiet_values r.scheme r.n (suc r.days) (linked r.black (digest_of r)) (linked_of r) (sym (chains_of_day-length r.scheme r.n (suc r.days)) ∙ z) in
     rw (z, e) (record { count = refl; list = refl })
 
-pub closed_of : (r : Record) {k m : ℕ} {state : Record} {old part : List ℕ} → k ≡ day_count r → state ≡ next_day r → m ≡ closed_blocks r → Wrote 0 (day_bytes r) old (32 * k) part →
-    ClosedDay r old (record { values = k; blocks = m }) state part
-closed_of r ek es em w = record { result_is = rw (ek, em); state_is = es; part_is = rw ek at w }
+pub closed_of : (r : Record) {k v m : ℕ} {state : Record} {old part : List ℕ} → k ≡ day_count r → v ≡ k → state ≡ next_day r → m ≡ closed_blocks r → Wrote 0 (day_bytes r) old (32 * k) part →
+    ClosedDay r old (record { values = v; blocks = m }) state part
+closed_of r ek ev es em w = record { result_is = rw (ev, ek, em); state_is = es; part_is = rw ek at w }
 
 pub after_next : (r : Record) {b : Value} {slots : List Value} → After r b slots → {h : Hasher} → h ≡ begun (0 ∷ []) →
     record { scheme = r.scheme; n = r.n; f = r.f; days = r.days + 1; bytes = 0; hash = h.words; block = h.block; black = b; running = slots; start = r.start; season = r.season } ≡ next_day r

@@ -2,18 +2,21 @@
 use mathlib.Core.Path.{◌≡◌, refl, ap}
 use mathlib.Core.Logic.{◌↔◌, inl, inr}
 use mathlib.Core.Bool.{Bool, true, false}
-use mathlib.Core.List.{[], ◌∷◌, ◌++◌}
+use mathlib.Core.List.{List, [], ◌∷◌, ◌++◌}
 use Prim.Native.Nat.{ℕ, ◌+◌, ◌*◌}
 use native.Mathlib.Omega.{arith}
 use lib.Dec.{leb, ltb}
+use lib.ListN.{length}
 use borrow.Author.Tests.{le-ltb, ltb-true, ltb-false}
 use Rattle.lists.proofs.Laws.{split, true_or_false}
 use Rattle.refusals.specs.Refusals.{book_limit, day_limit, last_season, ◌or_refuse◌, number, first_refusal}
 use Rattle.refusals.specs.declared.Refusal.{Refusal}
 use Rattle.refusals.specs.declared.Refusal.TheVariants as cause
 use Rattle.service.specs.declared.Record.{Record}
-use Rattle.service.specs.Contract.{allowed_record, turns, current, record_tests, add_tested, day_count, close_tested}
-use Rattle.service.specs.Statements.{LastFull, SaysLastFull}
+use Rattle.service.specs.Contract.{allowed_record, turns, current, record_tests, add_tested, grown_blocks, added}
+use Rattle.service.specs.Contract.{day_count, close_tested, closed_blocks, closing}
+use Rattle.service.specs.Statements.{LastFull, SaysLastFull, RefusedHasNoBlocks}
+use Rattle.refusals.proofs.TestLaws.{old_stays}
 use Rattle.service.proofs.RecordLaws.{allowed_is, turns_full, stays_last, current_same, current_days}
 
 module _ (r : Record) where
@@ -61,4 +64,11 @@ unfolding add_tested close_tested
 says_last_full r size = (
   five_told r (leb ((current r).bytes + size) day_limit) cause.LongDay (λ e. omega arith),
   five_told r (leb (32 * day_count (current r)) size) cause.ShortBuffer (λ e. omega arith),
+)
+
+pub refused_has_no_blocks : RefusedHasNoBlocks
+unfolding added closing
+refused_has_no_blocks r lent x = (
+  λ e. old_stays (add_tested r (length lent)) (grown_blocks (current r) lent) 0 e,
+  λ e. old_stays (close_tested r (length lent)) (closed_blocks (current r)) 0 e,
 )

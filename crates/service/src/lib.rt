@@ -83,6 +83,7 @@ pub fn add(state: &mut Record, piece: &[u8]) -> Result<u32, Refusal>
 }
 
 // Tests 6 5 8 (SPEC 11.3).
+#[tactic(auto, using(crate::proofs::CallLaws::close_laws))]
 fn test_close(state: Record, size: usize) -> Result<(), Refusal>
     ensures { result ≡ close_tested state size }
 {

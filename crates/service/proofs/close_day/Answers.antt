@@ -45,7 +45,7 @@ returns c =
     let r = c.args.state.now in
     let many = count_is r c.values_of_day-k.ensures in
     let few = (day_fits r _ many c.requires.0 c.requires.1).0 in
-    closed_of r many c.next.ensures c.of_close.ensures (elim c.if-k-gt0.branch [
+    closed_of r many (search rules) c.next.ensures c.of_close.ensures (elim c.if-k-gt0.branch [
       | then-k-gt0 w ↦
           let whole = first_are w.day_values-values.result (search rules) few in
           rw w.part-is (rw whole (wrote_as (day_bytes r) (day_bytes_lem r c.link-black.ensures _ _ w.day_values-values.ensures) w.write.ensures))

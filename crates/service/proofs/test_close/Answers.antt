@@ -3,7 +3,7 @@ use mathlib.Core.Path.{sym}
 use native.Mathlib.Omega.{arith}
 use Rattle.std.proofs.lemmas.Result.{err_from_is_err_and}
 use Rattle.service.proofs.RecordLaws.{record_passes}
-use Rattle.service.proofs.CallLaws.{close_early, close_8, close_passed}
+use Rattle.service.proofs.CallLaws.{close_early}
 use Rattle.service.proofs.DayLaws.{setup_asks}
 use Rattle.service.proofs.test_close.Goals as goal
 
@@ -17,11 +17,3 @@ values_of_day-k-requires c =
     let p = record_passes c.args.state (sym c.in_ok-test.ensures) in
     let a = setup_asks c.args.state p.0 in
     (a.0, a.1, omega (arith, c.open_day.ensures), omega (arith, c.open_day.ensures, p.1))
-
-pub returns-then-size-k : goal.returns-then-size-k
-returns-then-size-k c =
-    close_8 c.args.state _ (sym c.in_ok-test.ensures) c.open_day.ensures c.values_of_day-k.ensures c.if-size-k.true
-
-pub returns : goal.returns
-returns c =
-    close_passed c.args.state _ (sym c.in_ok-test.ensures) c.open_day.ensures c.values_of_day-k.ensures c.if-size-k.false
