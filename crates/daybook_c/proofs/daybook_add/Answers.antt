@@ -1,5 +1,6 @@
 -- `daybook_c::daybook_add` meets its contract.
-use mathlib.Core.Path.{sym, ◌∙◌}
+use mathlib.Core.Path.{sym, ap, ◌∙◌}
+use Rattle.record_bytes.specs.Bytes.{bytes_of_record}
 use Rattle.daybook_c.proofs.Answers.{add_number, add_done, add_blocks, add_refused, add_kept}
 use Rattle.daybook_c.proofs.daybook_add.Goals as goal
 
@@ -10,7 +11,7 @@ returns-in-Ok c =
     let left = rw c.decode-grown.ensures at c.add.ensures.state_after in
     record {
       value = add_number a.state.now a.piece.now a.blocks.now call;
-      state_after = add_done a.state.now a.piece.now a.blocks.now call (rw left at c.encode.ensures);
+      state_after = add_done a.state.now a.piece.now a.blocks.now call (c.encode.ensures ∙ ap bytes_of_record left);
       blocks_after = add_blocks a.state.now a.piece.now a.blocks.now call;
     }
 

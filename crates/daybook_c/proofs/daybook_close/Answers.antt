@@ -1,5 +1,6 @@
 -- `daybook_c::daybook_close` meets its contract.
-use mathlib.Core.Path.{sym, ◌∙◌}
+use mathlib.Core.Path.{sym, ap, ◌∙◌}
+use Rattle.record_bytes.specs.Bytes.{bytes_of_record}
 use Rattle.daybook_c.proofs.Answers.{close_number, close_part, close_done, close_count, close_blocks, close_refused, close_kept}
 use Rattle.daybook_c.proofs.daybook_close.Goals as goal
 
@@ -10,7 +11,7 @@ returns-in-Ok c =
     let left = rw c.decode-next.ensures at c.close.ensures.state_after in
     record {
       value = close_number a.state.now a.part.now a.values.now a.blocks.now call;
-      state_after = close_done a.state.now a.part.now a.values.now a.blocks.now call (rw left at c.encode.ensures);
+      state_after = close_done a.state.now a.part.now a.values.now a.blocks.now call (c.encode.ensures ∙ ap bytes_of_record left);
       part_after = close_part a.state.now a.part.now a.values.now a.blocks.now (rw c.decode-next.ensures at c.close.ensures.part_after);
       values_after = close_count a.state.now a.part.now a.values.now a.blocks.now call;
       blocks_after = close_blocks a.state.now a.part.now a.values.now a.blocks.now call;
