@@ -2,7 +2,7 @@
 use mathlib.Core.{Path.◌≡◌, Path.refl, Path.sym, Path.ap, Path.ap₂, Path.◌∙◌, Logic.inl, Logic.inr, List.List}
 use mathlib.Core.Bool.{Bool, true, false, not, beq, ◌&&◌, ◌||◌}
 use Prim.Native.Nat.{ℕ, zero, suc, pred, ◌+◌, ◌-◌, ◌*◌, ◌/◌, ◌%◌, ◌^◌, ◌≤◌, ◌<◌}
-use native.Mathlib.{Nat.mod-one, Nat.mul-pos, Nat.zero-add, Nat.suc-add, Nat.pow-succ', Nat.eq_of_mul-eq-mul_left, Decide.dec_le, Decide.dec_lt, Decide.ℕ_discrete, Omega.arith}
+use native.Mathlib.{Numerals.add-one, Nat.mod-one, Nat.mul-pos, Nat.zero-add, Nat.suc-add, Nat.pow-succ', Nat.eq_of_mul-eq-mul_left, Decide.dec_le, Decide.dec_lt, Decide.ℕ_discrete, Omega.arith}
 use lib.{Dec.leb, Pow.pow_pos}
 use Rattle.std.specs.Int.{bit_at, trailing_zeros, w32}
 use Rattle.std.proofs.lemmas.{Nat.mod-pow-add, Nat.Bits.bit_at-trailing_zeros}
@@ -184,6 +184,9 @@ module _ {n g : ℕ} {t : List ℕ} (h : Has 3 n g t) where
       let f = chains_few 3 n g refl h.n_ok h.most in
       (omega arith, omega arith)
 
+  pub day_days : (l : ℕ) → 1 ≤ l → l ≤ top → 2 ^ l ≤ g
+  day_days l o a = divisor_le (2 ^ l) g h.some (closes l a)
+
   module _ (s : ℕ) where
     -- what a turn finds
     pub day_turn : (l : ℕ) {w : ℕ} {a b : Bool} → w ≡ 2 ^ l → a ≡ passes 3 n t (tree l g) → b ≡ leb (w + s) g → beq a b ≡ since_rule n t g s l
@@ -205,3 +208,7 @@ module _ {n g : ℕ} {t : List ℕ} (h : Has 3 n g t) where
       holds = λ e j v. elim (dec_lt j top) [ yes b ↦ f j (omega arith) | no b ↦ absurd (closes_not j (omega arith) v) ];
       fails = λ e. absurd (true_or_false refl e);
     }
+
+-- the days of the next level
+pub days_twice : (l : ℕ) {w : ℕ} → w ≡ 2 ^ l → 2 * w ≡ 2 ^ (l + 1)
+days_twice l e = let p = pow-succ' 2 l in rw (add-one l) (omega (arith, e, p))
